@@ -1,0 +1,21 @@
+use super::*;
+use std::test::Fail;
+
+#[test]
+fn items_and_bytes_are_kept(rt: HostRuntime) -> Result<(), Fail> {
+    let alloc = rt.alloc();
+    let text = Text::new(alloc, "a text")?;
+    let copy = text.clone()?;
+    assert_eq!(rt; copy.as_str(), "a text");
+    let mut numbers: Sequence<u32> = Sequence::new(alloc);
+    numbers.push(7)?;
+    numbers.insert(0, 5)?;
+    assert_eq!(rt; numbers.as_slice(), [5, 7].as_slice());
+    assert_eq!(rt; numbers.get(1).copied(), Some(7));
+    assert_eq!(rt; numbers.pop(), Some(7));
+    let back = Sequence::from_vec(numbers.into_vec());
+    assert_eq!(rt; back.len(), 1);
+    let string = Text::from_string(text.into_string());
+    assert_eq!(rt; string.as_str(), "a text");
+    Ok(())
+}
