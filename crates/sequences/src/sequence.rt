@@ -1,6 +1,7 @@
 // A sequence, seen as the list of its items.
 ghost use Rattle.std.specs.Prelude.{◌≡◌, ◌≤◌, ◌↔◌, [], ◌∷◌, ◌++◌, length, IsNone, IsTrue, IfSome, IfNone, OnOk, OnErr, slice_get, option_map};
-ghost use Rattle.std.specs.List.{insert};
+ghost use Rattle.std.specs.List.{insert, AllZip};
+ghost use Rattle.std.specs.Cmp.Lexicographic.{pointwise, lists_per};
 
 use std::alloc::{AllocError, Global};
 use std::marker::Model;
@@ -102,5 +103,27 @@ impl<T: Drop> Sequence<T> {
         ensures none { IfNone result (self.new ≡ self.old) }
     {
         self.items.pop()
+    }
+}
+
+/// The clones of the items, in their order.
+impl<T: Clone + Drop> Clone for Sequence<T> {
+    ghost is_clone = { λ s t. AllZip T.is_clone s t };
+
+    fn clone(&self) -> Result<Sequence<T>, AllocError> {
+        Ok(Sequence {
+            items: self.items.clone()?,
+        })
+    }
+}
+
+/// Item by item.
+impl<T: PartialEq> PartialEq for Sequence<T> {
+    ghost eq = { λ s t. pointwise T.eq s t };
+
+    ghost laws = { lists_per T.laws };
+
+    fn eq(&self, other: &Sequence<T>) -> bool {
+        self.items == other.items
     }
 }

@@ -13,6 +13,9 @@ fn items_and_bytes_are_kept(rt: HostRuntime) -> Result<(), Fail> {
     assert_eq!(rt; numbers.as_slice(), [5, 7].as_slice());
     assert_eq!(rt; numbers.get(1).copied(), Some(7));
     assert_eq!(rt; numbers.pop(), Some(7));
+    let same = numbers.clone()?;
+    assert!(rt; same == numbers);
+    assert!(rt; copy == text);
     let back = Sequence::from_vec(numbers.into_vec());
     assert_eq!(rt; back.len(), 1);
     let string = Text::from_string(text.into_string());

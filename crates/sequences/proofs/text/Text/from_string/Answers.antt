@@ -1,0 +1,6 @@
+-- A string is in UTF-8.
+use Rattle.std.proofs.lemmas.Str.{IsUtf8-string_bytes}
+use Rattle.sequences.proofs.text.Text.from_string.Goals as goal
+
+pub invariant_of-result : goal.invariant_of-result
+invariant_of-result c = IsUtf8-string_bytes c.args.text
