@@ -1,0 +1,6 @@
+pub mod Runs
+pub mod Versions
+pub mod Cutting
+pub mod Counting
+pub mod Seen
+pub mod Laws
