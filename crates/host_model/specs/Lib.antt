@@ -1,0 +1,11 @@
+pub mod Causes
+pub mod Hosts
+pub mod Images
+pub mod MemShelf
+pub mod Memory
+pub mod Moments
+pub mod Shelf
+pub mod Sides
+pub mod Tape
+pub mod TapeLaws
+pub mod Taping

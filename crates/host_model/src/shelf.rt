@@ -1,0 +1,121 @@
+// A shelf of files by name.
+ghost use Rattle.std.specs.Prelude.{◌≡◌, ◌≤◌, ◌<◌, ◌+◌, ◌-◌, ◌^◌, ◌↔◌, min, List, ℕ, Option, None, Contains, IfOk, OnOk, OnErr};
+ghost use Rattle.host_model.specs.Causes.{Rose};
+
+use std::alloc::{AllocError, Global};
+use std::collections::BTreeMap;
+
+/// What a shelf gives for a name.
+#[derive(Drop)]
+pub enum ShelfAnswer {
+    /// The file's bytes, at most 4,194,304.
+    Bytes(Vec<u8>),
+    /// There is no file of that name.
+    Absent,
+    /// The length of a file that is longer than 4,194,304 bytes.
+    TooLarge(u64),
+    /// The shelf has failed.
+    Failed,
+    OutOfMemory,
+}
+
+/// A shelf of files, which no call changes. It may keep to itself what they hold: then it tells nothing of them. Its
+/// count of faults starts at 0, never falls and stays below 2^64.
+pub trait Shelf {
+    ghost use Rattle.host_model.specs.Shelf.{IsShelved};
+
+    /// Holds of a shelf that tells what its files hold.
+    ghost tells: { Type 0 };
+
+    /// The bytes of the file of a name, where there is one.
+    ghost file: { Self → List ℕ → Option (List ℕ) };
+
+    /// How often it has failed.
+    ghost faults: { Self → ℕ };
+
+    /// A copy of the file of this name.
+    fn take(&mut self, alloc: Global, name: &str) -> ShelfAnswer
+        ensures answer { tells → IsShelved (file self.old name.now) result }
+        ensures same { tells → (other : List ℕ) → file self.new other ≡ file self.old other }
+        ensures later { faults self.old ≤ faults self.new }
+        ensures fits { faults self.new < 2 ^ 64 }
+        ensures failed { result ≡ ShelfAnswer.Failed → Rose (faults self.old) (faults self.new) };
+}
+
+/// The most bytes of a file that is given.
+const MOST_BYTES: usize = 4_194_304;
+
+/// A shelf in memory.
+#[derive(Drop)]
+pub struct MemShelf {
+    files: BTreeMap<String, Vec<u8>>,
+    failing: Vec<u64>,
+    number: u64,
+    faults: u64,
+}
+
+impl MemShelf {
+    ghost use Rattle.host_model.specs.MemShelf.{file_on, with_file};
+
+    /// A shelf without files. The calls with these numbers fail.
+    pub fn new(alloc: Global, failing: &[u64]) -> Result<MemShelf, AllocError>
+        ensures empty { IfOk result (λ shelf. (name : List ℕ) → file_on shelf name ≡ None) }
+        ensures failing { IfOk result (λ shelf. shelf.failing.items ≡ failing.now) }
+        ensures counts { IfOk result (λ shelf. (shelf.number ≡ 0) × (shelf.faults ≡ 0)) }
+    {
+        Ok(MemShelf {
+            files: BTreeMap::new(alloc),
+            failing: failing.to_vec(alloc)?,
+            number: 0,
+            faults: 0,
+        })
+    }
+
+    /// Adds a file, or replaces the one of that name.
+    pub fn add(&mut self, alloc: Global, name: &str, bytes: &[u8]) -> Result<(), AllocError>
+        ensures ok { OnOk result ((other : List ℕ) → file_on self.new other ≡ with_file (file_on self.old) name.now bytes.now other) }
+        ensures err { OnErr result ((other : List ℕ) → file_on self.new other ≡ file_on self.old other) }
+        ensures same { (self.new.failing ≡ self.old.failing) × (self.new.number ≡ self.old.number) × (self.new.faults ≡ self.old.faults) }
+    {
+        let key = String::from_str(alloc, name)?;
+        let copy = bytes.to_vec(alloc)?;
+        self.files.insert(key, copy)?;
+        Ok(())
+    }
+}
+
+impl Shelf for MemShelf {
+    ghost use Rattle.host_model.specs.MemShelf.{file_on};
+    ghost use Rattle.host_model.specs.Shelf.{IsShelved};
+
+    ghost tells = { Unit {0} };
+
+    ghost file = { file_on };
+
+    ghost faults = { λ s. s.faults };
+
+    fn take(&mut self, alloc: Global, name: &str) -> ShelfAnswer
+        ensures answer { IsShelved (file_on self.old name.now) result }
+        ensures fails { (result ≡ ShelfAnswer.Failed) ↔ Contains self.old.failing.items (min (self.old.number + 1) (2 ^ 64 - 1)) }
+        ensures files { self.new.files ≡ self.old.files }
+        ensures later { self.old.faults ≤ self.new.faults }
+        ensures rose { result ≡ ShelfAnswer.Failed → Rose self.old.faults self.new.faults }
+    {
+        self.number = self.number.saturating_add(1);
+        let number = self.number;
+        if self.failing.iter().any(|listed| *listed == number) {
+            self.faults = self.faults.saturating_add(1);
+            return ShelfAnswer::Failed;
+        }
+        let Some(bytes) = self.files.get(name) else {
+            return ShelfAnswer::Absent;
+        };
+        if bytes.len() > MOST_BYTES {
+            return ShelfAnswer::TooLarge(bytes.len() as u64);
+        }
+        match bytes.to_vec(alloc) {
+            Ok(copy) => ShelfAnswer::Bytes(copy),
+            Err(_) => ShelfAnswer::OutOfMemory,
+        }
+    }
+}
