@@ -1,11 +1,13 @@
+pub mod CallLog
+pub mod CallLogFields
+pub mod CallLogLaws
 pub mod Causes
+pub mod FailingCalls
 pub mod Hosts
 pub mod Images
 pub mod MemShelf
+pub mod MemSource
 pub mod Memory
 pub mod Moments
 pub mod Shelf
 pub mod Sides
-pub mod Tape
-pub mod TapeLaws
-pub mod Taping

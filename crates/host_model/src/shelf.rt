@@ -1,7 +1,8 @@
 // A shelf of files by name.
-ghost use Rattle.std.specs.Prelude.{◌≡◌, ◌≤◌, ◌<◌, ◌+◌, ◌-◌, ◌^◌, ◌↔◌, min, List, ℕ, Option, None, Contains, IfOk, OnOk, OnErr};
+ghost use Rattle.std.specs.Prelude.{◌≡◌, ◌≤◌, ◌<◌, ◌+◌, ◌-◌, ◌^◌, ◌↔◌, min, List, ℕ, Option, None, IfOk, OnOk, OnErr};
 ghost use Rattle.host_model.specs.Causes.{Rose};
 
+use crate::failing::FailingCalls;
 use std::alloc::{AllocError, Global};
 use std::collections::BTreeMap;
 
@@ -45,37 +46,38 @@ pub trait Shelf {
 /// The most bytes of a file that is given.
 const MOST_BYTES: usize = 4_194_304;
 
-/// A shelf in memory.
+/// A shelf in memory, which tells what it holds.
 #[derive(Drop)]
 pub struct MemShelf {
     files: BTreeMap<String, Vec<u8>>,
-    failing: Vec<u64>,
-    number: u64,
+    calls: FailingCalls,
     faults: u64,
+    ghost fits: { faults < 2 ^ 64 },
 }
 
 impl MemShelf {
-    ghost use Rattle.host_model.specs.MemShelf.{file_on, with_file};
+    ghost use Rattle.host_model.specs.FailingCalls.{none_made};
+    ghost use Rattle.host_model.specs.MemShelf.{file_on, calls_of, with_file};
 
-    /// A shelf without files. The calls with these numbers fail.
+    /// A shelf without files. The calls of `take` with these numbers fail, from 1 on. The one error is want of memory.
     pub fn new(alloc: Global, failing: &[u64]) -> Result<MemShelf, AllocError>
         ensures empty { IfOk result (λ shelf. (name : List ℕ) → file_on shelf name ≡ None) }
-        ensures failing { IfOk result (λ shelf. shelf.failing.items ≡ failing.now) }
-        ensures counts { IfOk result (λ shelf. (shelf.number ≡ 0) × (shelf.faults ≡ 0)) }
+        ensures calls { IfOk result (λ shelf. calls_of shelf ≡ none_made failing.now) }
+        ensures faults { IfOk result (λ shelf. shelf.faults ≡ 0) }
     {
         Ok(MemShelf {
             files: BTreeMap::new(alloc),
-            failing: failing.to_vec(alloc)?,
-            number: 0,
+            calls: FailingCalls::new(alloc, failing)?,
             faults: 0,
         })
     }
 
-    /// Adds a file, or replaces the one of that name.
+    /// Adds a file, or replaces the one of that name. All others stay. The one error is want of memory, and then
+    /// nothing is changed.
     pub fn add(&mut self, alloc: Global, name: &str, bytes: &[u8]) -> Result<(), AllocError>
         ensures ok { OnOk result ((other : List ℕ) → file_on self.new other ≡ with_file (file_on self.old) name.now bytes.now other) }
         ensures err { OnErr result ((other : List ℕ) → file_on self.new other ≡ file_on self.old other) }
-        ensures same { (self.new.failing ≡ self.old.failing) × (self.new.number ≡ self.old.number) × (self.new.faults ≡ self.old.faults) }
+        ensures same { (calls_of self.new ≡ calls_of self.old) × (self.new.faults ≡ self.old.faults) }
     {
         let key = String::from_str(alloc, name)?;
         let copy = bytes.to_vec(alloc)?;
@@ -85,7 +87,8 @@ impl MemShelf {
 }
 
 impl Shelf for MemShelf {
-    ghost use Rattle.host_model.specs.MemShelf.{file_on};
+    ghost use Rattle.host_model.specs.FailingCalls.{IsNextFailing, counted};
+    ghost use Rattle.host_model.specs.MemShelf.{file_on, calls_of};
     ghost use Rattle.host_model.specs.Shelf.{IsShelved};
 
     ghost tells = { Unit {0} };
@@ -96,14 +99,15 @@ impl Shelf for MemShelf {
 
     fn take(&mut self, alloc: Global, name: &str) -> ShelfAnswer
         ensures answer { IsShelved (file_on self.old name.now) result }
-        ensures fails { (result ≡ ShelfAnswer.Failed) ↔ Contains self.old.failing.items (min (self.old.number + 1) (2 ^ 64 - 1)) }
+        ensures fails { (result ≡ ShelfAnswer.Failed) ↔ IsNextFailing (calls_of self.old) }
         ensures files { self.new.files ≡ self.old.files }
+        ensures calls { calls_of self.new ≡ counted (calls_of self.old) }
         ensures later { self.old.faults ≤ self.new.faults }
-        ensures rose { result ≡ ShelfAnswer.Failed → Rose self.old.faults self.new.faults }
+        ensures fits { self.new.faults < 2 ^ 64 }
+        ensures rose { result ≡ ShelfAnswer.Failed → self.new.faults ≡ min (self.old.faults + 1) (2 ^ 64 - 1) }
+        ensures no_fault { ¬ (result ≡ ShelfAnswer.Failed) → self.new.faults ≡ self.old.faults }
     {
-        self.number = self.number.saturating_add(1);
-        let number = self.number;
-        if self.failing.iter().any(|listed| *listed == number) {
+        if self.calls.next_fails() {
             self.faults = self.faults.saturating_add(1);
             return ShelfAnswer::Failed;
         }

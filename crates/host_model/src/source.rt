@@ -1,8 +1,10 @@
 // A source of bytes, and one in memory.
-ghost use Rattle.std.specs.Prelude.{◌≡◌, ◌≤◌, ◌<◌, ◌+◌, ◌-◌, ◌^◌, ◌++◌, ◌↔◌, min, [], List, ℕ, length, take, drop, Contains, IfOk, OnOk, OnErr, IsErr, IsTrue};
+ghost use Rattle.std.specs.Prelude.{◌≡◌, ◌≤◌, ◌<◌, ◌+◌, ◌^◌, ◌++◌, ◌↔◌, min, [], List, ℕ, length, take, drop, IfOk, OnOk, OnErr, IsErr};
 ghost use Rattle.host_model.specs.Causes.{HasCause};
 
+use crate::failing::FailingCalls;
 use std::alloc::{AllocError, Global};
+use std::marker::Model;
 
 /// A source has failed.
 #[derive(Clone, Copy, Debug, PartialEq, Eq)]
@@ -33,21 +35,32 @@ pub trait Source {
         ensures fits { faults self.new < 2 ^ 64 };
 }
 
-/// A source in memory.
+/// A source in memory, which tells what it holds.
 #[derive(Drop)]
 pub struct MemSource {
     bytes: Vec<u8>,
     at: usize,
     piece: usize,
-    failing: Vec<u64>,
-    number: u64,
+    calls: FailingCalls,
     faults: u64,
-    ghost within: { at ≤ length bytes.items },
-    ghost gives: { 0 < piece },
+}
+
+impl Model for MemSource {
+    ghost use Rattle.std.specs.Prelude.{◌≤◌, ◌<◌, ◌^◌, ℕ, length, drop};
+    ghost use Rattle.host_model.specs.MemSource.{MemSource};
+
+    ghost Value = { MemSource };
+
+    ghost view = { λ s. record { left = drop s.at s.bytes.items; piece = s.piece; calls = s.calls; faults = s.faults } };
+
+    ghost invariant = { λ s. (s.at ≤ length s.bytes.items) × (0 < s.piece) × (s.faults < 2 ^ 64) };
 }
 
 impl MemSource {
-    /// Gives at most so many bytes at once. The reads with these numbers fail.
+    ghost use Rattle.host_model.specs.FailingCalls.{none_made};
+
+    /// A source of these bytes, which gives at most `piece` of them at once. The reads with these numbers fail, from
+    /// 1 on. The one error is want of memory.
     pub fn new(
         alloc: Global,
         bytes: &[u8],
@@ -55,41 +68,39 @@ impl MemSource {
         failing: &[u64],
     ) -> Result<MemSource, AllocError>
         requires { 0 < piece }
-        ensures left { IfOk result (λ source. drop source.at source.bytes.items ≡ bytes.now) }
-        ensures piece { IfOk result (λ source. source.piece ≡ piece) }
-        ensures failing { IfOk result (λ source. source.failing.items ≡ failing.now) }
-        ensures counts { IfOk result (λ source. (source.number ≡ 0) × (source.faults ≡ 0)) }
+        ensures { IfOk result (λ source. source ≡ record { left = bytes.now; piece = piece; calls = none_made failing.now; faults = 0 }) }
     {
         Ok(MemSource {
             bytes: bytes.to_vec(alloc)?,
             at: 0,
             piece,
-            failing: failing.to_vec(alloc)?,
-            number: 0,
+            calls: FailingCalls::new(alloc, failing)?,
             faults: 0,
         })
     }
 }
 
 impl Source for MemSource {
+    ghost use Rattle.host_model.specs.FailingCalls.{IsNextFailing};
+    ghost use Rattle.host_model.specs.MemSource.{with_read, with_fault};
+
     ghost tells = { Unit {0} };
 
-    ghost left = { λ s. drop s.at s.bytes.items };
+    ghost left = { λ s. s.left };
 
     ghost faults = { λ s. s.faults };
 
     fn read(&mut self, into: &mut [u8]) -> Result<usize, SourceFailed>
-        ensures fails { IsErr result ↔ Contains self.old.failing.items (min (self.old.number + 1) (2 ^ 64 - 1)) }
-        ensures count { IfOk result (λ n. n ≡ min (length into.old) (min self.old.piece (length self.old.bytes.items - self.old.at))) }
-        ensures bytes { IfOk result (λ n. into.new ≡ take n (drop self.old.at self.old.bytes.items) ++ drop n into.old) }
-        ensures rest { IfOk result (λ n. self.new.at ≡ self.old.at + n) }
-        ensures place { OnErr result (self.new.at ≡ self.old.at) }
-        ensures same { self.new.bytes.items ≡ self.old.bytes.items }
-        ensures cause { HasCause self.old.faults self.new.faults result }
+        ensures fails { IsErr result ↔ IsNextFailing self.old.calls }
+        ensures count { IfOk result (λ n. n ≡ min (length into.old) (min self.old.piece (length self.old.left))) }
+        ensures bytes { IfOk result (λ n. into.new ≡ take n self.old.left ++ drop n into.old) }
+        ensures end { IfOk result (λ n. 0 < length into.old → (n ≡ 0) ↔ (self.old.left ≡ [])) }
+        ensures ok { IfOk result (λ n. self.new ≡ with_read self.old n) }
+        ensures err { OnErr result ((self.new ≡ with_fault self.old) × (into.new ≡ into.old)) }
+        ensures fits { self.new.faults < 2 ^ 64 }
+        ensures later { self.old.faults ≤ self.new.faults }
     {
-        self.number = self.number.saturating_add(1);
-        let number = self.number;
-        if self.failing.iter().any(|listed| *listed == number) {
+        if self.calls.next_fails() {
             self.faults = self.faults.saturating_add(1);
             return Err(SourceFailed);
         }
