@@ -3,7 +3,7 @@ use Rattle.std.proofs.Common.{◌≡◌, inl, inr, ⊎_elim, ℕ, List, ◌∙�
 use Rattle.host_model.specs.declared.side.Side.{Side}
 use Rattle.host_model.specs.declared.side.Side.TheVariants.{Left, Right}
 use Rattle.host_model.specs.Sides.{other, on}
-use Rattle.host_model.specs.Moments.{IsNow, Elapses, KeepsOther, Meets, OnSide}
+use Rattle.host_model.specs.Moments.{IsNow, Elapses, KeepsOther, IsStill, Meets, OnSide}
 
 -- what a side and the other one have, both have
 pub both : (images : Side → List ℕ → Type 0) (said : List ℕ) (side : Side) (l r u : List ℕ) → images side (on side l r) → images (other side) (on (other side) l r) → u ≡ said → IsNow images said l r u
@@ -57,6 +57,10 @@ module _ {H : Type 0} (reads : H → Side → List ℕ) (images : H → Side →
     images_same = λ c. (λ left. (first.images_same c).0 ((second.images_same c).0 left), λ left. (second.images_same c).1 ((first.images_same c).1 left));
     text = second.text ∙ first.text;
   }
+
+  -- a call that changes nothing keeps each side
+  pub kept_still : (written : H → ℕ) (side : Side) (old new : H) → IsStill reads images said written old new → KeepsOther reads images said side old new
+  kept_still written side old new still = record { reads_same = still.reads_same side; images_same = still.images_same side; text = still.text }
 
   -- what is met during a call on one side, where the other one is as at the start of the run
   pub met_on_side : (side : Side) (start new : H) (P : List ℕ → Type 0) → ((c : List ℕ) → images new side c → P c) → KeepsOther reads images said (other side) start new
