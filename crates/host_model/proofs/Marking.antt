@@ -1,5 +1,5 @@
 -- Sides on which each byte that was written since the last sync is 255.
-use Rattle.std.proofs.Common.{◌≡◌, ◌⊎◌, inl, inr, ℕ, ◌+◌, ◌-◌, ◌≤◌, ◌<◌, max, List, [], ◌∷◌, ◌++◌, length, take, drop, replicate, get_or, refl, sym, ◌∙◌, ap, subst, arith, append_assoc, length-append}
+use Rattle.std.proofs.Common.{◌≡◌, ◌⊎◌, inl, inr, ℕ, ◌+◌, ◌-◌, ◌≤◌, ◌<◌, max, List, [], ◌∷◌, ◌++◌, length, take, drop, replicate, get_or, refl, sym, ◌∙◌, ap, subst, arith, length-append}
 use Rattle.std.proofs.lemmas.Bool.{cases_lt}
 use Rattle.std.proofs.lemmas.List.{ext_get_or, get_or_append_left, get_or-append_right, get_or-take, get_or-drop, get_or-replicate, get_or_past, length-replicate}
 use Rattle.host_model.specs.declared.side.Side.{Side}
@@ -7,7 +7,7 @@ use Rattle.host_model.specs.declared.memory.Choice.{Choice}
 use Rattle.host_model.specs.declared.memory.Choice.TheVariants.{Old, New, Torn}
 use Rattle.host_model.specs.Images.{overwritten}
 use Rattle.host_model.specs.Images as image
-use Rattle.host_model.specs.CallLog.{CallLog, SideState, all_synced, wrote, side_of, state_of, IsImage, images_of, marked}
+use Rattle.host_model.specs.CallLog.{CallLog, SideState, wrote, side_of, state_of, IsImage, images_of, marked}
 use Rattle.host_model.specs.CallLogLaws.{padded, length-overwritten, torn_overwritten, each_side, read_is_image_of}
 use Rattle.host_model.specs.Memory.{image_of}
 use Rattle.host_model.proofs.Tearing.{torn_none}
@@ -22,7 +22,7 @@ IsOut at n i = (i < at) ⊎ (at + n ≤ i)
 in_or_out : (at n i : ℕ) → IsIn at n i ⊎ IsOut at n i
 in_or_out at n i = elim (cases_lt i at) [
   | inl before ↦ inr (inl before)
-  | inr from ↦ elim (cases_lt i (at + n)) [ | inl within ↦ inl (from, within) | inr behind ↦ inr (inr behind) ]
+  | inr from ↦ elim (cases_lt i (at + n)) [ inl within ↦ inl (from, within) | inr behind ↦ inr (inr behind) ]
 ]
 
 -- each byte after a write, 0 being that of a place past the end

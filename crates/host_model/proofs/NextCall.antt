@@ -1,12 +1,16 @@
 -- One call more in a log.
-use Rattle.std.proofs.Common.{◌≡◌, ℕ, ◌+◌, ◌/◌, ◌≤◌, ◌<◌, List, [], ◌∷◌, ◌++◌, length, take, drop, refl, sym, ◌∙◌, ap, subst, arith, length-append, length-drop}
+use Rattle.std.proofs.Common.{◌≡◌, ℕ, ◌+◌, ◌/◌, ◌≤◌, ◌<◌, List, [], ◌∷◌, ◌++◌, length, take, drop, replicate, refl, sym, ◌∙◌, ap, subst, arith, length-append, length-drop}
 use Rattle.std.proofs.lemmas.List.{take_all, take-append-le, drop-append-le, length-take-le, nil_from_length}
+use Rattle.std.specs.Prelude.{vec_capacity}
+use Rattle.host_model.specs.Images.{overwritten}
 use Rattle.host_model.specs.declared.side.Side.{Side}
 use Rattle.host_model.specs.declared.call_log.Call.{Call}
 use Rattle.host_model.specs.declared.call_log.Call.TheVariants.{Write, Sync, Say}
 use Rattle.host_model.specs.declared.call_log.CallLog.TheInside.{Inside}
-use Rattle.host_model.specs.CallLog.{PastCall, Wrote, Synced, Said, CallLog, HostState, after, state_after, all_synced, start, state_of, bytes_logged, bytes_written}
-use Rattle.host_model.specs.CallLogFields.{decoded, bytes_taken, as_log, Holds, HasRoom, IsSound}
+use Rattle.host_model.specs.CallLog.{PastCall, Wrote, Synced, Said, CallLog, SideState, HostState, wrote, after, state_after, all_synced, start, state_of, bytes_logged, bytes_written}
+use Rattle.host_model.specs.CallLogFields.{decoded, bytes_taken, as_log, HoldsSide, Holds, HasRoom, IsSound}
+use Rattle.host_model.specs.SideBytes.{SideBytes, with_write, with_sync}
+use Rattle.host_model.proofs.Marking.{marked_next}
 
 -- calls that come with their bytes
 pub decoded-append : (calls later : List Call) (bytes more : List ℕ) → bytes_taken calls ≡ length bytes → decoded (calls ++ later) (bytes ++ more) ≡ decoded calls bytes ++ decoded later more
@@ -72,7 +76,7 @@ log_push left right room calls calls' bytes bytes' more call made now view_is al
 
 -- the fields after it
 pub sound_next : (t t' : Inside) (more : List ℕ) (call : Call) (made : PastCall) → IsSound t
-    → t'.left.first.items ≡ t.left.first.items → t'.right.first.items ≡ t.right.first.items
+    → t'.left.first ≡ t.left.first → t'.right.first ≡ t.right.first
     → t'.calls.items ≡ t.calls.items ++ call ∷ [] → t'.bytes.items ≡ t.bytes.items ++ more → decoded (call ∷ []) more ≡ made ∷ [] → bytes_taken (call ∷ []) ≡ length more
     → Holds (after (state_of (as_log t)) made) t' → HasRoom t' → IsSound t'
 sound_next t t' more call made sound left right calls_are bytes_are one size holds room =
@@ -80,7 +84,7 @@ sound_next t t' more call made sound left right calls_are bytes_are one size hol
     ap (λ (l : List Call). decoded l t'.bytes.items) calls_are ∙ ap (λ (l : List ℕ). decoded (t.calls.items ++ call ∷ []) l) bytes_are
     ∙ decoded-append t.calls.items (call ∷ []) t.bytes.items more sound.taken ∙ ap (λ (l : List PastCall). decoded t.calls.items t.bytes.items ++ l) one in
     let same_start : start (as_log t') ≡ start (as_log t) =
-    ap (λ (l : List ℕ). record { left = all_synced l; right = all_synced t'.right.first.items; text = [] }) left ∙ ap (λ (l : List ℕ). record { left = all_synced t.left.first.items; right = all_synced l; text = [] }) right in
+    ap (λ (l : List ℕ). record { left = all_synced l; right = all_synced t'.right.first; text = [] }) left ∙ ap (λ (l : List ℕ). record { left = all_synced t.left.first; right = all_synced l; text = [] }) right in
     let world : state_of (as_log t') ≡ after (state_of (as_log t)) made =
     ap (λ (host : HostState). state_after host (as_log t').past) same_start ∙ ap (λ (l : List PastCall). state_after (start (as_log t)) l) past ∙ state_after-push (start (as_log t)) (as_log t).past made in
     record {
@@ -89,7 +93,40 @@ sound_next t t' more call made sound left right calls_are bytes_are one size hol
       room = room;
     }
 
--- room on the log is room in the fields
+-- the buffers of a side after a write, and after a sync
+pub side_wrote : (b b' : SideBytes) (state : SideState) (room at : ℕ) (bytes : List ℕ) → HoldsSide b state room → b' ≡ with_write b at bytes → HoldsSide b' (wrote state at bytes) room
+side_wrote b b' state room at bytes holds is = subst (λ (v : SideBytes). HoldsSide v (wrote state at bytes) room) (sym is) (record {
+  synced = holds.synced;
+  read = ap (λ (l : List ℕ). overwritten l at bytes) holds.read;
+  torn = ap (λ (l : List ℕ). overwritten l at (replicate (length bytes) 255)) holds.torn ∙ marked_next state at bytes;
+  same_room = holds.same_room;
+})
+
+pub side_synced : (b b' : SideBytes) (state : SideState) (room : ℕ) → HoldsSide b state room → b' ≡ with_sync b → HoldsSide b' (all_synced state.read) room
+side_synced b b' state room holds is = subst (λ (v : SideBytes). HoldsSide v (all_synced state.read) room) (sym is) (record {
+  synced = holds.read;
+  read = holds.read;
+  torn = holds.read;
+  same_room = holds.same_room;
+})
+
+-- the room after one call more
+pub room_next : (t t' : Inside) (call : Call) (more : List ℕ) → HasRoom t → t'.room ≡ t.room → length t.calls.items < t.room / 32 + 64 → length t.bytes.items + length more ≤ t.room
+    → t'.calls.items ≡ t.calls.items ++ call ∷ [] → t'.bytes.items ≡ t.bytes.items ++ more → length t'.said.items ≤ length t.said.items + length more
+    → vec_capacity t.said ≤ vec_capacity t'.said → vec_capacity t.bytes ≤ vec_capacity t'.bytes → vec_capacity t.calls ≤ vec_capacity t'.calls → HasRoom t'
+room_next t t' call more room same call_room byte_room calls_are bytes_are said_within said bytes calls =
+    let count = length-append t.calls.items (call ∷ []) in
+    let size = length-append t.bytes.items more in
+    record {
+      bytes_within = omega (arith, same, byte_room, ap length bytes_are, size);
+      said_within = omega (arith, room.said_within, said_within, ap length bytes_are, size);
+      calls_within = omega (arith, same, call_room, ap length calls_are, count);
+      said_room = omega (arith, same, room.said_room, said);
+      bytes_room = omega (arith, same, room.bytes_room, bytes);
+      calls_room = omega (arith, same, room.calls_room, calls);
+    }
+
+-- room in the log is room in the fields
 pub room_for_call : (t : Inside) (now : CallLog) → as_log t ≡ now → length now.past < now.room / 32 + 64 → length t.calls.items < t.room / 32 + 64
 room_for_call t now view_is room =
     let here = subst (λ (v : CallLog). length v.past < v.room / 32 + 64) (sym view_is) room in

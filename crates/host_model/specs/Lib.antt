@@ -10,4 +10,5 @@ pub mod MemSource
 pub mod Memory
 pub mod Moments
 pub mod Shelf
+pub mod SideBytes
 pub mod Sides

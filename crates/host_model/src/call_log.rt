@@ -1,11 +1,11 @@
 // What a host in memory holds: both sides, the text said, and a log of the calls that changed something, in room
 // that is reserved.
-ghost use Rattle.std.specs.Prelude.{◌≡◌, ◌<◌, ◌≤◌, ◌+◌, ◌/◌, ◌-◌, ◌++◌, ◌↔◌, [], ◌∷◌, length, take, drop, replicate, IfOk, IsTrue, vec_capacity};
-ghost use Rattle.host_model.specs.Images.{overwritten};
+ghost use Rattle.std.specs.Prelude.{◌≡◌, ◌<◌, ◌≤◌, ◌+◌, ◌/◌, ◌-◌, ◌++◌, ◌↔◌, [], ◌∷◌, length, IfOk, IsTrue, vec_capacity};
 ghost use Rattle.host_model.specs.CallLog.{Wrote, Synced, Said, state_of, side_of, marked, bytes_logged};
 
-use crate::reserved::{extend, mark, overwrite, replace};
 use crate::Side;
+use crate::reserved::extend;
+use crate::side_buffers::SideBuffers;
 use std::alloc::{AllocError, Global};
 use std::marker::Model;
 
@@ -15,19 +15,6 @@ pub enum Call {
     Write { side: Side, at: usize, len: usize },
     Sync { side: Side },
     Say { len: usize },
-}
-
-/// A side.
-#[derive(Drop)]
-pub struct SideBuffers {
-    /// What it held at first.
-    first: Vec<u8>,
-    /// What was synced last.
-    synced: Vec<u8>,
-    /// What reads give.
-    read: Vec<u8>,
-    /// What reads give, with 255 for each byte that was written since the last sync.
-    torn: Vec<u8>,
 }
 
 /// Everything that a host in memory holds.
@@ -64,62 +51,6 @@ fn push_call(calls: &mut Vec<Call>, call: Call)
     };
 }
 
-impl SideBuffers {
-    // A side with these bytes, all of them synced, and room for more.
-    fn new(alloc: Global, bytes: &[u8], room: usize) -> Result<SideBuffers, AllocError>
-        requires { length bytes.now ≤ room }
-        ensures first { IfOk result (λ side. side.first.items ≡ bytes.now) }
-        ensures synced { IfOk result (λ side. side.synced.items ≡ bytes.now) }
-        ensures read { IfOk result (λ side. side.read.items ≡ bytes.now) }
-        ensures synced_room { IfOk result (λ side. room ≤ vec_capacity side.synced) }
-        ensures read_room { IfOk result (λ side. room ≤ vec_capacity side.read) }
-        ensures torn { IfOk result (λ side. side.torn.items ≡ bytes.now) }
-        ensures torn_room { IfOk result (λ side. room ≤ vec_capacity side.torn) }
-    {
-        let first = bytes.to_vec(alloc)?;
-        let mut synced = Vec::with_capacity(alloc, room)?;
-        extend(&mut synced, bytes);
-        let mut read = Vec::with_capacity(alloc, room)?;
-        extend(&mut read, bytes);
-        let mut torn = Vec::with_capacity(alloc, room)?;
-        extend(&mut torn, bytes);
-        Ok(SideBuffers {
-            first,
-            synced,
-            read,
-            torn,
-        })
-    }
-
-    // Writes.
-    fn write(&mut self, at: usize, bytes: &[u8])
-        requires read { at + length bytes.now ≤ vec_capacity self.old.read }
-        requires torn { at + length bytes.now ≤ vec_capacity self.old.torn }
-        ensures read { self.new.read.items ≡ overwritten self.old.read.items at bytes.now }
-        ensures torn { self.new.torn.items ≡ overwritten self.old.torn.items at (replicate (length bytes.now) 255) }
-        ensures read_room { vec_capacity self.old.read ≤ vec_capacity self.new.read }
-        ensures torn_room { vec_capacity self.old.torn ≤ vec_capacity self.new.torn }
-        ensures same { (self.new.first ≡ self.old.first) × (self.new.synced ≡ self.old.synced) }
-    {
-        overwrite(&mut self.read, at, bytes);
-        mark(&mut self.torn, at, bytes.len());
-    }
-
-    // Syncs.
-    fn sync(&mut self)
-        requires synced { length self.old.read.items ≤ vec_capacity self.old.synced }
-        requires torn { length self.old.read.items ≤ vec_capacity self.old.torn }
-        ensures synced { self.new.synced.items ≡ self.old.read.items }
-        ensures torn { self.new.torn.items ≡ self.old.read.items }
-        ensures synced_room { vec_capacity self.old.synced ≤ vec_capacity self.new.synced }
-        ensures torn_room { vec_capacity self.old.torn ≤ vec_capacity self.new.torn }
-        ensures same { (self.new.first ≡ self.old.first) × (self.new.read ≡ self.old.read) }
-    {
-        replace(&mut self.synced, &self.read);
-        replace(&mut self.torn, &self.read);
-    }
-}
-
 impl CallLog {
     /// Both sides with these bytes, nothing said, and room for as much as `room` allows.
     pub fn new(alloc: Global, left: &[u8], right: &[u8], room: usize) -> Result<CallLog, AllocError>
@@ -147,8 +78,8 @@ impl CallLog {
         ensures bytes { result.now ≡ (side_of (state_of self.now) side).read }
     {
         match side {
-            Side::Left => &self.left.read,
-            Side::Right => &self.right.read,
+            Side::Left => self.left.read(),
+            Side::Right => self.right.read(),
         }
     }
 
@@ -157,8 +88,8 @@ impl CallLog {
         ensures bytes { result.now ≡ (side_of (state_of self.now) side).synced }
     {
         match side {
-            Side::Left => &self.left.synced,
-            Side::Right => &self.right.synced,
+            Side::Left => self.left.synced(),
+            Side::Right => self.right.synced(),
         }
     }
 
@@ -167,8 +98,8 @@ impl CallLog {
         ensures bytes { result.now ≡ marked (side_of (state_of self.now) side).read (side_of (state_of self.now) side).pending }
     {
         match side {
-            Side::Left => &self.left.torn,
-            Side::Right => &self.right.torn,
+            Side::Left => self.left.torn(),
+            Side::Right => self.right.torn(),
         }
     }
 
@@ -179,7 +110,7 @@ impl CallLog {
         &self.said
     }
 
-    /// A write that ends here is within the room.
+    /// Whether a write of this length at `at` ends within the room.
     pub fn ends_within(&self, at: u64, len: usize) -> bool
         ensures { IsTrue result ↔ (at + len ≤ self.now.room) }
     {
@@ -187,21 +118,21 @@ impl CallLog {
         at <= room && len as u64 <= room - at
     }
 
-    /// There is room for so many bytes more.
+    /// Whether there is room for so many bytes more.
     pub fn has_room(&self, len: usize) -> bool
         ensures { IsTrue result ↔ (bytes_logged self.now.past + len ≤ self.now.room) }
     {
         len <= self.room - self.bytes.len()
     }
 
-    /// There is room for a call more.
+    /// Whether there is room for a call more.
     pub fn has_room_for_call(&self) -> bool
         ensures { IsTrue result ↔ (length self.now.past < self.now.room / 32 + 64) }
     {
         self.calls.len() < self.room / 32 + 64
     }
 
-    /// Writes.
+    /// Writes, and logs the call.
     pub fn write(&mut self, side: Side, at: usize, bytes: &[u8])
         requires ends { at + length bytes.now ≤ self.old.room }
         requires bytes { bytes_logged self.old.past + length bytes.now ≤ self.old.room }
@@ -217,7 +148,7 @@ impl CallLog {
         }
     }
 
-    /// Syncs.
+    /// Syncs, and logs the call.
     pub fn sync(&mut self, side: Side)
         requires { length self.old.past < self.old.room / 32 + 64 }
         ensures { self.new ≡ record self.old { past = self.old.past ++ Synced side ∷ [] } }
@@ -229,7 +160,7 @@ impl CallLog {
         }
     }
 
-    /// Says.
+    /// Says, and logs the call.
     pub fn say(&mut self, bytes: &[u8])
         requires bytes { bytes_logged self.old.past + length bytes.now ≤ self.old.room }
         requires calls { length self.old.past < self.old.room / 32 + 64 }

@@ -1,7 +1,7 @@
 -- The clauses of `read` give what the trait ensures.
 use Rattle.std.proofs.Common.{◌≡◌, ◌≤◌, ℕ, length, drop, ap, arith}
 use Rattle.std.proofs.lemmas.Result.{IfOk-weaker, on_err_weaker}
-use Rattle.host_model.specs.MemSource.{MemSource, with_read}
+use Rattle.host_model.specs.MemSource.{MemSource}
 use Rattle.host_model.proofs.source.MemSourceSource.TheImpl.Goals as goal
 
 pub read-tells : goal.read-tells
