@@ -8,7 +8,7 @@ use Rattle.host_model.specs.Images.{overwritten, Torn}
 use Rattle.host_model.specs.Moments.{IsNow}
 use Rattle.host_model.specs.CallLog.{PastCall, Wrote, Synced, Said, CallLog, SideState, HostState, side_of, wrote, all_synced, after, state_after, start, state_of, IsImage, images_of, MightSince}
 
--- with a gap filled, the range and what is behind it
+-- the bytes after a write
 module _ (old : List ℕ) (at : ℕ) (bytes : List ℕ) where
   pub padded : length (take at (old ++ replicate (at - length old) 0)) ≡ at
   padded = length-take-le at (old ++ replicate (at - length old) 0) (omega (arith, length-append old (replicate (at - length old) 0), length-replicate {A = ℕ} (at - length old) 0))
@@ -18,7 +18,7 @@ module _ (old : List ℕ) (at : ℕ) (bytes : List ℕ) where
       let front = take at (old ++ replicate (at - length old) 0) in
       omega (arith, padded, length-append (front ++ bytes) (drop (at + length bytes) old), length-append front bytes, length-drop (at + length bytes) old)
 
-  -- a write that is past is one that is torn nowhere
+  -- a write that is complete is one that is torn nowhere
   pub torn_overwritten : Torn at (length bytes) old (overwritten old at bytes)
   torn_overwritten =
       let front = take at (old ++ replicate (at - length old) 0) in
