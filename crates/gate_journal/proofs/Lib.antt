@@ -1,0 +1,5 @@
+mod Appending
+mod Gates
+mod Making
+pub mod Standing
+pub mod Unique

@@ -1,0 +1,18 @@
+use Rattle.std.proofs.Common.{◌≡◌, ◌+◌, ◌++◌, [], ◌∷◌, List, ℕ, length, sym, ◌∙◌, ap, arith, rules, length-append}
+use Rattle.gate_journal.specs.Frame.{payload_in}
+use Rattle.gate_journal.specs.Records.{framed}
+use Rattle.gate_journal.proofs.Appending.{length-framed, unframed}
+use Rattle.gate_journal.proofs.frame.Frame.new.Goals as goal
+
+pub invariant_of-result : goal.invariant_of-result
+unfolding framed
+invariant_of-result c =
+    let payload = c.args.payload.now in
+    let is : c.push.new.self.items ≡ framed payload ++ 0 ∷ [] = search rules in
+    let size : length c.push.new.self.items ≡ length payload + 5 = omega (arith, ap length is, length-append (framed payload) (0 ∷ []), length-framed payload) in
+    let back : payload_in c.push.new.self.items ≡ payload = ap payload_in is ∙ unframed payload in
+    record {
+      parts = is ∙ ap (λ (l : List ℕ). framed l ++ 0 ∷ []) (sym back);
+      least = omega arith;
+      most = omega arith;
+    }

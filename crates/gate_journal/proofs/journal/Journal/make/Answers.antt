@@ -1,0 +1,59 @@
+use Rattle.std.proofs.Common.{[], ◌∷◌, length, arith, length-append}
+use Rattle.host_model.proofs.Meeting.{kept_twice}
+use Rattle.gate_journal.proofs.Appending.{length-framed}
+use Rattle.gate_journal.proofs.Making.{made, made_done, opening_met, behind_met}
+use Rattle.gate_journal.specs.Records.{framed}
+use Rattle.gate_journal.proofs.journal.Journal.make.Goals as goal
+
+-- the writes behind the first byte leave the side closed
+pub returns-in_err-write_synced-clause-any_moment : goal.returns-in_err-write_synced-clause-any_moment
+returns-in_err-write_synced-clause-any_moment g c tells =
+    let old = c.args.host.now in
+    behind_met c.args.generation c.args.first.now c.requires.known c.requires.fits g.H.Host c.args.side old c.write_at.new.self c.write_synced.new.host 9 (length c.written.result.now)
+    (c.requires.shut tells) (λ l r u met. g.met.H.Host.only_now old l r u tells met) (c.write_at.ensures.crash tells) (c.write_at.ensures.rest tells) (c.write_at.ensures.time tells) (c.write_synced.ensures.any_moment tells)
+
+-- and the last one opens it or doesn't
+pub returns-in_err-write_synced-2-clause-any_moment : goal.returns-in_err-write_synced-2-clause-any_moment
+returns-in_err-write_synced-2-clause-any_moment g c tells =
+    let h = g.H.Host in
+    let old = c.args.host.now in
+    let side = c.args.side in
+    let payload = c.args.first.now in
+    let stage = made c.args.generation payload c.requires.known c.requires.fits (h.reads old side) (h.reads c.write_at.new.self side) (h.reads c.write_synced.new.host side) c.written.result.now
+    (c.requires.shut tells (h.reads old side) (g.met.H.Host.read_is_image old side tells)) (c.in_ok-write_at.ensures.after tells) c.written.ensures.bytes (c.in_ok-write_synced.ensures.after tells) in
+    let behind = behind_met c.args.generation payload c.requires.known c.requires.fits h side old c.write_at.new.self c.write_synced.new.host 9 (length c.written.result.now)
+    (c.requires.shut tells) (λ l r u met. g.met.H.Host.only_now old l r u tells met) (c.write_at.ensures.crash tells) (c.write_at.ensures.rest tells) (c.write_at.ensures.time tells) (c.write_synced.ensures.any_moment tells) in
+    opening_met c.args.generation payload c.requires.known c.requires.fits h side old c.write_synced.new.host c.write_synced-2.new.host behind
+    (kept_twice h.reads h.images h.said _ old c.write_at.new.self c.write_synced.new.host (c.write_at.ensures.rest tells) (c.write_synced.ensures.rest tells)) stage (c.in_ok-write_synced.ensures.durable tells) (c.write_synced-2.ensures.any_moment tells)
+
+pub returns-clause-any_moment : goal.returns-clause-any_moment
+returns-clause-any_moment g c tells =
+    let h = g.H.Host in
+    let old = c.args.host.now in
+    let side = c.args.side in
+    let payload = c.args.first.now in
+    let stage = made c.args.generation payload c.requires.known c.requires.fits (h.reads old side) (h.reads c.write_at.new.self side) (h.reads c.write_synced.new.host side) c.written.result.now
+    (c.requires.shut tells (h.reads old side) (g.met.H.Host.read_is_image old side tells)) (c.in_ok-write_at.ensures.after tells) c.written.ensures.bytes (c.in_ok-write_synced.ensures.after tells) in
+    let behind = behind_met c.args.generation payload c.requires.known c.requires.fits h side old c.write_at.new.self c.write_synced.new.host 9 (length c.written.result.now)
+    (c.requires.shut tells) (λ l r u met. g.met.H.Host.only_now old l r u tells met) (c.write_at.ensures.crash tells) (c.write_at.ensures.rest tells) (c.write_at.ensures.time tells) (c.write_synced.ensures.any_moment tells) in
+    opening_met c.args.generation payload c.requires.known c.requires.fits h side old c.write_synced.new.host c.write_synced-2.new.host behind
+    (kept_twice h.reads h.images h.said _ old c.write_at.new.self c.write_synced.new.host (c.write_at.ensures.rest tells) (c.write_synced.ensures.rest tells)) stage (c.in_ok-write_synced.ensures.durable tells) (c.write_synced-2.ensures.any_moment tells)
+
+-- and then the payload is on the disk
+pub returns-clause-made : goal.returns-clause-made
+returns-clause-made g c tells =
+    let h = g.H.Host in
+    let old = c.args.host.now in
+    let side = c.args.side in
+    let payload = c.args.first.now in
+    let stage = made c.args.generation payload c.requires.known c.requires.fits (h.reads old side) (h.reads c.write_at.new.self side) (h.reads c.write_synced.new.host side) c.written.result.now
+    (c.requires.shut tells (h.reads old side) (g.met.H.Host.read_is_image old side tells)) (c.in_ok-write_at.ensures.after tells) c.written.ensures.bytes (c.in_ok-write_synced.ensures.after tells) in
+    let done = made_done c.args.generation payload c.requires.known c.requires.fits (h.reads c.write_synced.new.host side) (h.reads c.write_synced-2.new.host side) stage (c.in_ok-write_synced-2.ensures.after tells) in
+    record {
+      stands = record {
+        side = done.side;
+        place = omega (arith, length-framed payload, length-append (1 ∷ framed payload) []);
+        only = c.in_ok-write_synced-2.ensures.durable tells;
+      };
+      gate = omega (arith, done.gate, length-framed payload, length-append (1 ∷ framed payload) []);
+    }

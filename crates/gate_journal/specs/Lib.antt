@@ -1,0 +1,6 @@
+pub mod Costs
+pub mod Frame
+pub mod Journal
+pub mod OpenSide
+pub mod Reading
+pub mod Records

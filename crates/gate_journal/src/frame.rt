@@ -1,0 +1,93 @@
+// A payload, ready to be written on a side.
+ghost use Rattle.std.specs.Prelude.{◌≡◌, ◌<◌, ◌≤◌, ◌+◌, ◌++◌, ◌↔◌, [], ◌∷◌, length, IfOk, IsErrOf};
+ghost use Rattle.gate_journal.specs.Records.{framed};
+
+use crate::format::CLOSED;
+use std::alloc::{AllocError, AllocFailed, Global};
+use std::marker::Model;
+
+/// Why there is no frame.
+#[derive(Clone, Copy, Debug, PartialEq, Eq)]
+pub enum FrameFault {
+    /// The payload has more than 67,108,864 bytes.
+    TooLong,
+    OutOfMemory,
+}
+
+impl From<AllocError> for FrameFault {
+    ghost use Rattle.std.specs.Prelude.{◌≡◌};
+    ghost use Rattle.gate_journal.specs.declared.frame.FrameFault.TheVariants.{OutOfMemory};
+
+    ghost from_gives = { λ _ e. e ≡ OutOfMemory };
+
+    fn from(_: AllocError) -> Self {
+        FrameFault::OutOfMemory
+    }
+}
+
+impl<T: Drop> From<AllocFailed<T>> for FrameFault {
+    ghost use Rattle.std.specs.Prelude.{◌≡◌};
+    ghost use Rattle.gate_journal.specs.declared.frame.FrameFault.TheVariants.{OutOfMemory};
+
+    ghost from_gives = { λ _ e. e ≡ OutOfMemory };
+
+    fn from(_: AllocFailed<T>) -> Self {
+        FrameFault::OutOfMemory
+    }
+}
+
+/// The most bytes of a payload.
+const MAX_PAYLOAD: usize = 67_108_864;
+
+/// A payload of at most 67,108,864 bytes, ready to be written: behind its length, and before a closed gate.
+#[derive(Drop)]
+pub struct Frame {
+    bytes: Vec<u8>,
+}
+
+impl Model for Frame {
+    ghost use Rattle.std.specs.Prelude.{List, ℕ};
+    ghost use Rattle.gate_journal.specs.Frame.{payload_in, IsFrame};
+
+    ghost Value = { List ℕ };
+
+    ghost view = { λ frame. payload_in frame.bytes.items };
+
+    ghost invariant = { λ frame. IsFrame frame.bytes.items };
+}
+
+impl Frame {
+    /// Frames a payload.
+    pub fn new(alloc: Global, payload: &[u8]) -> Result<Frame, FrameFault>
+        ensures payload { IfOk result (λ frame. frame ≡ payload.now) }
+        ensures within { IfOk result (λ frame. length frame ≤ 67108864) }
+        ensures too_long { IsErrOf result FrameFault.TooLong ↔ (67108864 < length payload.now) }
+    {
+        if payload.len() > MAX_PAYLOAD {
+            return Err(FrameFault::TooLong);
+        }
+        let length = payload.len() as u32;
+        let mut bytes = Vec::with_capacity(alloc, payload.len() + 5)?;
+        bytes.extend_from_slice(&length.to_be_bytes())?;
+        bytes.extend_from_slice(payload)?;
+        bytes.push(CLOSED)?;
+        Ok(Frame { bytes })
+    }
+
+    /// The length of the payload in bytes.
+    pub fn bytes(&self) -> u64
+        ensures len { result ≡ length self.now }
+        ensures within { result ≤ 67108864 }
+    {
+        (self.bytes.len() - 5) as u64
+    }
+
+    /// What is written of it: its length, the payload and a closed gate.
+    pub(crate) fn written(&self) -> &[u8]
+        ensures bytes { result.now ≡ framed self.now ++ 0 ∷ [] }
+        ensures len { length result.now ≡ length self.now + 5 }
+        ensures within { length self.now ≤ 67108864 }
+    {
+        &self.bytes
+    }
+}

@@ -1,0 +1,199 @@
+// One side as a list of payloads, each behind a gate that is opened by a write of its own.
+ghost use Rattle.std.specs.Prelude.{◌≡◌, ◌⊎◌, ◌<◌, ◌≤◌, ◌+◌, ◌++◌, ◌↔◌, [], ◌∷◌, List, ℕ, length, map, drop, OnOk, OnErr, IfOk, IsOk, IsErrOf};
+ghost use Rattle.host_model.specs.Causes.{Rose, HasCause};
+ghost use Rattle.host_model.specs.Hosts.{IsDurable, KeepsAll, MeetsAll, OnSideOf};
+ghost use Rattle.host_model.specs.Sides.{other};
+ghost use Rattle.gate_journal.specs.Costs.{HasCost};
+ghost use Rattle.gate_journal.specs.Records.{IsClosed, IsOpen, IsNoJournal};
+
+use crate::faults::{AppendFault, OpenFault};
+use crate::format::{CLOSED, OPEN, SIDE_END};
+use crate::frame::Frame;
+use crate::reading::{read_header, read_records, read_side, without_header};
+use crate::writing::write_synced;
+use host_model::{DiskFailed, Host, Side};
+use std::alloc::Global;
+use std::marker::Model;
+
+/// An open side of a host: which one it is, its generation, and the place of the gate that ends its records.
+///
+/// A journal stands for its side of the host on which it was made or opened. Each call on it that takes a host wants
+/// this host, with the side as the last call left it and synced.
+#[derive(Debug, Drop)]
+pub struct Journal {
+    side: Side,
+    generation: u8,
+    place: u64,
+}
+
+impl Model for Journal {
+    ghost use Rattle.std.specs.Prelude.{◌<◌, ◌≤◌};
+    ghost use Rattle.gate_journal.specs.OpenSide.{OpenSide};
+
+    ghost Value = { OpenSide };
+
+    ghost view = { λ j. record { side = j.side; generation = j.generation; place = j.place } };
+
+    ghost invariant = { λ j. (j.generation ≤ 2) × (j.place < 67108864) };
+}
+
+impl Journal {
+    ghost use Rattle.gate_journal.specs.Journal.{Stands, Keeps, IsShutOn, IsShutOrHas, IsBeforeOrAfter, SameButFirst, HasFailed};
+
+    /// The side's generation: 0, 1 or 2.
+    pub fn generation(&self) -> u8
+        ensures generation { result ≡ self.now.generation }
+        ensures known { result ≤ 2 }
+    {
+        self.generation
+    }
+
+    /// Where the next record would end, with the gate behind it.
+    pub fn end_after(&self, next: &Frame) -> u64
+        ensures { result ≡ self.now.place + length next.now + 6 }
+    {
+        self.place + next.bytes() + 6
+    }
+
+    /// Makes the side's journal, with one payload. The side stays closed until the journal is whole.
+    pub fn make<H: Host>(
+        host: &mut H,
+        side: Side,
+        generation: u8,
+        first: &Frame,
+    ) -> Result<Journal, DiskFailed>
+        requires known { generation ≤ 2 }
+        requires fits { length first.now + 15 ≤ 67108864 }
+        requires shut { H.tells → IsShutOn H.Host host.old side }
+
+        ensures made { H.tells → IfOk result (λ journal. Keeps H.Host journal host.new (first.now ∷ [])) }
+        ensures side { IfOk result (λ journal. journal.side ≡ side) }
+        ensures generation { IfOk result (λ journal. journal.generation ≡ generation) }
+        ensures place { IfOk result (λ journal. journal.place ≡ length first.now + 14) }
+
+        // At each moment the side is closed, or open with exactly this payload.
+        ensures any_moment { H.tells → MeetsAll H.Host host.old host.new
+            (OnSideOf H.Host host.old side (IsShutOrHas generation first.now)) }
+        ensures rest { H.tells → KeepsAll H.Host (other side) host.old host.new }
+
+        ensures cost { H.tells → HasCost (length first.now + 15) (H.written host.old) (H.written host.new) result }
+        ensures cause { HasCause (H.disk_faults host.old) (H.disk_faults host.new) result }
+        ensures say_faults { H.say_faults host.new ≡ H.say_faults host.old }
+    {
+        let header = [b'N', b'I', b'M', b'B', b'U', b'S', b'1', generation, OPEN];
+        host.write_at(side, 1, &header)?;
+        write_synced(host, side, 10, first.written())?;
+        write_synced(host, side, 0, &[OPEN])?;
+        Ok(Journal {
+            side,
+            generation,
+            place: first.bytes() + 14,
+        })
+    }
+
+    /// Closes a side, whatever it has.
+    pub fn close<H: Host>(host: &mut H, side: Side) -> Result<(), DiskFailed>
+        ensures closed { H.tells → OnOk result (H.reads host.new side ≡ 0 ∷ drop 1 (H.reads host.old side)) }
+        ensures durable { H.tells → OnOk result (IsDurable H.Host host.new side) }
+        ensures shut { H.tells → OnOk result (IsShutOn H.Host host.new side) }
+
+        // At each moment the side is as before, but for any first byte.
+        ensures any_moment { H.tells → MeetsAll H.Host host.old host.new
+            (OnSideOf H.Host host.old side (SameButFirst (H.images host.old side))) }
+        ensures rest { H.tells → KeepsAll H.Host (other side) host.old host.new }
+
+        ensures cost { H.tells → HasCost 1 (H.written host.old) (H.written host.new) result }
+        ensures cause { HasCause (H.disk_faults host.old) (H.disk_faults host.new) result }
+        ensures say_faults { H.say_faults host.new ≡ H.say_faults host.old }
+    {
+        write_synced(host, side, 0, &[CLOSED])
+    }
+
+    /// Syncs the side and reads its payloads.
+    ///
+    /// Want of memory and a fault of the disk aside, it answers `Ok` exactly where the side is open with some
+    /// payloads, `Closed` exactly where it is closed, and `NotAJournal` exactly where it is neither.
+    pub fn open<H: Host>(
+        alloc: Global,
+        host: &mut H,
+        side: Side,
+    ) -> Result<(Journal, Vec<Vec<u8>>), OpenFault>
+        ensures opened { H.tells → IfOk result (λ found. Stands H.Host found.0 host.new (map (λ v. v.items) found.1.items)) }
+        ensures side { IfOk result (λ found. found.0.side ≡ side) }
+        ensures opened_where { H.tells → (generation : ℕ) (payloads : List (List ℕ)) → IsOpen generation payloads (H.reads host.old side)
+            → IsOk result ⊎ HasFailed result }
+        ensures closed { H.tells → IsErrOf result OpenFault.Closed → IsClosed (H.reads host.old side) }
+        ensures closed_where { H.tells → IsClosed (H.reads host.old side) → IsErrOf result OpenFault.Closed ⊎ HasFailed result }
+        ensures no_journal { H.tells → IsErrOf result OpenFault.NotAJournal → IsNoJournal (H.reads host.old side) }
+        ensures no_journal_where { H.tells → IsNoJournal (H.reads host.old side) → IsErrOf result OpenFault.NotAJournal ⊎ HasFailed result }
+
+        // Until the sync is done each image is one of the start, and then it is what reads give.
+        ensures any_moment { H.tells → MeetsAll H.Host host.old host.new (OnSideOf H.Host host.old side (H.images host.old side)) }
+        ensures images { H.tells → (image : List ℕ) → H.images host.new side image → H.images host.old side image }
+        ensures durable { H.tells → ¬ IsErrOf result OpenFault.DiskFault → IsDurable H.Host host.new side }
+        ensures same { H.tells → ¬ IsErrOf result OpenFault.DiskFault → H.reads host.new side ≡ H.reads host.old side }
+        ensures rest { H.tells → KeepsAll H.Host (other side) host.old host.new }
+
+        ensures cost { H.tells → H.written host.new ≡ H.written host.old }
+        ensures cause { IsErrOf result OpenFault.DiskFault → Rose (H.disk_faults host.old) (H.disk_faults host.new) }
+        ensures disk_faults { H.disk_faults host.old ≤ H.disk_faults host.new }
+        ensures say_faults { H.say_faults host.new ≡ H.say_faults host.old }
+    {
+        host.sync(side)?;
+        let bytes = read_side(alloc, host, side)?;
+        let Some((generation, rest)) = read_header(&bytes) else {
+            return Err(without_header(&bytes));
+        };
+        let Some((place, payloads)) = read_records(alloc, rest)? else {
+            return Err(OpenFault::NotAJournal);
+        };
+        Ok((
+            Journal {
+                side,
+                generation,
+                place,
+            },
+            payloads,
+        ))
+    }
+
+    /// Adds a payload. At `Ok` each image has it. After a `DiskFault` the journal is dropped and the side opened
+    /// again.
+    pub fn append<H: Host>(&mut self, host: &mut H, next: &Frame) -> Result<(), AppendFault>
+        requires stands { H.tells → (payloads : List (List ℕ)) × Stands H.Host self.old host.old payloads }
+
+        ensures acknowledged { H.tells → (payloads : List (List ℕ)) → Stands H.Host self.old host.old payloads
+            → OnOk result (Keeps H.Host self.new host.new (payloads ++ next.now ∷ [])) }
+
+        // At each moment the side has the payloads of before, or these and the next.
+        ensures any_moment { H.tells → (payloads : List (List ℕ)) → Keeps H.Host self.old host.old payloads
+            → MeetsAll H.Host host.old host.new
+            (OnSideOf H.Host host.old self.old.side (IsBeforeOrAfter self.old.generation payloads next.now)) }
+
+        // The other side and the text are as at the start, at each moment and after it.
+        ensures elsewhere { H.tells → MeetsAll H.Host host.old host.new
+            (OnSideOf H.Host host.old self.old.side (λ image. Unit {0})) }
+        ensures rest { H.tells → KeepsAll H.Host (other self.old.side) host.old host.new }
+
+        ensures place { OnOk result (self.new ≡ record self.old { place = self.old.place + length next.now + 5 }) }
+        ensures same { OnErr result (self.new ≡ self.old) }
+        ensures full { IsErrOf result AppendFault.SideFull ↔ (67108864 < self.old.place + length next.now + 6) }
+        ensures full_same { IsErrOf result AppendFault.SideFull → host.new ≡ host.old }
+
+        ensures cost { H.tells → HasCost (length next.now + 6) (H.written host.old) (H.written host.new) result }
+        ensures cause { IsErrOf result AppendFault.DiskFault → Rose (H.disk_faults host.old) (H.disk_faults host.new) }
+        ensures disk_faults { H.disk_faults host.old ≤ H.disk_faults host.new }
+        ensures say_faults { H.say_faults host.new ≡ H.say_faults host.old }
+    {
+        let end = self.end_after(next);
+        if end > SIDE_END {
+            return Err(AppendFault::SideFull);
+        }
+        let gate = self.place;
+        // The record is on the disk, behind a closed gate, before the gate is opened.
+        write_synced(host, self.side, gate + 1, next.written())?;
+        write_synced(host, self.side, gate, &[OPEN])?;
+        self.place = end - 1;
+        Ok(())
+    }
+}

@@ -1,0 +1,130 @@
+// What a side has, read from its bytes.
+ghost use Rattle.std.specs.Prelude.{◌≡◌, ◌⊎◌, ◌<◌, ◌≤◌, ◌+◌, ◌++◌, [], ◌∷◌, List, ℕ, length, map, IfOk, IfSome, IfNone, IsErrOf, OnOk};
+ghost use Rattle.gate_journal.specs.Reading.{HasNoHeader, HasNoRecords, HasRecords, IsNext};
+ghost use Rattle.gate_journal.specs.Records.{header, place_of, IsClosed, IsNoJournal};
+ghost use Rattle.host_model.specs.Causes.{Rose, HasCause};
+ghost use Rattle.host_model.specs.Hosts.{MeetsAll, NowOf, StillAll};
+
+use crate::faults::OpenFault;
+use crate::format::{OPEN, SIDE_END};
+use host_model::{Host, Side};
+use std::alloc::{AllocError, Global};
+
+/// The generation and the bytes behind it.
+pub(crate) fn read_header(bytes: &[u8]) -> Option<(u8, &[u8])>
+    ensures header { IfSome result (λ found. bytes.now ≡ 1 ∷ header found.0 ++ found.1.now) }
+    ensures known { IfSome result (λ found. found.0 ≤ 2) }
+    ensures none { IfNone result (HasNoHeader bytes.now) }
+{
+    match bytes {
+        [
+            OPEN,
+            b'N',
+            b'I',
+            b'M',
+            b'B',
+            b'U',
+            b'S',
+            b'1',
+            generation,
+            rest @ ..,
+        ] if *generation <= 2 => { Some((*generation, rest)) }
+        _ => None,
+    }
+}
+
+/// What stands at a gate.
+pub(crate) enum Next<'a> {
+    /// No byte, or one other than 1.
+    End,
+    /// An open gate and no whole record.
+    Cut,
+    /// A record, and the bytes behind it.
+    Record { payload: &'a [u8], rest: &'a [u8] },
+}
+
+/// The record at this gate.
+pub(crate) fn next_record(bytes: &[u8]) -> Next<'_>
+    ensures { IsNext bytes.now result }
+{
+    match bytes {
+        [OPEN, first, second, third, fourth, rest @ ..] => {
+            let len = u32::from_be_bytes([*first, *second, *third, *fourth]) as usize;
+            if rest.len() < len {
+                Next::Cut
+            } else {
+                Next::Record {
+                    payload: &rest[..len],
+                    rest: &rest[len..],
+                }
+            }
+        }
+        [OPEN, ..] => Next::Cut,
+        _ => Next::End,
+    }
+}
+
+/// Where whole records end that begin at the first gate, and their payloads, up to a gate that isn't open.
+pub(crate) fn read_records(
+    alloc: Global,
+    bytes: &[u8],
+) -> Result<Option<(u64, Vec<Vec<u8>>)>, AllocError>
+    ensures some { IfOk result (λ found. IfSome found (λ records. HasRecords (map (λ v. v.items) records.1.items) bytes.now)) }
+    ensures place { IfOk result (λ found. IfSome found (λ records. records.0 ≡ place_of (map (λ v. v.items) records.1.items))) }
+    ensures none { IfOk result (λ found. IfNone found (HasNoRecords bytes.now)) }
+{
+    let mut payloads = Vec::new(alloc);
+    let mut rest = bytes;
+    loop {
+        match next_record(rest) {
+            Next::End => break,
+            Next::Cut => return Ok(None),
+            Next::Record {
+                payload,
+                rest: behind,
+            } => {
+                payloads.push(payload.to_vec(alloc)?)?;
+                rest = behind;
+            }
+        }
+    }
+    let size = (bytes.len() - rest.len()) as u64;
+    if size >= SIDE_END - 9 {
+        return Ok(None);
+    }
+    Ok(Some((size + 9, payloads)))
+}
+
+/// Why a side without a header is not open.
+pub(crate) fn without_header(bytes: &[u8]) -> OpenFault
+    requires { HasNoHeader bytes.now }
+    ensures closed { result ≡ OpenFault.Closed → IsClosed bytes.now }
+    ensures no_journal { result ≡ OpenFault.NotAJournal → IsNoJournal bytes.now }
+    ensures either { (result ≡ OpenFault.Closed) ⊎ (result ≡ OpenFault.NotAJournal) }
+{
+    match bytes {
+        [OPEN, ..] => OpenFault::NotAJournal,
+        _ => OpenFault::Closed,
+    }
+}
+
+/// All bytes of a side, where the host tells what it holds.
+pub(crate) fn read_side<H: Host>(
+    alloc: Global,
+    host: &mut H,
+    side: Side,
+) -> Result<Vec<u8>, OpenFault>
+    ensures bytes { H.tells → IfOk result (λ bytes. bytes.items ≡ H.reads host.old side) }
+    ensures still { H.tells → StillAll H.Host host.old host.new }
+    ensures any_moment { H.tells → MeetsAll H.Host host.old host.new (NowOf H.Host host.old) }
+    ensures cause { IsErrOf result OpenFault.DiskFault → Rose (H.disk_faults host.old) (H.disk_faults host.new) }
+    ensures disk_faults { H.disk_faults host.old ≤ H.disk_faults host.new }
+    ensures say_faults { H.say_faults host.new ≡ H.say_faults host.old }
+    ensures no_other { (IsErrOf result OpenFault.Closed → ⊥) × (IsErrOf result OpenFault.NotAJournal → ⊥) }
+{
+    let len = host.len(side)?;
+    let mut bytes = vec![in alloc; 0; len as usize]?;
+    let count = host.read(side, 0, &mut bytes)?;
+    bytes.truncate(count);
+    Ok(bytes)
+}
