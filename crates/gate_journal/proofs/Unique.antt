@@ -3,6 +3,7 @@ use Rattle.std.proofs.Common.{◌≡◌, ℕ, zero, suc, get_or, ◌+◌, ◌-�
 use Rattle.std.proofs.lemmas.List.{append-nil, take_at, take_all, drop_at, length-take-le}
 use Rattle.std.proofs.lemmas.Nat.{from_be_bytes-to_be_bytes_4}
 use Rattle.std.specs.Int.{w32, to_be_bytes, from_be_bytes}
+use Rattle.gate_journal.specs.declared.format.TheConstants.{SIDE_END}
 use Rattle.gate_journal.specs.Reading.{HasNoRecord, HasNoRecords}
 use Rattle.gate_journal.specs.Records.{framed, records, opened, place_of, IsClosed, IsOpen, HasOneReading}
 use Rattle.gate_journal.proofs.Appending.{length-framed, records-push}
@@ -44,7 +45,7 @@ pub record Longer (payloads all : List (List ℕ)) (left rest : List ℕ) : Type
   pub payloads_are : all ≡ payloads ++ more
   pub left_is : left ≡ records more ++ rest
 
-pub records_longer : (payloads all : List (List ℕ)) (left rest : List ℕ) → AllFit payloads → place_of all < 67108864 → IsClosed rest → records payloads ++ left ≡ records all ++ rest → Longer payloads all left rest
+pub records_longer : (payloads all : List (List ℕ)) (left rest : List ℕ) → AllFit payloads → place_of all < SIDE_END → IsClosed rest → records payloads ++ left ≡ records all ++ rest → Longer payloads all left rest
 records_longer [] all left rest fit fits closed same = record { more = all; payloads_are = refl; left_is = same }
 records_longer (payload ∷ payloads) [] left rest fit fits closed same = absurd (subst IsClosed (sym same) closed refl)
 records_longer (payload ∷ payloads) (first ∷ all) left rest fit fits closed same =
@@ -77,10 +78,10 @@ not_whole payloads left bytes split fit none all rest fits is closed = by_more l
     by_more : (more : List (List ℕ)) → all ≡ payloads ++ more → 1 ∷ left ≡ records more ++ rest → ⊥
     by_more [] are left_is = subst IsClosed (sym left_is) closed refl
     by_more (payload ∷ more) are left_is =
-        let small : length payload < 2 ^ 32 = in_sum payloads (subst (λ (l : List (List ℕ)). place_of l < 67108864) are fits) in
+        let small : length payload < 2 ^ 32 = in_sum payloads (subst (λ (l : List (List ℕ)). place_of l < SIDE_END) are fits) in
         none payload (records more ++ rest) small (ap (λ (l : List ℕ). drop 1 l) left_is ∙ append_assoc (framed payload) (records more) rest)
       where
-        in_sum : (before : List (List ℕ)) → place_of (before ++ payload ∷ more) < 67108864 → length payload < 2 ^ 32
+        in_sum : (before : List (List ℕ)) → place_of (before ++ payload ∷ more) < SIDE_END → length payload < 2 ^ 32
         in_sum [] sum = omega (arith, place_of-cons payload more)
         in_sum (b ∷ before) sum = in_sum before (omega (arith, place_of-cons b (before ++ payload ∷ more)))
 
@@ -107,7 +108,7 @@ pub no_length : (left payload tail : List ℕ) → length left < 4 → left ≡ 
 no_length left payload tail short is = absurd (omega (arith, ap length is, length-append (framed payload) tail, length-framed payload))
 
 -- records that end too late
-pub too_long : (payloads : List (List ℕ)) (left bytes : List ℕ) → bytes ≡ records payloads ++ left → AllFit payloads → IsClosed left → 67108864 ≤ place_of payloads → HasNoRecords bytes
+pub too_long : (payloads : List (List ℕ)) (left bytes : List ℕ) → bytes ≡ records payloads ++ left → AllFit payloads → IsClosed left → SIDE_END ≤ place_of payloads → HasNoRecords bytes
 too_long payloads left bytes split fit closed_left long all rest fits is closed = by_more longer.more longer.payloads_are longer.left_is
   where
     longer : Longer payloads all left rest
@@ -143,11 +144,11 @@ four_fit a b c d fa fb fc fd (suc (suc (suc zero))) = fd
 four_fit a b c d fa fb fc fd (suc (suc (suc (suc i)))) = omega arith
 
 -- what place says of each payload
-AllFit-place : (payloads : List (List ℕ)) → place_of payloads < 67108864 → AllFit payloads
+AllFit-place : (payloads : List (List ℕ)) → place_of payloads < SIDE_END → AllFit payloads
 AllFit-place [] fits = tt
 AllFit-place (payload ∷ payloads) fits = (omega (arith, place_of-cons payload payloads), AllFit-place payloads (omega (arith, place_of-cons payload payloads)))
 
-same_records : (payloads others : List (List ℕ)) (left rest : List ℕ) → place_of payloads < 67108864 → place_of others < 67108864 → IsClosed left → IsClosed rest → records payloads ++ left ≡ records others ++ rest → payloads ≡ others
+same_records : (payloads others : List (List ℕ)) (left rest : List ℕ) → place_of payloads < SIDE_END → place_of others < SIDE_END → IsClosed left → IsClosed rest → records payloads ++ left ≡ records others ++ rest → payloads ≡ others
 same_records payloads others left rest fits other_fits closed_left closed same = by_more longer.more longer.payloads_are longer.left_is
   where
     longer : Longer payloads others left rest

@@ -1,5 +1,6 @@
 -- The bytes of a frame.
-use Rattle.std.specs.Prelude.{◌≡◌, ℕ, ◌-◌, ◌≤◌, List, [], ◌∷◌, ◌++◌, length, take, drop}
+use Rattle.std.specs.Prelude.{◌≡◌, ℕ, ◌+◌, ◌-◌, ◌≤◌, List, [], ◌∷◌, ◌++◌, length, take, drop}
+use Rattle.gate_journal.specs.declared.frame.TheConstants.{MAX_PAYLOAD}
 use Rattle.gate_journal.specs.Records.{framed}
 
 -- what is behind four bytes and before the last one
@@ -10,4 +11,4 @@ payload_in bytes = drop 4 (take (length bytes - 1) bytes)
 pub record IsFrame (bytes : List ℕ) : Type 0 where
   pub parts : bytes ≡ framed (payload_in bytes) ++ 0 ∷ []
   pub least : 5 ≤ length bytes
-  pub most : length bytes ≤ 67108869
+  pub most : length bytes ≤ MAX_PAYLOAD + 5

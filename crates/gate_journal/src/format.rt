@@ -8,4 +8,4 @@ pub(crate) const OPEN: u8 = 1;
 pub(crate) const CLOSED: u8 = 0;
 
 /// Where a side's records end at most, with the gate behind them.
-pub(crate) const SIDE_END: u64 = 67_108_864;
+pub const SIDE_END: u64 = 67_108_864;

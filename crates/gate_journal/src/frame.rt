@@ -36,8 +36,8 @@ impl<T: Drop> From<AllocFailed<T>> for FrameFault {
     }
 }
 
-/// The most bytes of a payload.
-const MAX_PAYLOAD: usize = 67_108_864;
+/// How many bytes a payload has at most.
+pub const MAX_PAYLOAD: usize = 67_108_864;
 
 /// A payload of at most 67,108,864 bytes, ready to be written: behind its length, and before a closed gate.
 #[derive(Drop)]
@@ -60,8 +60,8 @@ impl Frame {
     /// Frames a payload.
     pub fn new(alloc: Global, payload: &[u8]) -> Result<Frame, FrameFault>
         ensures payload { IfOk result (λ frame. frame ≡ payload.now) }
-        ensures within { IfOk result (λ frame. length frame ≤ 67108864) }
-        ensures too_long { IsErrOf result FrameFault.TooLong ↔ (67108864 < length payload.now) }
+        ensures within { IfOk result (λ frame. length frame ≤ MAX_PAYLOAD) }
+        ensures too_long { IsErrOf result FrameFault.TooLong ↔ (MAX_PAYLOAD < length payload.now) }
     {
         if payload.len() > MAX_PAYLOAD {
             return Err(FrameFault::TooLong);
@@ -77,7 +77,7 @@ impl Frame {
     /// The length of the payload in bytes.
     pub fn bytes(&self) -> u64
         ensures len { result ≡ length self.now }
-        ensures within { result ≤ 67108864 }
+        ensures within { result ≤ MAX_PAYLOAD }
     {
         (self.bytes.len() - 5) as u64
     }
@@ -86,7 +86,7 @@ impl Frame {
     pub(crate) fn written(&self) -> &[u8]
         ensures bytes { result.now ≡ framed self.now ++ 0 ∷ [] }
         ensures len { length result.now ≡ length self.now + 5 }
-        ensures within { length self.now ≤ 67108864 }
+        ensures within { length self.now ≤ MAX_PAYLOAD }
     {
         &self.bytes
     }

@@ -29,12 +29,13 @@ pub struct Journal {
 impl Model for Journal {
     ghost use Rattle.std.specs.Prelude.{◌<◌, ◌≤◌};
     ghost use Rattle.gate_journal.specs.OpenSide.{OpenSide};
+    ghost use Rattle.gate_journal.specs.declared.format.TheConstants.{SIDE_END};
 
     ghost Value = { OpenSide };
 
     ghost view = { λ j. record { side = j.side; generation = j.generation; place = j.place } };
 
-    ghost invariant = { λ j. (j.generation ≤ 2) × (j.place < 67108864) };
+    ghost invariant = { λ j. (j.generation ≤ 2) × (j.place < SIDE_END) };
 }
 
 impl Journal {
@@ -63,7 +64,7 @@ impl Journal {
         first: &Frame,
     ) -> Result<Journal, DiskFailed>
         requires known { generation ≤ 2 }
-        requires fits { length first.now + 15 ≤ 67108864 }
+        requires fits { length first.now + 15 ≤ SIDE_END }
         requires shut { H.tells → IsShutOn H.Host host.old side }
 
         ensures made { H.tells → IfOk result (λ journal. Keeps H.Host journal host.new (first.now ∷ [])) }
@@ -177,7 +178,7 @@ impl Journal {
 
         ensures place { OnOk result (self.new ≡ record self.old { place = self.old.place + length next.now + 5 }) }
         ensures same { OnErr result (self.new ≡ self.old) }
-        ensures full { IsErrOf result AppendFault.SideFull ↔ (67108864 < self.old.place + length next.now + 6) }
+        ensures full { IsErrOf result AppendFault.SideFull ↔ (SIDE_END < self.old.place + length next.now + 6) }
         ensures full_same { IsErrOf result AppendFault.SideFull → host.new ≡ host.old }
 
         ensures cost { H.tells → HasCost (length next.now + 6) (H.written host.old) (H.written host.new) result }

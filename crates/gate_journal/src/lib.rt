@@ -14,7 +14,10 @@ mod reading;
 mod writing;
 
 pub use faults::{AppendFault, OpenFault};
-pub use frame::{Frame, FrameFault};
+pub use format::SIDE_END;
+pub use frame::{Frame, FrameFault, MAX_PAYLOAD};
 pub use journal::Journal;
 pub use laws::one_reading;
 
+#[cfg(test)]
+mod tests;
