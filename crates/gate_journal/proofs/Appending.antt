@@ -11,10 +11,10 @@ use Rattle.host_model.specs.Sides.{other}
 use Rattle.host_model.proofs.Meeting.{then_met, met_weaker, on_side_weaker, on_side_from}
 use Rattle.gate_journal.specs.declared.format.TheConstants.{SIDE_END}
 use Rattle.gate_journal.specs.Frame.{payload_in}
-use Rattle.gate_journal.specs.Journal.{Stands, Keeps, IsBeforeOrAfter}
+use Rattle.gate_journal.specs.Journal.{Stands, StandsWithGate, IsBeforeOrAfter}
 use Rattle.gate_journal.specs.OpenSide.{OpenSide}
 use Rattle.gate_journal.specs.Records.{framed, records, header, opened, place_of, IsClosed, IsOpen, IsKept}
-use Rattle.gate_journal.proofs.Standing.{keeps_kept}
+use Rattle.gate_journal.proofs.Standing.{kept_of_stands}
 use Rattle.gate_journal.proofs.Gates.{torn_behind, torn_gate, written_gate, written_behind, Staged}
 
 pub length-framed : (payload : List ℕ) → length (framed payload) ≡ length payload + 4
@@ -103,17 +103,17 @@ module _ (generation : ℕ) (payloads : List (List ℕ)) (next : List ℕ) (plac
       next_kept stage.tail new (is ∙ ap (λ (d : List ℕ). overwritten d place (1 ∷ [])) stage.bytes ∙ written_gate (opened generation payloads) place at_front stage.gate 1 _)
 
 -- what is met up to the end of the first write, and of the second. The journal is seen as its fields, and as now
-module _ {H : Type 0} (h : Ghosts H) (journal now : OpenSide) (seen : journal ≡ now) (start : H) (payloads : List (List ℕ)) (next : List ℕ) (fits_now : now.place + length next + 5 < SIDE_END) (keeps : Keeps h now start payloads) (n : ℕ) where
+module _ {H : Type 0} (h : Ghosts H) (journal now : OpenSide) (seen : journal ≡ now) (start : H) (payloads : List (List ℕ)) (next : List ℕ) (fits_now : now.place + length next + 5 < SIDE_END) (stands_now : StandsWithGate h now start payloads) (n : ℕ) where
   fits : journal.place + length next + 5 < SIDE_END
   fits = omega (arith, fits_now, ap (λ (j : OpenSide). j.place) seen)
 
-  was : Keeps h journal start payloads
-  was = subst (λ (j : OpenSide). Keeps h j start payloads) (sym seen) keeps
+  was : StandsWithGate h journal start payloads
+  was = subst (λ (j : OpenSide). StandsWithGate h j start payloads) (sym seen) stands_now
 
   still_before : (c : List ℕ) → IsAfter (Torn (journal.place + 1) n) (h.images start journal.side) c → IsBeforeOrAfter journal.generation payloads next c
   still_before c after =
       let stands = was.stands in
-      inl (kept_behind journal.generation payloads next journal.place stands.place stands.side.known fits n (h.reads start journal.side) c (keeps_kept h journal start payloads was)
+      inl (kept_behind journal.generation payloads next journal.place stands.place stands.side.known fits n (h.reads start journal.side) c (kept_of_stands h journal start payloads was)
       (subst (λ (d : List ℕ). Torn (journal.place + 1) n d c) (stands.only after.0 after.1) after.2))
 
   pub first_met : (mid : H) → MeetsAll h start mid (OnSideOf h start journal.side (IsAfter (Torn (journal.place + 1) n) (h.images start journal.side)))
@@ -138,7 +138,7 @@ module _ {H : Type 0} (h : Ghosts H) (journal now : OpenSide) (seen : journal �
 pub appended : {H : Type 0} (h : Ghosts H) (journal now : OpenSide) → journal ≡ now → (start mid new : H) (payloads : List (List ℕ)) (next written : List ℕ) (end : ℕ) → end ≡ now.place + length next + 5 → end < SIDE_END
     → Stands h now start payloads → written ≡ framed next ++ 0 ∷ [] → h.reads mid journal.side ≡ overwritten (h.reads start journal.side) (journal.place + 1) written
     → h.reads new journal.side ≡ overwritten (h.reads mid journal.side) journal.place (1 ∷ []) → IsDurable h new journal.side
-    → Keeps h (record { side = journal.side; generation = journal.generation; place = end }) new (payloads ++ next ∷ [])
+    → StandsWithGate h (record { side = journal.side; generation = journal.generation; place = end }) new (payloads ++ next ∷ [])
 appended h journal now seen start mid new payloads next written end end_is fits_now stands_now framed_is is is_new only =
     let stands = subst (λ (j : OpenSide). Stands h j start payloads) (sym seen) stands_now in
     let side = journal.side in

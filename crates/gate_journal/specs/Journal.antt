@@ -15,7 +15,7 @@ pub record Stands {H : Type 0} (h : Ghosts H) (journal : OpenSide) (host : H) (p
   pub only : IsDurable h host journal.side
 
 -- and the side has a byte at that place
-pub record Keeps {H : Type 0} (h : Ghosts H) (journal : OpenSide) (host : H) (payloads : List (List ℕ)) : Type 0 where
+pub record StandsWithGate {H : Type 0} (h : Ghosts H) (journal : OpenSide) (host : H) (payloads : List (List ℕ)) : Type 0 where
   pub stands : Stands h journal host payloads
   pub gate : journal.place < length (h.reads host journal.side)
 

@@ -7,7 +7,7 @@ ghost use Rattle.gate_journal.specs.Costs.{HasCost};
 ghost use Rattle.gate_journal.specs.Records.{IsClosed, IsOpen, IsNoJournal};
 
 use crate::faults::{AppendFault, OpenFault};
-use crate::format::{CLOSED, OPEN, SIDE_END};
+use crate::format::{CLOSED, FIRST_GATE, OPEN, SIDE_END};
 use crate::frame::Frame;
 use crate::reading::{read_header, read_records, read_side, without_header};
 use crate::writing::write_synced;
@@ -39,7 +39,7 @@ impl Model for Journal {
 }
 
 impl Journal {
-    ghost use Rattle.gate_journal.specs.Journal.{Stands, Keeps, IsShutOn, IsShutOrHas, IsBeforeOrAfter, SameButFirst, HasFailed};
+    ghost use Rattle.gate_journal.specs.Journal.{Stands, StandsWithGate, IsShutOn, IsShutOrHas, IsBeforeOrAfter, SameButFirst, HasFailed};
 
     /// The side's generation: 0, 1 or 2.
     pub fn generation(&self) -> u8
@@ -67,7 +67,7 @@ impl Journal {
         requires fits { length first.now + 15 ≤ SIDE_END }
         requires shut { H.tells → IsShutOn H.Host host.old side }
 
-        ensures made { H.tells → IfOk result (λ journal. Keeps H.Host journal host.new (first.now ∷ [])) }
+        ensures made { H.tells → IfOk result (λ journal. StandsWithGate H.Host journal host.new (first.now ∷ [])) }
         ensures side { IfOk result (λ journal. journal.side ≡ side) }
         ensures generation { IfOk result (λ journal. journal.generation ≡ generation) }
         ensures place { IfOk result (λ journal. journal.place ≡ length first.now + 14) }
@@ -83,12 +83,12 @@ impl Journal {
     {
         let header = [b'N', b'I', b'M', b'B', b'U', b'S', b'1', generation, OPEN];
         host.write_at(side, 1, &header)?;
-        write_synced(host, side, 10, first.written())?;
+        write_synced(host, side, FIRST_GATE + 1, first.written())?;
         write_synced(host, side, 0, &[OPEN])?;
         Ok(Journal {
             side,
             generation,
-            place: first.bytes() + 14,
+            place: FIRST_GATE + first.bytes() + 5,
         })
     }
 
@@ -164,10 +164,10 @@ impl Journal {
         requires stands { H.tells → (payloads : List (List ℕ)) × Stands H.Host self.old host.old payloads }
 
         ensures acknowledged { H.tells → (payloads : List (List ℕ)) → Stands H.Host self.old host.old payloads
-            → OnOk result (Keeps H.Host self.new host.new (payloads ++ next.now ∷ [])) }
+            → OnOk result (StandsWithGate H.Host self.new host.new (payloads ++ next.now ∷ [])) }
 
         // At each moment the side has the payloads of before, or these and the next.
-        ensures any_moment { H.tells → (payloads : List (List ℕ)) → Keeps H.Host self.old host.old payloads
+        ensures any_moment { H.tells → (payloads : List (List ℕ)) → StandsWithGate H.Host self.old host.old payloads
             → MeetsAll H.Host host.old host.new
             (OnSideOf H.Host host.old self.old.side (IsBeforeOrAfter self.old.generation payloads next.now)) }
 

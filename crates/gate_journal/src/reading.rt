@@ -1,12 +1,12 @@
 // What a side has, read from its bytes.
-ghost use Rattle.std.specs.Prelude.{◌≡◌, ◌⊎◌, ◌<◌, ◌≤◌, ◌+◌, ◌++◌, [], ◌∷◌, List, ℕ, length, map, IfOk, IfSome, IfNone, IsErrOf, OnOk};
+ghost use Rattle.std.specs.Prelude.{◌≡◌, ◌⊎◌, ◌≤◌, ◌++◌, ◌∷◌, map, IfOk, IfSome, IfNone, IsErrOf};
 ghost use Rattle.gate_journal.specs.Reading.{HasNoHeader, HasNoRecords, HasRecords, IsNext};
 ghost use Rattle.gate_journal.specs.Records.{header, place_of, IsClosed, IsNoJournal};
-ghost use Rattle.host_model.specs.Causes.{Rose, HasCause};
+ghost use Rattle.host_model.specs.Causes.{Rose};
 ghost use Rattle.host_model.specs.Hosts.{MeetsAll, NowOf, StillAll};
 
 use crate::faults::OpenFault;
-use crate::format::{OPEN, SIDE_END};
+use crate::format::{FIRST_GATE, OPEN, SIDE_END};
 use host_model::{Host, Side};
 use std::alloc::{AllocError, Global};
 
@@ -89,10 +89,10 @@ pub(crate) fn read_records(
         }
     }
     let size = (bytes.len() - rest.len()) as u64;
-    if size >= SIDE_END - 9 {
+    if size >= SIDE_END - FIRST_GATE {
         return Ok(None);
     }
-    Ok(Some((size + 9, payloads)))
+    Ok(Some((FIRST_GATE + size, payloads)))
 }
 
 /// Why a side without a header is not open.

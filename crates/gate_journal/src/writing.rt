@@ -1,5 +1,5 @@
 // A write that is on the disk when it is done.
-ghost use Rattle.std.specs.Prelude.{◌≡◌, ◌≤◌, length, OnOk};
+ghost use Rattle.std.specs.Prelude.{◌≡◌, length, OnOk};
 ghost use Rattle.host_model.specs.Causes.{HasCause};
 ghost use Rattle.host_model.specs.Hosts.{IsDurable, KeepsAll, MeetsAll, OnSideOf};
 ghost use Rattle.host_model.specs.Images.{overwritten, Torn, IsAfter};

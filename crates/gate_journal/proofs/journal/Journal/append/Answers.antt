@@ -4,21 +4,21 @@ use Rattle.gate_journal.proofs.journal.Journal.append.Goals as goal
 
 -- the first write leaves the payloads as they were
 pub returns-in_err-write_synced-clause-any_moment : goal.returns-in_err-write_synced-clause-any_moment
-returns-in_err-write_synced-clause-any_moment g c tells payloads keeps =
+returns-in_err-write_synced-clause-any_moment g c tells payloads gated =
     let fits : c.args.self.now.place + length c.args.next.now + 5 < 67108864 = omega arith in
-    first_met g.H.Host _ _ c.self.view_is c.args.host.now payloads c.args.next.now fits keeps (length c.written.result.now) c.write_synced.new.host (c.write_synced.ensures.any_moment tells)
+    first_met g.H.Host _ _ c.self.view_is c.args.host.now payloads c.args.next.now fits gated (length c.written.result.now) c.write_synced.new.host (c.write_synced.ensures.any_moment tells)
 
 -- the second leaves them, or these and the next
 pub returns-in_err-write_synced-2-clause-any_moment : goal.returns-in_err-write_synced-2-clause-any_moment
-returns-in_err-write_synced-2-clause-any_moment g c tells payloads keeps =
+returns-in_err-write_synced-2-clause-any_moment g c tells payloads gated =
     let fits : c.args.self.now.place + length c.args.next.now + 5 < 67108864 = omega arith in
-    second_met g.H.Host _ _ c.self.view_is c.args.host.now payloads c.args.next.now fits keeps (length c.written.result.now) c.write_synced.new.host c.write_synced-2.new.host c.written.result.now
+    second_met g.H.Host _ _ c.self.view_is c.args.host.now payloads c.args.next.now fits gated (length c.written.result.now) c.write_synced.new.host c.write_synced-2.new.host c.written.result.now
     (c.write_synced.ensures.any_moment tells) (c.write_synced.ensures.rest tells) c.written.ensures.bytes (c.in_ok-write_synced.ensures.after tells) (c.in_ok-write_synced.ensures.durable tells) (c.write_synced-2.ensures.any_moment tells)
 
 pub returns-clause-any_moment : goal.returns-clause-any_moment
-returns-clause-any_moment g c tells payloads keeps =
+returns-clause-any_moment g c tells payloads gated =
     let fits : c.args.self.now.place + length c.args.next.now + 5 < 67108864 = omega arith in
-    second_met g.H.Host _ _ c.self.view_is c.args.host.now payloads c.args.next.now fits keeps (length c.written.result.now) c.write_synced.new.host c.write_synced-2.new.host c.written.result.now
+    second_met g.H.Host _ _ c.self.view_is c.args.host.now payloads c.args.next.now fits gated (length c.written.result.now) c.write_synced.new.host c.write_synced-2.new.host c.written.result.now
     (c.write_synced.ensures.any_moment tells) (c.write_synced.ensures.rest tells) c.written.ensures.bytes (c.in_ok-write_synced.ensures.after tells) (c.in_ok-write_synced.ensures.durable tells) (c.write_synced-2.ensures.any_moment tells)
 
 -- and then the next payload is on the disk
