@@ -1,39 +1,28 @@
-// A payload through its life, sides as they may be found, and what a crash leaves of an append.
+// Sides as they may be found, a payload read back, and what a crash leaves of an append.
 use super::*;
 use host_model::{Choice, MemHost, Side};
+use std::alloc::Global;
 use std::test::Fail;
 
-// A side of generation 2 with the payload `one`, up to the gate that ends its records.
-const ONE: &[u8] = b"\x01NIMBUS1\x02\x01\x00\x00\x00\x03one";
+// How many payloads are read of a side with these bytes.
+fn count_in(alloc: Global, bytes: &[u8]) -> Result<usize, OpenFault> {
+    let mut host = MemHost::new(alloc, bytes, &[], bytes.len(), &[])?;
+    let (_, payloads) = Journal::open(alloc, &mut host, Side::Left)?;
+    Ok(payloads.len())
+}
 
-#[test]
-fn payloads_are_read_back(rt: HostRuntime) -> Result<(), Fail> {
-    let alloc = rt.alloc();
+// A host on which `one` was made and `two` appended, whose call of this number fails.
+fn appended(alloc: Global, failing: u64) -> Result<(MemHost, Result<(), AppendFault>), Fail> {
     let first = Frame::new(alloc, b"one")?;
-    assert_eq!(rt; first.bytes(), 3);
-    let mut host = MemHost::new(alloc, &[0], &[], 4096, &[])?;
+    let next = Frame::new(alloc, b"two")?;
+    let mut host = MemHost::new(alloc, &[0], &[], 4096, &[failing])?;
     let mut journal = Journal::make(&mut host, Side::Left, 2, &first)?;
-    let next = Frame::new(alloc, b"")?;
-    assert_eq!(rt; journal.end_after(&next), 23);
-    journal.append(&mut host, &next)?;
-    let image = host.image(alloc, Side::Left, Choice::Old)?;
-    assert_eq!(rt;
-        image.as_slice(),
-        b"\x01NIMBUS1\x02\x01\x00\x00\x00\x03one\x01\x00\x00\x00\x00\x00".as_slice()
-    );
-    let (again, payloads) = Journal::open(alloc, &mut host, Side::Left)?;
-    assert_eq!(rt; again.generation(), 2);
-    assert_eq!(rt; payloads.len(), 2);
-    assert_eq!(rt; payloads[0].as_slice(), b"one".as_slice());
-    assert_eq!(rt; payloads[1].as_slice(), b"".as_slice());
-    Journal::close(&mut host, Side::Left)?;
-    let closed = Journal::open(alloc, &mut host, Side::Left);
-    assert!(rt; matches!(&closed, Err(OpenFault::Closed)));
-    Ok(())
+    let answer = journal.append(&mut host, &next);
+    Ok((host, answer))
 }
 
 #[test]
-fn sides_are_opened_or_refused(rt: HostRuntime) -> Result<(), Fail> {
+fn sides_are_opened_or_refused(rt: HostRuntime) {
     let alloc = rt.alloc();
     let cases: [(&[u8], Result<usize, OpenFault>); 13] = [
         (b"", Err(OpenFault::Closed)),
@@ -43,7 +32,7 @@ fn sides_are_opened_or_refused(rt: HostRuntime) -> Result<(), Fail> {
         (b"\x01NIMBUS2\x00", Err(OpenFault::NotAJournal)),
         (b"\x01NIMBUS1\x03", Err(OpenFault::NotAJournal)),
         (b"\x01NIMBUS1\x02", Ok(0)),
-        (ONE, Ok(1)),
+        (b"\x01NIMBUS1\x02\x01\x00\x00\x00\x03one", Ok(1)),
         (b"\x01NIMBUS1\x02\x01\x00\x00\x00\x03one\x00\x01\x01", Ok(1)),
         (b"\x01NIMBUS1\x02\x07\x00\x00\x00\x03one\x00", Ok(0)),
         (
@@ -60,13 +49,27 @@ fn sides_are_opened_or_refused(rt: HostRuntime) -> Result<(), Fail> {
         ),
     ];
     for (bytes, want) in cases {
-        let mut host = MemHost::new(alloc, bytes, &[], bytes.len(), &[])?;
-        let found = match Journal::open(alloc, &mut host, Side::Left) {
-            Ok((_, payloads)) => Ok(payloads.len()),
-            Err(fault) => Err(fault),
-        };
-        assert_eq!(rt; found, want, "at {bytes:?}");
+        assert_eq!(rt; count_in(alloc, bytes), want, "at {bytes:?}");
     }
+}
+
+#[test]
+fn payloads_are_read_back_until_the_side_is_closed(rt: HostRuntime) -> Result<(), Fail> {
+    let alloc = rt.alloc();
+    let (mut host, answer) = appended(alloc, 99)?;
+    assert_eq!(rt; answer, Ok(()));
+    let (journal, payloads) = Journal::open(alloc, &mut host, Side::Left)?;
+    let next = Frame::new(alloc, b"abc")?;
+    assert_eq!(rt; next.bytes(), 3);
+    assert_eq!(rt; journal.generation(), 2);
+    assert_eq!(rt; journal.end_after(&next), 34);
+    assert_eq!(rt; payloads.len(), 2);
+    for (payload, want) in payloads.iter().zip([b"one", b"two"]) {
+        assert_eq!(rt; payload.as_slice(), want.as_slice());
+    }
+    Journal::close(&mut host, Side::Left)?;
+    let closed = Journal::open(alloc, &mut host, Side::Left);
+    assert!(rt; matches!(&closed, Err(OpenFault::Closed)));
     Ok(())
 }
 
@@ -75,43 +78,47 @@ fn sides_are_opened_or_refused(rt: HostRuntime) -> Result<(), Fail> {
 #[test]
 fn a_crash_leaves_an_append_done_or_not(rt: HostRuntime) -> Result<(), Fail> {
     let alloc = rt.alloc();
-    let closed: &[u8] = b"\x00\x00\x00\x00\x03two\x00";
+    let closed: &[u8] = b"\x01NIMBUS1\x02\x01\x00\x00\x00\x03one\x00\x00\x00\x00\x03two\x00";
+    let before: &[u8] = b"\x01NIMBUS1\x02\x01\x00\x00\x00\x03one\x00";
     let cases: [(u64, Choice, &[u8], usize); 12] = [
-        (6, Choice::Old, b"\x00", 1),
-        (6, Choice::New, b"\x00", 1),
-        (6, Choice::Torn, b"\x00", 1),
-        (7, Choice::Old, b"\x00", 1),
+        (6, Choice::Old, before, 1),
+        (6, Choice::New, before, 1),
+        (6, Choice::Torn, before, 1),
+        (7, Choice::Old, before, 1),
         (7, Choice::New, closed, 1),
-        (7, Choice::Torn, b"\x00\xff\xff\xff\xff\xff\xff\xff\xff", 1),
+        (
+            7,
+            Choice::Torn,
+            b"\x01NIMBUS1\x02\x01\x00\x00\x00\x03one\x00\xff\xff\xff\xff\xff\xff\xff\xff",
+            1,
+        ),
         (8, Choice::Old, closed, 1),
         (8, Choice::New, closed, 1),
         (8, Choice::Torn, closed, 1),
         (9, Choice::Old, closed, 1),
-        (9, Choice::New, b"\x01\x00\x00\x00\x03two\x00", 2),
-        (9, Choice::Torn, b"\xff\x00\x00\x00\x03two\x00", 1),
+        (
+            9,
+            Choice::New,
+            b"\x01NIMBUS1\x02\x01\x00\x00\x00\x03one\x01\x00\x00\x00\x03two\x00",
+            2,
+        ),
+        (
+            9,
+            Choice::Torn,
+            b"\x01NIMBUS1\x02\x01\x00\x00\x00\x03one\xff\x00\x00\x00\x03two\x00",
+            1,
+        ),
     ];
-    let first = Frame::new(alloc, b"one")?;
-    let next = Frame::new(alloc, b"two")?;
-    for (failing, choice, tail, count) in cases {
-        let mut host = MemHost::new(alloc, &[0], &[], 4096, &[failing])?;
-        let mut journal = Journal::make(&mut host, Side::Left, 2, &first)?;
-        assert_eq!(rt;
-            journal.append(&mut host, &next),
-            Err(AppendFault::DiskFault)
-        );
+    for (failing, choice, want, count) in cases {
+        let (host, answer) = appended(alloc, failing)?;
+        assert_eq!(rt; answer, Err(AppendFault::DiskFault));
         let image = host.image(alloc, Side::Left, choice)?;
         assert_eq!(rt;
-            image.strip_prefix(ONE),
-            Some(tail),
+            image.as_slice(),
+            want,
             "{choice:?} after call {failing} failed"
         );
-        let mut after = MemHost::new(alloc, &image, &[], image.len(), &[])?;
-        let (_, payloads) = Journal::open(alloc, &mut after, Side::Left)?;
-        assert_eq!(rt;
-            payloads.len(),
-            count,
-            "{choice:?} after call {failing} failed"
-        );
+        assert_eq!(rt; count_in(alloc, &image), Ok(count));
     }
     Ok(())
 }
