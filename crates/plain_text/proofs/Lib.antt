@@ -1,0 +1,5 @@
+pub mod Decimals
+pub mod Splitting
+pub mod Slugs
+pub mod Days
+pub mod Written

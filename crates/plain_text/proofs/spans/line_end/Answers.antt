@@ -1,0 +1,5 @@
+use Rattle.plain_text.proofs.Splitting.{position-IsFirstByte}
+use Rattle.plain_text.proofs.spans.line_end.Goals as goal
+
+pub returns : goal.returns
+returns c = position-IsFirstByte _ c.args.bytes.now c.memchr.result c.memchr.ensures

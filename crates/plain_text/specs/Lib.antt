@@ -1,0 +1,5 @@
+pub mod Names
+pub mod Spans
+pub mod Numbers
+pub mod Moments
+pub mod Laws
