@@ -6,3 +6,4 @@ pub mod Whole
 pub mod RoundTrip
 pub mod Pairs
 pub mod Pairwise
+pub mod Searching

@@ -1,5 +1,5 @@
 -- Lists are equal where they are as long and equal at each place.
-use Rattle.std.proofs.Common.{◌≡◌, ◌≢◌, ℕ, suc, ◌≤◌, max, List, [], ◌∷◌, length, map, Bool, true, false, ◌&&◌, sym, ap, ap₂, ◌∙◌, subst, arith, refl}
+use Rattle.std.proofs.Common.{◌≡◌, ◌≢◌, ℕ, suc, ◌≤◌, List, [], ◌∷◌, length, map, Bool, true, false, ◌&&◌, sym, ap, ap₂, ◌∙◌, subst, arith, refl}
 use Rattle.std.specs.Prelude.{bytes_eq}
 use Rattle.json_tree.specs.Json.{Json, depth, items_depth, members_depth, items_of, members_of}
 use Rattle.json_tree.specs.Tree.{json_of, member_of}

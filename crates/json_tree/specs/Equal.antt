@@ -1,7 +1,6 @@
 -- When two values are equal: the same numbers, texts, items and members in the same order.
-use Rattle.std.specs.Prelude.{◌≡◌, ℕ, ℤ, Bool, true, false, ◌&&◌, List, bytes_eq}
+use Rattle.std.specs.Prelude.{Bool, true, false, ◌&&◌, bytes_eq}
 use Rattle.std.specs.Ordering.{int_eq}
-use Rattle.std.specs.Cmp.{IsPartialEquivalence, IsEquivalence, partial_equiv_from_equiv}
 use Rattle.json_tree.specs.Json.{Json, null, truth, whole, odd, text, list, object, Items, no_items, item, Members, no_members, member}
 
 abbrev pub bool_eq : Bool → Bool → Bool

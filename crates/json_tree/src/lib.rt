@@ -1,4 +1,4 @@
-//! JSON as a plain tree: read from bytes, written as compact text.
+//! JSON values (RFC 8259) as trees: read from bytes, compared, and written as compact text.
 #![tactic(auto)]
 
 mod copying;
@@ -9,7 +9,7 @@ mod rereading;
 mod tree;
 mod writing;
 
-pub use laws::texts_read_back;
+pub use laws::{equal_values_are_one, texts_read_back};
 pub use reading::{TreeFault, read};
 pub use rereading::reread;
 pub use sequences::Text;

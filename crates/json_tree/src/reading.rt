@@ -1,20 +1,23 @@
-//! Bytes to a tree.
-ghost use Rattle.std.specs.Prelude.{◌≡◌, ◌≤◌, ◌<◌, Some, None, IfOk};
+// Reading: bytes to a tree.
+ghost use Rattle.std.specs.Prelude.{◌≡◌, ◌≤◌, ◌<◌, Some, None, Err, IfOk};
 ghost use Rattle.serde_json.specs.Data.{depth as nesting, items_depth, members_depth};
 ghost use Rattle.serde_json.specs.View.{view, items_view, members_view};
-ghost use Rattle.json_tree.specs.Json.{Json, depth, items_of, members_of};
+ghost use Rattle.json_tree.specs.Json.{depth, items_of, members_of};
 ghost use Rattle.json_tree.specs.Tree.{json_of};
-ghost use Rattle.json_tree.specs.Bytes.{tree_of, of_data, of_items, of_members, of_whole, max_depth};
+ghost use Rattle.json_tree.specs.Bytes.{tree_of, of_data, of_items, of_members, of_whole, max_depth, IsTooDeep};
 
 use crate::tree::{Items, Members, Tree};
 use sequences::Text;
 use serde_json::{Map, Value};
 use std::alloc::{AllocError, Global};
 
-/// Why bytes give no tree.
+/// Why `read` gives no tree.
 #[derive(Clone, Copy, Debug, PartialEq, Eq)]
 pub enum TreeFault {
+    /// The bytes are no JSON value in UTF-8, or it nests beyond 127.
     NotJson,
+    /// The value nests beyond 64: a scalar has depth 0, and a list or an object is one deeper than
+    /// what it holds.
     TooDeep,
     OutOfMemory,
 }
@@ -31,13 +34,12 @@ impl From<AllocError> for TreeFault {
 
 const MAX_DEPTH: usize = 64;
 
-/// The tree that the bytes are.
+/// The tree that the bytes are. Where an object has a key twice, the last value stays.
 pub fn read(alloc: Global, bytes: &[u8]) -> Result<Tree, TreeFault>
     ensures ok { IfOk result (λ t. tree_of bytes.now ≡ Some (json_of t)) }
     ensures shallow { IfOk result (λ t. depth (json_of t) ≤ max_depth) }
     ensures not_json { result ≡ Err TreeFault.NotJson → tree_of bytes.now ≡ None }
-    ensures too_deep { result ≡ Err TreeFault.TooDeep
-        → (x : Json) × (tree_of bytes.now ≡ Some x) × (max_depth < depth x) }
+    ensures too_deep { result ≡ Err TreeFault.TooDeep → IsTooDeep bytes.now }
 {
     let value = match Value::from_slice(alloc, bytes) {
         Ok(value) => value,

@@ -1,11 +1,12 @@
-//! The tree of a JSON value.
+// The tree of a JSON value: what it keeps by its type, how it is built, and how a key is found.
 ghost use Rattle.std.specs.Prelude.{◌≡◌, [], ◌∷◌, ◌++◌, map, option_map, OnOk, OnErr};
 
 use sequences::Text;
 use std::alloc::{AllocError, Global};
 use std::marker::Model;
 
-/// A JSON value. `Odd` is a number that is no `i64`.
+/// A JSON value. `Odd` is each number that is no `i64`, as `1.5`, `1.0`, `-0` and 2^63.
+/// A clone is the same value, and `==` holds of the same values alone.
 #[cycle(tree)]
 #[derive(Drop)]
 pub enum Tree {
@@ -18,14 +19,15 @@ pub enum Tree {
     Object(Members),
 }
 
-/// The items of a list.
+/// The items of a list. Contracts see it as the list of their values.
 #[cycle(tree)]
 #[derive(Drop)]
 pub struct Items {
     items: Vec<Tree>,
 }
 
-/// The members of an object, in the order of their keys.
+/// The members of an object, whose keys rise by their bytes. Contracts see it as the list of
+/// their keys and values.
 #[cycle(tree)]
 #[derive(Drop)]
 pub struct Members {
@@ -81,6 +83,7 @@ impl Items {
     ghost use Rattle.json_tree.specs.Json.{AreSoundItems, items_of};
     ghost use Rattle.json_tree.specs.Tree.{json_of};
 
+    /// A list without items. It takes no memory.
     pub fn new(alloc: Global) -> Items
         ensures { result ≡ [] }
     {
@@ -89,11 +92,11 @@ impl Items {
         }
     }
 
-    pub fn allocator(&self) -> Global {
+    pub(crate) fn allocator(&self) -> Global {
         *self.items.allocator()
     }
 
-    /// Puts an item at the end.
+    /// Puts an item at the end. Want of memory leaves the list as it was.
     pub fn push(&mut self, item: Tree) -> Result<(), AllocError>
         ensures ok { OnOk result (self.new ≡ self.old ++ json_of item ∷ []) }
         ensures err { OnErr result (self.new ≡ self.old) }
@@ -103,6 +106,7 @@ impl Items {
         Ok(())
     }
 
+    /// The items. It takes no memory.
     pub fn as_slice(&self) -> &[Tree]
         ensures items { map json_of result.now ≡ self.now }
         ensures sound { AreSoundItems (items_of self.now) }
@@ -115,6 +119,7 @@ impl Members {
     ghost use Rattle.json_tree.specs.Json.{AreSoundMembers, IsAbove, get_member, members_of};
     ghost use Rattle.json_tree.specs.Tree.{json_of, member_of};
 
+    /// An object without members. It takes no memory.
     pub fn new(alloc: Global) -> Members
         ensures { result ≡ [] }
     {
@@ -123,11 +128,12 @@ impl Members {
         }
     }
 
-    pub fn allocator(&self) -> Global {
+    pub(crate) fn allocator(&self) -> Global {
         *self.members.allocator()
     }
 
-    /// Puts a member at the end. Its key is above each that is there.
+    /// Puts a member at the end, whose key is above each that is there. Want of memory leaves the
+    /// object as it was.
     pub fn push(&mut self, key: Text, value: Tree) -> Result<(), AllocError>
         requires { IsAbove key self.old }
         ensures ok { OnOk result (self.new ≡ self.old ++ (key, json_of value) ∷ []) }
@@ -139,19 +145,18 @@ impl Members {
         Ok(())
     }
 
-    /// The value of the key.
+    /// The value of the key, by a binary search. It takes no memory.
     pub fn get(&self, key: &str) -> Option<&Tree>
         ensures { option_map (λ t. json_of t.now) result ≡ get_member key.now (members_of self.now) }
     {
-        let pairs = self.as_slice();
-        for (name, tree) in pairs {
-            if name.as_str() == key {
-                return Some(tree);
-            }
+        let members = self.as_slice();
+        match members.binary_search_by(|member| member.0.as_str().cmp(key)) {
+            Ok(place) => Some(&members[place].1),
+            Err(_) => None,
         }
-        None
     }
 
+    /// The keys and their values, in order. It takes no memory.
     pub fn as_slice(&self) -> &[(Text, Tree)]
         ensures members { map member_of result.now ≡ self.now }
         ensures sound { AreSoundMembers (members_of self.now) }
@@ -164,7 +169,8 @@ impl Tree {
     ghost use Rattle.json_tree.specs.Json.{get, IsSound};
     ghost use Rattle.json_tree.specs.Tree.{json_of};
 
-    /// Does nothing: its contract is what each tree keeps by its type.
+    /// What each tree keeps by its type: keys rise at every level, each text is in UTF-8, and each
+    /// whole number is an `i64`. It does nothing else.
     pub fn keeps(&self)
         ensures sound { IsSound (json_of self.now) }
     {
@@ -185,7 +191,7 @@ impl Tree {
         }
     }
 
-    /// The value of the key, where the tree is an object that has it.
+    /// The value of the key, where the tree is an object that has it. It takes no memory.
     pub fn get(&self, key: &str) -> Option<&Tree>
         ensures { option_map (λ t. json_of t.now) result ≡ get key.now (json_of self.now) }
     {

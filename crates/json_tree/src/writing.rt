@@ -1,4 +1,4 @@
-//! A tree to text.
+// Writing: a tree to its compact text.
 ghost use Rattle.std.specs.Prelude.{◌≡◌, ◌≤◌, Some, IfOk};
 ghost use Rattle.serde_json.specs.View.{view, items_view, members_view};
 ghost use Rattle.json_tree.specs.Json.{depth, items_of, members_of};
@@ -10,7 +10,8 @@ use sequences::Text;
 use serde_json::{Map, Value};
 use std::alloc::{AllocError, Global};
 
-/// The tree's text, with no space.
+/// The tree's compact text, with no blank between its parts. `Odd` is spelled
+/// `18446744073709551615`, which is no `i64`, so that it reads back as `Odd`.
 pub fn write(alloc: Global, tree: &Tree) -> Result<Text, AllocError>
     ensures text { IfOk result (λ s. s ≡ text_of (json_of tree.now)) }
     ensures reads_back { IfOk result (λ s. depth (json_of tree.now) ≤ max_depth

@@ -1,4 +1,4 @@
-use Rattle.std.proofs.Common.{◌≡◌, ◌&&◌, sym, ap, ap₂, ◌∙◌, subst, arith, rules, None, refl}
+use Rattle.std.proofs.Common.{◌≡◌, ◌&&◌, sym, ap, ap₂, ◌∙◌, arith, None, refl}
 use Rattle.std.proofs.lemmas.Iterator.{empty_from_Zip}
 use Rattle.json_tree.proofs.Pairwise.{trees_eq, pairs_eq, unequal_trees, unequal_pairs, trees_begun, pairs_begun, trees_turn, pairs_turn}
 use Rattle.json_tree.proofs.equality.+same.Goals as goal
