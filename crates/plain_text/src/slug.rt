@@ -49,7 +49,7 @@ impl Slug {
     }
 }
 
-/// The slug of these bytes.
+/// The slug that the bytes are.
 pub fn slug_of(alloc: Global, bytes: &[u8]) -> Result<Slug, SlugFault>
     ensures ok { IfOk result (λ s. s ≡ bytes.now) }
     ensures slug { IfOk result (λ _. bad_place bytes.now ≡ None) }
