@@ -1,0 +1,11 @@
+pub mod Scans
+pub mod LongestSign
+pub mod Soundness
+pub mod Uniqueness
+pub mod Bytes
+pub mod Runs
+pub mod Quoting
+pub mod SignSteps
+pub mod TokenFront
+pub mod LexLoop
+pub mod SpanLaws
