@@ -1,0 +1,12 @@
+pub mod Tools
+pub mod Seen
+pub mod Sound
+pub mod Agree
+pub mod Nots
+pub mod Complete
+pub mod OneTree
+pub mod Views
+pub mod Steps
+pub mod Counts
+pub mod Whole
+pub mod OrThenAnd

@@ -1,0 +1,16 @@
+pub mod Tree
+pub mod View
+pub mod Words
+pub mod Tokens
+pub mod Grammar
+pub mod Reading
+pub mod Negations
+pub mod Laws
+pub mod Seen
+pub mod Gives
+pub mod Parses
+pub mod Kept
+pub mod Heights
+pub mod Kinds
+pub mod Depth
+pub mod Counting

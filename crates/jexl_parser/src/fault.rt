@@ -1,0 +1,40 @@
+// Why tokens have no tree.
+ghost use Rattle.std.specs.Prelude.{◌≡◌};
+ghost use Rattle.jexl_parser.specs.declared.fault.ParseFault.TheVariants.{OutOfMemory};
+
+use std::alloc::{AllocError, AllocFailed};
+use thiserror::Error;
+
+/// Why tokens have no tree, in the order in which it is asked.
+#[derive(Debug, Drop, Error)]
+pub enum ParseFault {
+    /// More than 64 brackets are open after some token, more than 64 `!` stand one after another,
+    /// or there are more than 64 `?`.
+    #[error("the expression nests too deep")]
+    TooDeep,
+    /// The grammar has no tree for the tokens.
+    #[error("the tokens are no expression")]
+    Unexpected,
+    /// The tree has more than 512 nodes on a path.
+    #[error("the tree of the expression is too tall")]
+    TooTall,
+    /// Memory is wanting.
+    #[error("out of memory")]
+    OutOfMemory,
+}
+
+impl From<AllocError> for ParseFault {
+    ghost from_gives = { λ _ e. e ≡ OutOfMemory };
+
+    fn from(_e: AllocError) -> ParseFault {
+        ParseFault::OutOfMemory
+    }
+}
+
+impl<T: Drop> From<AllocFailed<T>> for ParseFault {
+    ghost from_gives = { λ _ e. e ≡ OutOfMemory };
+
+    fn from(_e: AllocFailed<T>) -> ParseFault {
+        ParseFault::OutOfMemory
+    }
+}

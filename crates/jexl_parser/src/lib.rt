@@ -1,0 +1,26 @@
+//! The tree of a Jexl expression.
+//!
+//! `parse` turns tokens into the tree that the grammar gives them, or tells why there is none. The
+//! grammar stands in `specs/Grammar.antt`, apart from the parser, which climbs precedences.
+#![tactic(auto)]
+
+mod build;
+mod depth;
+mod expression;
+mod fault;
+mod front;
+mod laws;
+mod negation;
+mod node;
+mod parser;
+mod parsing;
+mod part;
+
+pub use expression::Expr;
+pub use fault::ParseFault;
+pub use laws::{and_or_from_the_left, one_tree};
+pub use node::{BinarySign, Literal, Node};
+pub use parsing::parse;
+
+#[cfg(test)]
+mod tests;
