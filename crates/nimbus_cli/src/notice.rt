@@ -1,0 +1,61 @@
+// What the program tells of itself.
+ghost use Rattle.std.specs.Prelude.{◌≡◌, ◌≢◌, [], ◌∷◌, Some, map, string_bytes, codes, IsNone};
+
+/// What the program tells of itself.
+#[derive(Clone, Copy, Debug, PartialEq, Eq)]
+pub(crate) enum Notice {
+    Help,
+    Version,
+}
+
+const HELP: &str = "nimbus: an experiments client with a durable store
+
+usage:
+  nimbus init ID      makes a store for the client with this id, in the current folder
+  nimbus run          does the commands that stand on standard input, one on a line
+  nimbus --help       prints this text
+  nimbus --version    prints the version
+
+commands of `nimbus run`:
+  participate yes|no  whether the client takes part in experiments
+  show                prints the state
+
+exit status:
+   0 Done             all was done and said
+   2 Usage            the words have none of these forms
+   3 ScriptTooLong    standard input gave more than 1048576 bytes
+   4 NoStore          there is no store in the current folder
+   5 AlreadyStore     there is a store already
+   6 BadStore         the files of the store stand for no state
+   7 StoreFull        the store has no room for a further record
+   8 SourceFault      standard input failed
+  10 DiskFault        a file of the store failed
+  11 SayFault         standard output failed
+  12 OutOfMemory      want of memory
+";
+
+const VERSION: &str = "nimbus 0.1.0\n";
+
+impl Notice {
+    /// What the words ask for, where they are `--help` or `--version` alone.
+    pub(crate) fn of(words: &[String]) -> Option<Notice>
+        ensures help { result ≡ Some Notice.Help → map string_bytes words.now ≡ codes "--help" ∷ [] }
+        ensures version { result ≡ Some Notice.Version → map string_bytes words.now ≡ codes "--version" ∷ [] }
+        ensures none { IsNone result
+            → (map string_bytes words.now ≢ codes "--help" ∷ []) × (map string_bytes words.now ≢ codes "--version" ∷ []) }
+    {
+        match words {
+            [word] if word.as_str() == "--help" => Some(Notice::Help),
+            [word] if word.as_str() == "--version" => Some(Notice::Version),
+            _ => None,
+        }
+    }
+
+    /// The whole lines that are printed.
+    pub(crate) fn text(self) -> &'static str {
+        match self {
+            Notice::Help => HELP,
+            Notice::Version => VERSION,
+        }
+    }
+}

@@ -1,0 +1,57 @@
+// A script from a reader, as standard input.
+ghost use Rattle.std.specs.Prelude.{[], ◌<◌, ◌^◌};
+ghost use Rattle.std.specs.Io.{ReadsAtMost};
+ghost use Rattle.std.specs.Io.KnownBytes.{ReadConsumes};
+
+use crate::counting::counted;
+use host_model::{Source, SourceFailed};
+use std::io;
+use std::io::{ErrorKind, Read};
+
+/// How often a read is tried where signals cut it short.
+const TRIES: u32 = 64;
+
+/// The bytes of a reader. It tells nothing of them.
+#[derive(Drop)]
+pub(crate) struct StdinSource<R: Read> {
+    input: R,
+    faults: u64,
+    ghost fits: { faults < 2 ^ 64 },
+}
+
+impl<R: Read> StdinSource<R> {
+    /// A source that has not failed yet.
+    pub(crate) fn new(input: R) -> StdinSource<R> {
+        StdinSource { input, faults: 0 }
+    }
+}
+
+// One read, tried again where a signal cuts it short.
+fn read_some<R: Read>(input: &mut R, into: &mut [u8]) -> io::Result<usize>
+    ensures within { ReadsAtMost result into.new }
+    ensures bytes { ReadConsumes (R.remaining input.old) (R.remaining input.new) result into.new }
+{
+    for _ in 0..TRIES {
+        match input.read(into) {
+            Err(error) if error.kind() == ErrorKind::Interrupted => {}
+            answer => return answer,
+        }
+    }
+    Err(io::Error::from(ErrorKind::Interrupted))
+}
+
+impl<R: Read> Source for StdinSource<R> {
+    ghost tells = { ⊥ };
+
+    ghost left = { λ _. [] };
+
+    ghost faults = { λ s. s.faults };
+
+    fn read(&mut self, into: &mut [u8]) -> Result<usize, SourceFailed> {
+        counted(
+            read_some(&mut self.input, into),
+            &mut self.faults,
+            SourceFailed,
+        )
+    }
+}
