@@ -1,0 +1,15 @@
+pub mod Beginning
+pub mod Chaining
+pub mod Ending
+pub mod Holding
+pub mod Judging
+pub mod Opened
+pub mod Placing
+pub mod Puts
+pub mod Refusing
+pub mod Running
+pub mod Spellings
+pub mod Stepping
+pub mod Uniqueness
+pub mod Within
+pub mod WordLists

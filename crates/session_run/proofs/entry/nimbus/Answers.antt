@@ -1,0 +1,34 @@
+-- What the words ask for is done.
+use Rattle.std.proofs.Common.{inl, inr, ap, arith, refl, Some}
+use Rattle.session_run.proofs.Judging.{run_judges, init_judges, run_complete, init_complete}
+use Rattle.session_run.proofs.entry.nimbus.Goals as goal
+
+pub returns-in-Some-Init-clause-usage : goal.returns-in-Some-Init-clause-usage
+returns-in-Some-Init-clause-usage g c = (
+  (λ is. absurd (c.init.ensures.others.0 is)),
+  (λ none. absurd (none (inr (c.in-Some-Init.id, c.in-Some-Init.ensures.init c.in-Some-Init.id (ap Some c.in-Some-Init.field-0-is))))),
+)
+
+pub returns-in-Some-Run-clause-usage : goal.returns-in-Some-Run-clause-usage
+returns-in-Some-Run-clause-usage g c = (
+  (λ is. absurd (c.run.ensures.usage is)),
+  (λ none. absurd (none (inl (c.in-Some-Run.ensures.run (ap Some c.in-Some-Run.field-0-is))))),
+)
+
+pub returns-in-Some-Init-clause-init_judges : goal.returns-in-Some-Init-clause-init_judges
+returns-in-Some-Init-clause-init_judges g c is_init tells = init_judges _ _ c.init.result (c.init.ensures.finds tells)
+
+pub returns-in-Some-Init-clause-init_complete : goal.returns-in-Some-Init-clause-init_complete
+returns-in-Some-Init-clause-init_complete g c is_init tells absent disk say =
+    init_complete _ _ c.init.result (c.init.ensures.finds tells) absent (λ is. disk (c.init.ensures.cause is)) (λ is. say (c.init.ensures.say_cause is))
+
+pub returns-in-Some-Run-clause-judges : goal.returns-in-Some-Run-clause-judges
+returns-in-Some-Run-clause-judges g c is_run tells = run_judges _ _ c.run.result (c.run.ensures.finds tells)
+
+pub returns-in-Some-Run-clause-complete : goal.returns-in-Some-Run-clause-complete
+returns-in-Some-Run-clause-complete g c is_run source_tells tells short found source disk say =
+    run_complete _ _ c.run.result (c.run.ensures.finds tells) found (λ is. omega (arith, short, (c.run.ensures.too_long is).1 source_tells)) (λ is. source (c.run.ensures.source_cause is).1)
+    (λ is. disk (c.run.ensures.cause is)) (λ is. say (c.run.ensures.say_cause is))
+
+pub returns-in-None-clause-making : goal.returns-in-None-clause-making
+returns-in-None-clause-making g c id is_init = absurd (c.in-None.ensures.none refl (inr (id, is_init)))

@@ -1,0 +1,33 @@
+-- Runs, each started on what the one before left.
+use Rattle.std.specs.Prelude.{ℕ, ◌≤◌, List, [], ◌∷◌, length}
+use Rattle.session_run.specs.declared.state.State.{State}
+use Rattle.session_run.specs.Steps.{after}
+use Rattle.session_run.specs.Store.{KeptFor}
+
+-- a run's lines, how many of them count, and the pair of images that it left
+pub record Link : Type 0 where
+  pub lines : List (List ℕ)
+  pub k : ℕ
+  pub l : List ℕ
+  pub r : List ℕ
+
+-- the state after these runs
+abbrev pub folded : State → List Link → State
+folded s [] = s
+folded s (link ∷ links) = folded (after s link.lines link.k) links
+
+-- this pair is kept for some state, and the run's for its first k lines from there
+pub record Leads (l r : List ℕ) (link : Link) : Type 0 where
+  pub s : State
+  pub within : link.k ≤ length link.lines
+  pub from : KeptFor l r s
+  pub left : KeptFor link.l link.r (after s link.lines link.k)
+
+abbrev pub IsChain : List ℕ → List ℕ → List Link → Type 0
+IsChain l r [] = Unit {0}
+IsChain l r (link ∷ links) = Leads l r link × IsChain link.l link.r links
+
+-- the last pair is kept for s
+abbrev pub EndsKept : List ℕ → List ℕ → List Link → State → Type 0
+EndsKept l r [] s = KeptFor l r s
+EndsKept l r (link ∷ links) s = EndsKept link.l link.r links s

@@ -1,0 +1,135 @@
+// How a call ended.
+ghost use Rattle.std.specs.Prelude.{◌≡◌};
+
+use crate::commit::StepFault;
+use crate::opening::StoreFault;
+use crate::script::ScriptFault;
+use std::alloc::AllocError;
+use std::fmt;
+
+/// How a call ended.
+#[derive(Clone, Copy, Debug, PartialEq, Eq)]
+pub enum RunStatus {
+    /// All was done and said.
+    Done,
+    /// The words have no form.
+    Usage,
+    /// The source gave more than 1,048,576 bytes. The store was not touched.
+    ScriptTooLong,
+    /// There is no store: neither side's first byte is 1.
+    NoStore,
+    /// There is a store already.
+    AlreadyStore,
+    /// A side's first byte is 1, and the pair stands for no state.
+    BadStore,
+    /// A record would end past byte 67,108,864 of its side.
+    StoreFull,
+    /// The source failed.
+    SourceFault,
+    /// The disk failed.
+    DiskFault,
+    /// The output failed.
+    SayFault,
+    /// Want of memory.
+    OutOfMemory,
+}
+
+impl RunStatus {
+    ghost use Rattle.session_run.specs.Statuses.{code_of};
+
+    /// The exit number.
+    pub fn code(&self) -> u8
+        ensures { result ≡ code_of self.now }
+    {
+        match self {
+            RunStatus::Done => 0,
+            RunStatus::Usage => 2,
+            RunStatus::ScriptTooLong => 3,
+            RunStatus::NoStore => 4,
+            RunStatus::AlreadyStore => 5,
+            RunStatus::BadStore => 6,
+            RunStatus::StoreFull => 7,
+            RunStatus::SourceFault => 8,
+            RunStatus::DiskFault => 10,
+            RunStatus::SayFault => 11,
+            RunStatus::OutOfMemory => 12,
+        }
+    }
+}
+
+/// The name of the status.
+impl fmt::Display for RunStatus {
+    fn fmt<W: fmt::Write>(&self, f: &mut fmt::Formatter<W>) -> fmt::Result {
+        f.write_str(match self {
+            RunStatus::Done => "Done",
+            RunStatus::Usage => "Usage",
+            RunStatus::ScriptTooLong => "ScriptTooLong",
+            RunStatus::NoStore => "NoStore",
+            RunStatus::AlreadyStore => "AlreadyStore",
+            RunStatus::BadStore => "BadStore",
+            RunStatus::StoreFull => "StoreFull",
+            RunStatus::SourceFault => "SourceFault",
+            RunStatus::DiskFault => "DiskFault",
+            RunStatus::SayFault => "SayFault",
+            RunStatus::OutOfMemory => "OutOfMemory",
+        })
+    }
+}
+
+impl From<ScriptFault> for RunStatus {
+    ghost use Rattle.std.specs.Prelude.{◌≡◌};
+    ghost use Rattle.session_run.specs.Statuses.{of_script};
+
+    ghost from_gives = { λ fault status. status ≡ of_script fault };
+
+    fn from(fault: ScriptFault) -> Self {
+        match fault {
+            ScriptFault::TooLong => RunStatus::ScriptTooLong,
+            ScriptFault::SourceFault => RunStatus::SourceFault,
+            ScriptFault::OutOfMemory => RunStatus::OutOfMemory,
+        }
+    }
+}
+
+impl From<StoreFault> for RunStatus {
+    ghost use Rattle.std.specs.Prelude.{◌≡◌};
+    ghost use Rattle.session_run.specs.Statuses.{of_store};
+
+    ghost from_gives = { λ fault status. status ≡ of_store fault };
+
+    fn from(fault: StoreFault) -> Self {
+        match fault {
+            StoreFault::NoStore => RunStatus::NoStore,
+            StoreFault::BadStore => RunStatus::BadStore,
+            StoreFault::DiskFault => RunStatus::DiskFault,
+            StoreFault::OutOfMemory => RunStatus::OutOfMemory,
+        }
+    }
+}
+
+impl From<StepFault> for RunStatus {
+    ghost use Rattle.std.specs.Prelude.{◌≡◌};
+    ghost use Rattle.session_run.specs.Statuses.{of_step};
+
+    ghost from_gives = { λ fault status. status ≡ of_step fault };
+
+    fn from(fault: StepFault) -> Self {
+        match fault {
+            StepFault::StoreFull => RunStatus::StoreFull,
+            StepFault::DiskFault => RunStatus::DiskFault,
+            StepFault::SayFault => RunStatus::SayFault,
+            StepFault::OutOfMemory => RunStatus::OutOfMemory,
+        }
+    }
+}
+
+impl From<AllocError> for RunStatus {
+    ghost use Rattle.std.specs.Prelude.{◌≡◌};
+    ghost use Rattle.session_run.specs.declared.status.RunStatus.TheVariants.{OutOfMemory};
+
+    ghost from_gives = { λ _ status. status ≡ OutOfMemory };
+
+    fn from(_: AllocError) -> Self {
+        RunStatus::OutOfMemory
+    }
+}
