@@ -1,0 +1,15 @@
+pub mod Schemas
+pub mod Trees
+pub mod Copies
+pub mod Ratios
+pub mod Loops
+pub mod Deeper
+pub mod Lengths
+pub mod Steps
+pub mod FieldsAgain
+pub mod BranchesAgain
+pub mod Again
+pub mod Places
+pub mod Shallows
+pub mod Conditions
+pub mod FirstReason

@@ -1,0 +1,11 @@
+pub mod Outcome
+pub mod Trees
+pub mod Values
+pub mod Parts
+pub mod Branches
+pub mod Records
+pub mod Payloads
+pub mod Reasons
+pub mod Equal
+pub mod Equals
+pub mod Laws

@@ -1,0 +1,113 @@
+// Recipes in order by slug.
+ghost use Rattle.std.specs.Prelude.{◌≡◌, ◌≤◌, ◌++◌, ◌∷◌, [], true, not, length, IfOk, IfErr, OnOk, OnErr, Some, None, option_map, slice_get, if◌then◌else◌};
+ghost use Rattle.std.specs.List.{insert};
+ghost use Rattle.recipe_reader.specs.Records.{IsValid};
+ghost use Rattle.recipe_reader.specs.Payloads.{AreInOrder, AreBelow, AreValid, IsPlace, has_slug, recipe_with, with_recipe};
+
+use crate::recipe::Recipe;
+use sequences::Sequence;
+use std::alloc::{AllocError, Global};
+use std::cmp::Ordering;
+use std::marker::Model;
+
+/// Recipes whose slugs rise by their bytes, so that no two have one slug. Contracts see it as the
+/// list of the recipes.
+#[derive(Drop)]
+pub struct Recipes {
+    recipes: Sequence<Recipe>,
+}
+
+impl Model for Recipes {
+    ghost use Rattle.std.specs.Prelude.{List};
+    ghost use Rattle.std.specs.Coded.{codes};
+    ghost use Rattle.json_tree.specs.Json.{json_code};
+    ghost use Rattle.recipe_reader.specs.declared.recipe.Recipe.{Recipe};
+
+    ghost Value = { List Recipe };
+
+    ghost coded = { Prim.hlevel (codes, json_code) };
+
+    ghost use Rattle.recipe_reader.specs.Payloads.{AreInOrder};
+
+    ghost view = { λ a. a.recipes };
+
+    ghost invariant = { λ a. AreInOrder a.recipes };
+}
+
+impl Recipes {
+    /// No recipes. It takes no memory.
+    pub fn new(alloc: Global) -> Recipes
+        ensures { result ≡ [] }
+    {
+        Recipes {
+            recipes: Sequence::new(alloc),
+        }
+    }
+
+    /// The recipes, in order. It takes no memory.
+    pub fn as_slice(&self) -> &[Recipe]
+        ensures recipes { result.now ≡ self.now }
+        ensures in_order { AreInOrder self.now }
+    {
+        self.recipes.as_slice()
+    }
+
+    /// The recipe with the slug, by a binary search. It takes no memory.
+    #[tactic(auto, using(crate::proofs::Places::none_at_place))]
+    pub fn get(&self, slug: &str) -> Option<&Recipe>
+        ensures { option_map (λ r. r.now) result ≡ recipe_with slug.now self.now }
+    {
+        match place_of(self.as_slice(), slug) {
+            Ok(place) => self.recipes.get(place),
+            Err(_) => None,
+        }
+    }
+
+    /// Puts a recipe at the end, whose slug is above each that is there. Want of memory leaves the
+    /// recipes as they were.
+    pub fn push(&mut self, recipe: Recipe) -> Result<(), AllocError>
+        requires { AreBelow recipe.slug self.old }
+        ensures ok { OnOk result (self.new ≡ self.old ++ recipe ∷ []) }
+        ensures err { OnErr result (self.new ≡ self.old) }
+    {
+        self.recipes.push(recipe)?;
+        Ok(())
+    }
+
+    /// Puts a recipe at its place, unless one with its slug is there, and says whether it did.
+    /// Want of memory leaves the recipes as they were.
+    pub fn insert(&mut self, recipe: Recipe) -> Result<bool, AllocError>
+        ensures ok { OnOk result (self.new ≡ (if has_slug recipe.slug self.old then self.old else with_recipe recipe self.old)) }
+        ensures is_new { IfOk result (λ b. b ≡ not (has_slug recipe.slug self.old)) }
+        ensures valid { OnOk result (IsValid recipe → AreValid self.old → AreValid self.new) }
+        ensures err { OnErr result (self.new ≡ self.old) }
+    {
+        match place_of(self.as_slice(), recipe.slug.text()) {
+            Ok(_) => Ok(false),
+            Err(place) => {
+                self.recipes.insert(place, recipe)?;
+                Ok(true)
+            }
+        }
+    }
+}
+
+/// Where the recipe with the slug is, or else where one belongs.
+fn place_of(recipes: &[Recipe], slug: &str) -> Result<usize, usize>
+    requires { AreInOrder recipes.now }
+    ensures found { IfOk result (λ i. recipe_with slug.now recipes.now ≡ slice_get recipes.now i) }
+    ensures there { IfOk result (λ _. has_slug slug.now recipes.now ≡ true) }
+    ensures absent { IfErr result (λ i. IsPlace slug.now recipes.now i) }
+{
+    let mut low = 0;
+    let mut high = recipes.len();
+    while low < high {
+        let middle = low + (high - low) / 2;
+        match recipes[middle].slug.text().cmp(slug) {
+            Ordering::Less => low = middle + 1,
+            Ordering::Equal => return Ok(middle),
+            Ordering::Greater => high = middle,
+        }
+    }
+    Err(low)
+}
