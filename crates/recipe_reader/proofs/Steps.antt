@@ -1,6 +1,6 @@
 -- What a reading that did not fail tells of its steps.
 use Rattle.std.proofs.Common.{◌≡◌, ℕ, List, Bool, true, false, Option, Some, None, Result, Ok, Err, refl, subst}
-use Rattle.std.specs.Prelude.{◌&&◌, nat_le, length, option_and_then, codes}
+use Rattle.std.specs.Prelude.{◌&&◌, nat_le, option_and_then, codes}
 use Rattle.json_tree.specs.Json.{Json, whole}
 use Rattle.std.specs.Prelude.{pos}
 use Rattle.recipe_reader.specs.declared.recipe.SkipReason.{SkipReason}

@@ -1,7 +1,7 @@
 // The branches of a record.
-ghost use Rattle.std.specs.Prelude.{◌≡◌, ◌≤◌, ℕ, map, nat_le, nat_lt, length, bytes_eq, Option, option_map, IfOk};
+ghost use Rattle.std.specs.Prelude.{◌≡◌, map, nat_lt, bytes_eq, option_map, IfOk};
 ghost use Rattle.std.specs.List.{list_any};
-ghost use Rattle.json_tree.specs.Json.{get, items_of};
+ghost use Rattle.json_tree.specs.Json.{items_of};
 ghost use Rattle.json_tree.specs.Tree.{json_of};
 ghost use Rattle.recipe_reader.specs.Outcome.{Gives};
 ghost use Rattle.recipe_reader.specs.Values.{is_object};

@@ -1,5 +1,5 @@
 // Single values of a record.
-ghost use Rattle.std.specs.Prelude.{◌≡◌, ℕ, List, Option, option_map, Some, IfOk};
+ghost use Rattle.std.specs.Prelude.{◌≡◌, option_map, Some, IfOk};
 ghost use Rattle.json_tree.specs.Json.{get};
 ghost use Rattle.json_tree.specs.Tree.{json_of};
 ghost use Rattle.recipe_reader.specs.Outcome.{Gives, needed, only_if};

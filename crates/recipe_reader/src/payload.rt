@@ -1,5 +1,5 @@
 // A payload of records: which recipes it keeps, and which records it skips.
-ghost use Rattle.std.specs.Prelude.{◌≡◌, ◌≤◌, ◌↔◌, ℕ, map, length, Ok, Err, None, Some, IfOk, OnOk};
+ghost use Rattle.std.specs.Prelude.{◌≡◌, ◌≤◌, ◌↔◌, ℕ, map, length, Err, None, Some, IfOk, OnOk};
 ghost use Rattle.json_tree.specs.Json.{items_of};
 ghost use Rattle.json_tree.specs.Tree.{json_of};
 ghost use Rattle.recipe_reader.specs.Records.{recipe_of, IsValid};

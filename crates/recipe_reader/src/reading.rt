@@ -1,12 +1,11 @@
 // A record read as a recipe.
 ghost use Rattle.std.specs.Prelude.{◌≡◌, Ok, Err, IfOk};
-ghost use Rattle.json_tree.specs.Json.{get};
 ghost use Rattle.json_tree.specs.Tree.{json_of};
 ghost use Rattle.recipe_reader.specs.Outcome.{Gives, needed, only_if};
 ghost use Rattle.recipe_reader.specs.Parts.{object_in, slug_in, schema_in, fields_in, sized_text, bucket_of, bucket_in};
 ghost use Rattle.recipe_reader.specs.Records.{recipe_of, IsValid};
 ghost use Rattle.recipe_reader.specs.Values.{count_at, is_slug};
-ghost use Rattle.recipe_reader.specs.declared.recipe.SkipReason.TheVariants.{BadSlug, BadBucket};
+ghost use Rattle.recipe_reader.specs.declared.recipe.SkipReason.TheVariants.{BadBucket};
 
 use crate::branches::branches_in;
 use crate::fields::{

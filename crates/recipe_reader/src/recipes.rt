@@ -1,6 +1,5 @@
 // Recipes in order by slug.
-ghost use Rattle.std.specs.Prelude.{◌≡◌, ◌≤◌, ◌++◌, ◌∷◌, [], true, not, length, IfOk, IfErr, OnOk, OnErr, Some, None, option_map, slice_get, if◌then◌else◌};
-ghost use Rattle.std.specs.List.{insert};
+ghost use Rattle.std.specs.Prelude.{◌≡◌, ◌++◌, ◌∷◌, [], true, not, IfOk, IfErr, OnOk, OnErr, option_map, slice_get, if◌then◌else◌};
 ghost use Rattle.recipe_reader.specs.Records.{IsValid};
 ghost use Rattle.recipe_reader.specs.Payloads.{AreInOrder, AreBelow, AreValid, IsPlace, has_slug, recipe_with, with_recipe};
 

@@ -63,258 +63,72 @@ fn each_condition(rt: HostRuntime) -> Result<(), Fail> {
     ] {
         assert_eq!(rt; reason(alloc, text)?, Some(want));
     }
-    for (part, members, want) in [
-        (Part::Record, "", None),
-        (Part::Record, ",\"more\":5", None),
-        (Part::Record, ",\"slug\":5", Some(SkipReason::BadSlug)),
-        (Part::Record, ",\"slug\":\"\"", Some(SkipReason::BadSlug)),
+    for (part, want, rows) in [
         (
             Part::Record,
-            ",\"slug\":\"Alpha\"",
+            None,
+            ",\"more\":5\n,\"slug\":\"a-b_9\"\n,\"schemaVersion\":\"1\"\n,\"schemaVersion\":\"1.\"\n,\"appName\":null\n,\"appName\":\"\"\n,\"channel\":null\n,\"channel\":\"\"\n,\"targeting\":null\n,\"targeting\":\"\"\n,\"publishedDate\":null\n,\"publishedDate\":\"\"\n,\"publishedDate\":\"soon\"\n,\"isRollout\":null\n,\"isRollout\":true\n,\"isEnrollmentPaused\":true\n,\"branches\":[{\"slug\":\"a\",\"ratio\":0},{\"slug\":\"b\",\"ratio\":1}]",
+        ),
+        (
+            Part::Record,
             Some(SkipReason::BadSlug),
+            ",\"slug\":5\n,\"slug\":\"\"\n,\"slug\":\"Alpha\"\n,\"slug\":5,\"schemaVersion\":5",
         ),
-        (Part::Record, ",\"slug\":\"a-b_9\"", None),
         (
             Part::Record,
-            ",\"schemaVersion\":1",
             Some(SkipReason::BadSchema),
+            ",\"schemaVersion\":1\n,\"schemaVersion\":\"\"\n,\"schemaVersion\":\"10\"\n,\"schemaVersion\":\".1\"\n,\"schemaVersion\":\"2.0.0\"\n,\"schemaVersion\":5,\"channel\":5",
         ),
         (
             Part::Record,
-            ",\"schemaVersion\":\"\"",
-            Some(SkipReason::BadSchema),
-        ),
-        (
-            Part::Record,
-            ",\"schemaVersion\":\"10\"",
-            Some(SkipReason::BadSchema),
-        ),
-        (
-            Part::Record,
-            ",\"schemaVersion\":\".1\"",
-            Some(SkipReason::BadSchema),
-        ),
-        (
-            Part::Record,
-            ",\"schemaVersion\":\"2.0.0\"",
-            Some(SkipReason::BadSchema),
-        ),
-        (Part::Record, ",\"schemaVersion\":\"1\"", None),
-        (Part::Record, ",\"schemaVersion\":\"1.\"", None),
-        (Part::Record, ",\"appName\":5", Some(SkipReason::BadField)),
-        (Part::Record, ",\"appName\":null", None),
-        (Part::Record, ",\"appName\":\"\"", None),
-        (Part::Record, ",\"channel\":5", Some(SkipReason::BadField)),
-        (Part::Record, ",\"channel\":null", None),
-        (Part::Record, ",\"channel\":\"\"", None),
-        (Part::Record, ",\"targeting\":5", Some(SkipReason::BadField)),
-        (Part::Record, ",\"targeting\":null", None),
-        (Part::Record, ",\"targeting\":\"\"", None),
-        (
-            Part::Record,
-            ",\"publishedDate\":5",
             Some(SkipReason::BadField),
-        ),
-        (Part::Record, ",\"publishedDate\":null", None),
-        (Part::Record, ",\"publishedDate\":\"\"", None),
-        (Part::Record, ",\"publishedDate\":\"soon\"", None),
-        (Part::Record, ",\"isRollout\":0", Some(SkipReason::BadField)),
-        (Part::Record, ",\"isRollout\":null", None),
-        (Part::Record, ",\"isRollout\":true", None),
-        (
-            Part::Record,
-            ",\"isEnrollmentPaused\":null",
-            Some(SkipReason::BadField),
+            ",\"appName\":5\n,\"channel\":5\n,\"targeting\":5\n,\"publishedDate\":5\n,\"isRollout\":0\n,\"isEnrollmentPaused\":null\n,\"isEnrollmentPaused\":0\n,\"channel\":5,\"bucketConfig\":5",
         ),
         (
             Part::Record,
-            ",\"isEnrollmentPaused\":0",
-            Some(SkipReason::BadField),
-        ),
-        (Part::Record, ",\"isEnrollmentPaused\":true", None),
-        (
-            Part::Record,
-            ",\"bucketConfig\":null",
             Some(SkipReason::BadBucket),
+            ",\"bucketConfig\":null\n,\"bucketConfig\":[]\n,\"bucketConfig\":5,\"branches\":5",
         ),
         (
             Part::Record,
-            ",\"bucketConfig\":[]",
-            Some(SkipReason::BadBucket),
-        ),
-        (
-            Part::Record,
-            ",\"branches\":null",
             Some(SkipReason::BadBranches),
-        ),
-        (
-            Part::Record,
-            ",\"branches\":{}",
-            Some(SkipReason::BadBranches),
-        ),
-        (
-            Part::Record,
-            ",\"branches\":[]",
-            Some(SkipReason::BadBranches),
+            ",\"branches\":null\n,\"branches\":{}\n,\"branches\":[]\n,\"branches\":[{\"slug\":\"a\",\"ratio\":1},{\"slug\":\"a\",\"ratio\":1}]",
         ),
         (
             Part::Bucket,
-            ",\"randomizationUnit\":\"\"",
             Some(SkipReason::BadBucket),
+            ",\"randomizationUnit\":\"\"\n,\"randomizationUnit\":5\n,\"namespace\":null\n,\"start\":-1\n,\"start\":4294967296\n,\"start\":0.0\n,\"count\":-1\n,\"count\":4294967296\n,\"count\":0.0\n,\"total\":0\n,\"total\":4294967296",
         ),
         (
             Part::Bucket,
-            ",\"randomizationUnit\":5",
-            Some(SkipReason::BadBucket),
-        ),
-        (Part::Bucket, ",\"randomizationUnit\":\"u\"", None),
-        (
-            Part::Bucket,
-            ",\"namespace\":null",
-            Some(SkipReason::BadBucket),
-        ),
-        (Part::Bucket, ",\"namespace\":\"\"", None),
-        (Part::Bucket, ",\"start\":-1", Some(SkipReason::BadBucket)),
-        (Part::Bucket, ",\"start\":0", None),
-        (Part::Bucket, ",\"start\":4294967295", None),
-        (
-            Part::Bucket,
-            ",\"start\":4294967296",
-            Some(SkipReason::BadBucket),
-        ),
-        (Part::Bucket, ",\"start\":0.0", Some(SkipReason::BadBucket)),
-        (Part::Bucket, ",\"count\":-1", Some(SkipReason::BadBucket)),
-        (Part::Bucket, ",\"count\":0", None),
-        (Part::Bucket, ",\"count\":4294967295", None),
-        (
-            Part::Bucket,
-            ",\"count\":4294967296",
-            Some(SkipReason::BadBucket),
-        ),
-        (Part::Bucket, ",\"count\":0.0", Some(SkipReason::BadBucket)),
-        (Part::Bucket, ",\"total\":0", Some(SkipReason::BadBucket)),
-        (Part::Bucket, ",\"total\":1", None),
-        (Part::Bucket, ",\"total\":4294967295", None),
-        (
-            Part::Bucket,
-            ",\"total\":4294967296",
-            Some(SkipReason::BadBucket),
-        ),
-        (
-            Part::Branch,
-            ",\"slug\":null",
-            Some(SkipReason::BadBranches),
-        ),
-        (
-            Part::Branch,
-            ",\"slug\":\"A\"",
-            Some(SkipReason::BadBranches),
-        ),
-        (Part::Branch, ",\"slug\":\"a\"", None),
-        (Part::Branch, ",\"ratio\":0", Some(SkipReason::BadBranches)),
-        (Part::Branch, ",\"ratio\":-1", Some(SkipReason::BadBranches)),
-        (
-            Part::Branch,
-            ",\"ratio\":1.0",
-            Some(SkipReason::BadBranches),
-        ),
-        (Part::Branch, ",\"ratio\":1000000", None),
-        (
-            Part::Branch,
-            ",\"ratio\":1000001",
-            Some(SkipReason::BadBranches),
-        ),
-        (
-            Part::Branch,
-            ",\"features\":{}",
-            Some(SkipReason::BadBranches),
-        ),
-        (Part::Branch, ",\"features\":[]", None),
-        (Part::Branch, ",\"features\":null", None),
-        (Part::Branch, ",\"features\":null,\"feature\":null", None),
-        (
-            Part::Branch,
-            ",\"features\":null,\"feature\":5",
-            Some(SkipReason::BadBranches),
-        ),
-        (
-            Part::Branch,
-            ",\"features\":null,\"feature\":{\"featureId\":\"home\"}",
             None,
+            ",\"randomizationUnit\":\"u\"\n,\"namespace\":\"\"\n,\"start\":0\n,\"start\":4294967295\n,\"count\":0\n,\"count\":4294967295\n,\"total\":1\n,\"total\":4294967295",
         ),
-        (Part::Branch, ",\"feature\":5", None),
         (
             Part::Branch,
-            ",\"features\":[5]",
             Some(SkipReason::BadBranches),
+            ",\"slug\":null\n,\"slug\":\"A\"\n,\"ratio\":0\n,\"ratio\":-1\n,\"ratio\":1.0\n,\"ratio\":1000001\n,\"features\":{}\n,\"features\":null,\"feature\":5\n,\"features\":[5]\n,\"features\":[{\"featureId\":\"a\"},{\"featureId\":\"a\"}]",
         ),
         (
             Part::Branch,
-            ",\"features\":[{\"featureId\":\"a\"},{\"featureId\":\"b\"}]",
             None,
-        ),
-        (
-            Part::Branch,
-            ",\"features\":[{\"featureId\":\"a\"},{\"featureId\":\"a\"}]",
-            Some(SkipReason::BadBranches),
+            ",\"slug\":\"a\"\n,\"ratio\":1000000\n,\"features\":[]\n,\"features\":null\n,\"features\":null,\"feature\":null\n,\"features\":null,\"feature\":{\"featureId\":\"home\"}\n,\"feature\":5\n,\"features\":[{\"featureId\":\"a\"},{\"featureId\":\"b\"}]",
         ),
         (
             Part::Feature,
-            ",\"featureId\":5",
             Some(SkipReason::BadBranches),
+            ",\"featureId\":5\n,\"featureId\":\"\"\n,\"featureId\":\"a b\"\n,\"value\":5\n,\"value\":[]",
         ),
         (
             Part::Feature,
-            ",\"featureId\":\"\"",
-            Some(SkipReason::BadBranches),
-        ),
-        (
-            Part::Feature,
-            ",\"featureId\":\"a b\"",
-            Some(SkipReason::BadBranches),
-        ),
-        (Part::Feature, ",\"featureId\":\"A.b\"", None),
-        (Part::Feature, ",\"value\":null", None),
-        (Part::Feature, ",\"value\":{}", None),
-        (Part::Feature, ",\"value\":5", Some(SkipReason::BadBranches)),
-        (
-            Part::Feature,
-            ",\"value\":[]",
-            Some(SkipReason::BadBranches),
-        ),
-        (
-            Part::Record,
-            ",\"slug\":5,\"schemaVersion\":5",
-            Some(SkipReason::BadSlug),
-        ),
-        (
-            Part::Record,
-            ",\"schemaVersion\":5,\"channel\":5",
-            Some(SkipReason::BadSchema),
-        ),
-        (
-            Part::Record,
-            ",\"channel\":5,\"bucketConfig\":5",
-            Some(SkipReason::BadField),
-        ),
-        (
-            Part::Record,
-            ",\"bucketConfig\":5,\"branches\":5",
-            Some(SkipReason::BadBucket),
-        ),
-        (
-            Part::Record,
-            ",\"branches\":[{\"slug\":\"a\",\"ratio\":1},{\"slug\":\"a\",\"ratio\":1}]",
-            Some(SkipReason::BadBranches),
-        ),
-        (
-            Part::Record,
-            ",\"branches\":[{\"slug\":\"a\",\"ratio\":0},{\"slug\":\"b\",\"ratio\":1}]",
             None,
+            ",\"featureId\":\"A.b\"\n,\"value\":null\n,\"value\":{}",
         ),
     ] {
-        let text = record_with(alloc, part, members)?;
-        assert_eq!(rt; reason(alloc, text.as_str())?, want, "at {members}");
+        for members in rows.lines() {
+            let text = record_with(alloc, part, members)?;
+            assert_eq!(rt; reason(alloc, text.as_str())?, want, "at {members}");
+        }
     }
     Ok(())
 }
