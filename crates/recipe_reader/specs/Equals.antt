@@ -103,3 +103,6 @@ bucket_equivalence = decided _ bucket_Decides
 
 pub recipe_equivalence : IsEquivalence recipe_eq
 recipe_equivalence = decided _ recipe_Decides
+
+pub recipes_equivalence : IsEquivalence (pointwise recipe_eq)
+recipes_equivalence = decided _ (pointwise_decides recipe_Decides)

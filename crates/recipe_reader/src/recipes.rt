@@ -33,6 +33,39 @@ impl Model for Recipes {
     ghost invariant = { λ a. AreInOrder a.recipes };
 }
 
+impl Clone for Recipes {
+    ghost is_clone = { λ rs ss. ss ≡ rs };
+
+    fn clone(&self) -> Result<Recipes, AllocError> {
+        Ok(Recipes {
+            recipes: copy_of_recipes(&self.recipes)?,
+        })
+    }
+}
+
+#[tactic(auto, using(crate::proofs::Copies::same_recipes))]
+fn copy_of_recipes(recipes: &Sequence<Recipe>) -> Result<Sequence<Recipe>, AllocError>
+    ensures { IfOk result (λ rs. rs ≡ recipes.now) }
+{
+    recipes.clone()
+}
+
+/// Recipe by recipe.
+impl PartialEq for Recipes {
+    ghost use Rattle.std.specs.Cmp.{partial_equiv_from_equiv};
+    ghost use Rattle.std.specs.Cmp.Lexicographic.{pointwise};
+    ghost use Rattle.recipe_reader.specs.Equal.{recipe_eq};
+    ghost use Rattle.recipe_reader.specs.Equals.{recipes_equivalence};
+
+    ghost eq = { λ rs ss. pointwise recipe_eq rs ss };
+
+    ghost laws = { partial_equiv_from_equiv recipes_equivalence };
+
+    fn eq(&self, other: &Recipes) -> bool {
+        self.recipes == other.recipes
+    }
+}
+
 impl Recipes {
     /// No recipes. It takes no memory.
     pub fn new(alloc: Global) -> Recipes

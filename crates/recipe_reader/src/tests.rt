@@ -546,6 +546,19 @@ fn order_of_recipes(rt: HostRuntime) -> Result<(), Fail> {
     is_pushed(alloc, last)
 }
 
+fn are_same(these: &Recipes, those: &Recipes) -> bool {
+    *these == *those
+}
+
+#[test]
+fn copies_of_recipes(rt: HostRuntime) -> Result<(), Fail> {
+    let alloc = rt.alloc();
+    let recipes = two_recipes(alloc)?;
+    let copy = recipes.clone()?;
+    check(are_same(&copy, &recipes))?;
+    check(!are_same(&copy, &Recipes::new(alloc)))
+}
+
 fn recipe_in(alloc: Global, text: &str) -> Result<Recipe, Fail> {
     let tree = read(alloc, text.as_bytes())?;
     Ok(read_record(alloc, &tree)?)
