@@ -1,0 +1,12 @@
+pub mod Copies
+pub mod Fresh
+pub mod Ordered
+pub mod Lookups
+pub mod OptingOut
+pub mod Participations
+pub mod OptOuts
+pub mod Sets
+pub mod Leasts
+pub mod Takings
+pub mod Enrolments
+pub mod Exclusion

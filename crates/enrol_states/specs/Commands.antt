@@ -1,0 +1,62 @@
+-- What the commands make of a state.
+use Rattle.std.specs.Prelude.{ℕ, Bool, true, false, List, [], ◌∷◌, map, filter, not, bytes_eq, if◌then◌else◌}
+use Rattle.std.specs.Ordering.{match_ordering}
+use Rattle.std.specs.BTreeSet.{insert_key}
+use Rattle.recipe_reader.specs.Payloads.{slug_cmp}
+use Rattle.enrol_states.specs.declared.state.State.{State}
+use Rattle.enrol_states.specs.declared.state.Row.{Row}
+use Rattle.enrol_states.specs.declared.status.Status.{Status}
+use Rattle.enrol_states.specs.declared.status.Status.TheVariants as statuses
+use Rattle.enrol_states.specs.declared.status.EnrolledReason.TheVariants as enrolled
+use Rattle.enrol_states.specs.declared.status.NotEnrolledReason.TheVariants as not_enrolled
+use Rattle.enrol_states.specs.declared.status.DisqualifiedReason.TheVariants as disqualified
+
+-- what an opt-out makes of a status
+abbrev pub opted_out : Status → Status
+opted_out (statuses.Enrolled reason branch) = statuses.Disqualified disqualified.OptOut branch
+opted_out (statuses.NotEnrolled reason) = statuses.NotEnrolled not_enrolled.OptOut
+opted_out s = s
+
+abbrev pub row_opted_out : Row → Row
+row_opted_out row = record { slug = row.slug; status = opted_out row.status }
+
+-- the rows of a client that takes part, or not
+abbrev pub rows_after_participate : List Row → Bool → List Row
+rows_after_participate rows true = rows
+rows_after_participate rows false = map row_opted_out rows
+
+-- the client takes part, or not; where it doesn't, it is opted out of every recipe
+abbrev pub after_participate : State → Bool → State
+after_participate s on = record s { participating = on; rows = rows_after_participate s.rows on }
+
+-- ---- opt-outs
+
+abbrev pub opted_out_of : List ℕ → Row → Row
+opted_out_of slug row = if bytes_eq row.slug slug then row_opted_out row else row
+
+-- the slug is opted out, and the client is enrolled in its recipe no more
+abbrev pub after_opt_out : State → List ℕ → State
+after_opt_out s slug = record s { opted_out = insert_key slug_cmp s.opted_out slug; rows = map (opted_out_of slug) s.rows }
+
+-- ---- opt-ins
+
+abbrev pub without_text : List ℕ → List (List ℕ) → List (List ℕ)
+without_text t ts = filter (λ u. not (bytes_eq u t)) ts
+
+-- the rows with one for the slug, in the place of the one that was there
+abbrev pub with_row : Row → List Row → List Row
+with_row r [] = r ∷ []
+with_row r (q ∷ qs) = match_ordering (slug_cmp r.slug q.slug) (r ∷ q ∷ qs) (r ∷ qs) (q ∷ with_row r qs)
+
+abbrev pub opted_in : List ℕ → List ℕ → Row
+opted_in slug branch = record { slug = slug; status = statuses.Enrolled enrolled.OptIn branch }
+
+-- the slug isn't opted out, and the client is enrolled in the branch that its user chose
+abbrev pub after_opt_in : State → List ℕ → List ℕ → State
+after_opt_in s slug branch = record s { opted_out = without_text slug s.opted_out; rows = with_row (opted_in slug branch) s.rows }
+
+-- ---- a reset
+
+-- the client has another id, and nothing is known of what it was to the recipes and of opt-outs
+abbrev pub after_reset : State → List ℕ → State
+after_reset s id = record s { id = id; opted_out = []; rows = [] }

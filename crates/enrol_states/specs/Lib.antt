@@ -1,0 +1,15 @@
+pub mod Order
+pub mod Statuses
+pub mod State
+pub mod Recipes
+pub mod Consistent
+pub mod Features
+pub mod Exclusive
+pub mod Equal
+pub mod Equals
+pub mod Commands
+pub mod Choices
+pub mod Joining
+pub mod Least
+pub mod Transitions
+pub mod Laws

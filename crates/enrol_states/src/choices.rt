@@ -1,0 +1,117 @@
+// What a user chooses: to be out of an experiment or rollout, to be in a branch of one, and to
+// begin anew.
+ghost use Rattle.std.specs.Prelude.{◌≡◌, IfOk};
+ghost use Rattle.enrol_states.specs.Consistent.{IsConsistent};
+ghost use Rattle.enrol_states.specs.Exclusive.{AreExclusive};
+ghost use Rattle.enrol_states.specs.Statuses.{IsSlug};
+ghost use Rattle.enrol_states.specs.Commands.{after_reset};
+ghost use Rattle.enrol_states.specs.Choices.{OptsOut, OptsIn};
+ghost use Rattle.enrol_states.specs.declared.choices.OptOutFault.TheVariants as out_faults;
+ghost use Rattle.enrol_states.specs.declared.choices.OptInFault.TheVariants as in_faults;
+
+use crate::enrolling::enrolled;
+use crate::features::taken;
+use crate::joining::{rows_opted_out_of, with_slug};
+use crate::state::{State, id_fits};
+use crate::transitions::has_branch;
+use plain_text::Slug;
+use sequences::{Sequence, Text};
+use std::alloc::{AllocError, AllocFailed, Global};
+use uuid::Uuid;
+
+/// Why `opt_out` gives no state.
+#[derive(Clone, Copy, Debug, PartialEq, Eq, Drop)]
+pub enum OptOutFault {
+    /// The slug isn't opted out, and 4,096 slugs are.
+    OptedOutLimit,
+    OutOfMemory,
+}
+
+impl From<AllocError> for OptOutFault {
+    ghost from_gives = { λ _ e. e ≡ out_faults.OutOfMemory };
+
+    fn from(_e: AllocError) -> OptOutFault {
+        OptOutFault::OutOfMemory
+    }
+}
+
+/// Why `opt_in` gives no state: the first that applies.
+#[derive(Drop)]
+pub enum OptInFault {
+    /// The client takes part in nothing.
+    NotParticipating,
+    /// No live recipe has the slug.
+    NoSuchExperiment,
+    /// The recipe has no such branch.
+    NoSuchBranch,
+    /// The client is enrolled in another recipe of the same kind that shares a feature, which
+    /// isn't one of those that may be shared: the least such slug, and its least such feature.
+    FeatureTaken(Slug, Text),
+    OutOfMemory,
+}
+
+impl From<AllocError> for OptInFault {
+    ghost from_gives = { λ _ e. e ≡ in_faults.OutOfMemory };
+
+    fn from(_e: AllocError) -> OptInFault {
+        OptInFault::OutOfMemory
+    }
+}
+
+/// The state in which the slug is opted out, whether or not it has a recipe. An enrolment of it
+/// ends.
+pub fn opt_out(alloc: Global, state: &State, slug: &Slug) -> Result<State, OptOutFault>
+    requires { IsConsistent state.now }
+    ensures answer { OptsOut state.now slug.now result }
+    ensures consistent { IfOk result IsConsistent }
+    ensures exclusive { AreExclusive state.now → IfOk result AreExclusive }
+{
+    slug_fits(slug);
+    let opted_out = with_slug(&state.opted_out, slug)?;
+    let rows = rows_opted_out_of(alloc, &state.rows, slug)?;
+    Ok(state.with_rows(opted_out, rows)?)
+}
+
+/// What the type of a slug says. The call does nothing.
+fn slug_fits(slug: &Slug)
+    ensures { IsSlug slug.now }
+{
+    slug.text();
+}
+
+/// The state in which the client is enrolled in the branch that its user chose.
+pub fn opt_in(alloc: Global, state: &State, slug: &Slug, branch: &Slug) -> Result<State, OptInFault>
+    requires { IsConsistent state.now }
+    ensures answer { OptsIn state.now slug.now branch.now result }
+    ensures consistent { IfOk result IsConsistent }
+    ensures exclusive { AreExclusive state.now → IfOk result AreExclusive }
+{
+    slug_fits(slug);
+    slug_fits(branch);
+    if !state.participating {
+        return Err(OptInFault::NotParticipating);
+    }
+    let Some(recipe) = state.live.get(slug.text()) else {
+        return Err(OptInFault::NoSuchExperiment);
+    };
+    if !has_branch(recipe, branch.text()) {
+        return Err(OptInFault::NoSuchBranch);
+    }
+    if let Some((holder, feature)) = taken(alloc, state, recipe)? {
+        return Err(OptInFault::FeatureTaken(holder, feature));
+    }
+    Ok(enrolled(alloc, state, slug, branch)?)
+}
+
+/// The state under another id, without rows and opt-outs. The one error is want of memory.
+pub fn reset(alloc: Global, state: &State, id: Uuid) -> Result<State, AllocError>
+    requires { IsConsistent state.now }
+    ensures state { IfOk result (λ s. s ≡ after_reset state.now id) }
+    ensures consistent { IfOk result IsConsistent }
+    ensures exclusive { AreExclusive state.now → IfOk result AreExclusive }
+{
+    id_fits(id);
+    let mut next = state.with_rows(Sequence::new(alloc), Sequence::new(alloc))?;
+    next.id = id;
+    Ok(next)
+}

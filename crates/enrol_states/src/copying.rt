@@ -1,0 +1,92 @@
+// Copies of states, each equal to what it is a copy of.
+ghost use Rattle.std.specs.Prelude.{◌≡◌, IfOk};
+
+use crate::state::{Row, State};
+use crate::status::Status;
+use plain_text::Slug;
+use recipe_reader::Recipes;
+use sequences::{Sequence, Text};
+use std::alloc::AllocError;
+
+impl Clone for Status {
+    ghost is_clone = { λ s t. t ≡ s };
+
+    fn clone(&self) -> Result<Status, AllocError> {
+        match self {
+            Status::Enrolled { reason, branch } => Ok(Status::Enrolled {
+                reason: *reason,
+                branch: branch.clone()?,
+            }),
+            Status::NotEnrolled { reason } => Ok(Status::NotEnrolled { reason: *reason }),
+            Status::Disqualified { reason, branch } => Ok(Status::Disqualified {
+                reason: *reason,
+                branch: branch.clone()?,
+            }),
+            Status::WasEnrolled { branch, ended } => Ok(Status::WasEnrolled {
+                branch: branch.clone()?,
+                ended: *ended,
+            }),
+            Status::Error { cause } => Ok(Status::Error { cause: *cause }),
+        }
+    }
+}
+
+impl Clone for Row {
+    ghost is_clone = { λ r s. s ≡ r };
+
+    fn clone(&self) -> Result<Row, AllocError> {
+        Ok(Row {
+            slug: self.slug.clone()?,
+            status: self.status.clone()?,
+        })
+    }
+}
+
+impl Clone for State {
+    ghost is_clone = { λ s t. t ≡ s };
+
+    fn clone(&self) -> Result<State, AllocError> {
+        Ok(State {
+            id: self.id,
+            installed: self.installed,
+            updated: self.updated,
+            version: self.version.clone()?,
+            participating: self.participating,
+            opted_out: copy_of_slugs(&self.opted_out)?,
+            coenrolling: copy_of_texts(&self.coenrolling)?,
+            live: self.live.clone()?,
+            pending: copy_of_pending(&self.pending)?,
+            rows: copy_of_rows(&self.rows)?,
+        })
+    }
+}
+
+#[tactic(auto, using(crate::proofs::Copies::same_lists))]
+pub(crate) fn copy_of_slugs(slugs: &Sequence<Slug>) -> Result<Sequence<Slug>, AllocError>
+    ensures { IfOk result (λ ss. ss ≡ slugs.now) }
+{
+    slugs.clone()
+}
+
+#[tactic(auto, using(crate::proofs::Copies::same_lists))]
+pub(crate) fn copy_of_texts(texts: &Sequence<Text>) -> Result<Sequence<Text>, AllocError>
+    ensures { IfOk result (λ ts. ts ≡ texts.now) }
+{
+    texts.clone()
+}
+
+#[tactic(auto, using(crate::proofs::Copies::same_rows))]
+pub(crate) fn copy_of_rows(rows: &Sequence<Row>) -> Result<Sequence<Row>, AllocError>
+    ensures { IfOk result (λ rs. rs ≡ rows.now) }
+{
+    rows.clone()
+}
+
+pub(crate) fn copy_of_pending(pending: &Option<Recipes>) -> Result<Option<Recipes>, AllocError>
+    ensures { IfOk result (λ p. p ≡ pending.now) }
+{
+    match pending {
+        Some(recipes) => Ok(Some(recipes.clone()?)),
+        None => Ok(None),
+    }
+}

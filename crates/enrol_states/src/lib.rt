@@ -1,0 +1,26 @@
+//! The state of a client, and what commands and verdicts on recipes make of it.
+#![tactic(auto)]
+
+mod choices;
+mod copying;
+mod enrolling;
+mod equality;
+mod features;
+mod joining;
+mod laws;
+mod participation;
+mod state;
+mod status;
+mod transitions;
+mod verdict;
+
+pub use choices::{OptInFault, OptOutFault, opt_in, opt_out, reset};
+pub use laws::equal_states_are_one;
+pub use participation::participate;
+pub use state::{LAST_MOMENT, MAX_OPTED_OUT, MAX_RECIPES, Row, State};
+pub use status::{DisqualifiedReason, EnrolledReason, ErrorCause, NotEnrolledReason, Status};
+pub use transitions::{candidate, ended};
+pub use verdict::{Outcome, Verdict};
+
+#[cfg(test)]
+mod tests;
