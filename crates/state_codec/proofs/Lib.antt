@@ -1,0 +1,17 @@
+pub mod Fields
+pub mod Puts
+pub mod Records
+pub mod MoreRows
+pub mod Folding
+pub mod ValuesRead
+pub mod SectionsRead
+pub mod Names
+pub mod StateRead
+pub mod Sizes
+pub mod Room
+pub mod OneSpelling
+pub mod Fresh
+pub mod Alls
+pub mod Rising
+pub mod Enrolments
+pub mod Refusals

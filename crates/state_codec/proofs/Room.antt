@@ -1,0 +1,62 @@
+-- The rows of a sound state have room in a batch.
+use Rattle.std.proofs.Common.{◌<◌, ◌≤◌, ◌^◌, ◌++◌, ◌∷◌, [], List, ℕ, Option, Some, None, map, length, All, IsTrue, arith}
+use Rattle.std.specs.Prelude.{⊤}
+use Rattle.std.proofs.lemmas.List.Elements.{All-head, All-tail}
+use Rattle.plain_text.specs.Names.{is_name}
+use Rattle.recipe_reader.specs.Payloads.{AreValid}
+use Rattle.recipe_reader.specs.declared.recipe.Recipe.{Recipe}
+use Rattle.enrol_states.specs.Consistent.{IsConsistent, ArePending}
+use Rattle.enrol_states.specs.Statuses.{IsSlug}
+use Rattle.enrol_states.specs.declared.state.State.{State}
+use Rattle.enrol_states.specs.declared.state.Row.{Row}
+use Rattle.state_codec.specs.Batches.{puts, HaveRoom}
+use Rattle.state_codec.specs.Spelling.{key_row, recipe_row, status_row, status_rows, last_rows, pending_recipes, rows_of, spelling}
+use Rattle.state_codec.specs.Sound.{IsSound, max_size}
+use Rattle.state_codec.specs.declared.store_row.StoreRow.{StoreRow}
+use Rattle.state_codec.proofs.Names.{slug_short, name_short, recipe_slug}
+use Rattle.state_codec.proofs.Sizes.{length-puts}
+
+abbrev HaveShortKeys : List StoreRow → Type 0
+HaveShortKeys [] = ⊤
+HaveShortKeys (r ∷ rs) = (length r.key ≤ 81) × HaveShortKeys rs
+
+short-append : (rs ss : List StoreRow) → HaveShortKeys rs → HaveShortKeys ss → HaveShortKeys (rs ++ ss)
+short-append [] ss r_are s_are = s_are
+short-append (r ∷ rs) ss r_are s_are = (r_are.0, short-append rs ss r_are.1 s_are)
+
+short-map : {A : Type 0} (P : A → Type 0) (f : A → StoreRow) (xs : List A) → ((x : A) → P x → length (f x).key ≤ 81) → All P xs → HaveShortKeys (map f xs)
+short-map P f [] each all = tt
+short-map P f (x ∷ xs) each all = (each x (All-head P x xs all), short-map P f xs each (All-tail P x xs all))
+
+recipes_short : (tag : ℕ) (rs : List Recipe) → AreValid rs → HaveShortKeys (map (recipe_row (tag ∷ [])) rs)
+recipes_short tag [] valid = tt
+recipes_short tag (r ∷ rs) valid = (omega (arith, slug_short r.slug (recipe_slug r valid.0)), recipes_short tag rs valid.1)
+
+pending_valid : (p : Option (List Recipe)) → ArePending p → AreValid (pending_recipes p)
+pending_valid None are = tt
+pending_valid (Some rs) are = are.valid
+
+keys_short : (s : State) → IsConsistent s → HaveShortKeys (rows_of s)
+unfolding rows_of
+keys_short s is =
+    let last : HaveShortKeys (last_rows s) = (omega arith, (omega arith, (omega arith, tt))) in
+    let statuses : HaveShortKeys (status_rows s) = (omega arith, (omega arith, short-map (λ (w : Row). IsSlug w.slug) status_row s.rows (λ w slug. omega (arith, slug_short w.slug slug)) is.row_slugs)) in
+    let opted_out = short-map IsSlug (key_row (111 ∷ [])) s.opted_out (λ slug is_one. omega (arith, slug_short slug is_one)) is.opted_out_slugs in
+    let coenrolling = short-map (λ name. IsTrue (is_name name)) (key_row (99 ∷ [])) s.coenrolling (λ name is_one. omega (arith, name_short name is_one)) is.coenrolling_names in
+    short-append (map (key_row (99 ∷ [])) s.coenrolling) _ coenrolling (
+      omega arith,
+      short-append (map (recipe_row (108 ∷ [])) s.live) _ (recipes_short 108 s.live is.live.valid)
+          (short-append (map (recipe_row (110 ∷ [])) (pending_recipes s.pending)) _ (recipes_short 110 (pending_recipes s.pending) (pending_valid s.pending is.pending))
+          (short-append (map (key_row (111 ∷ [])) s.opted_out) _ opted_out (short-append (status_rows s) (last_rows s) statuses last))),
+    )
+
+room_of : (rs : List StoreRow) → HaveShortKeys rs → length (puts rs) < 2 ^ 32 → HaveRoom rs
+room_of [] short fits = tt
+room_of (r ∷ rs) short fits = (record { key = omega (arith, short.0); value = omega (arith, length-puts r rs) }, room_of rs short.1 (omega (arith, length-puts r rs)))
+
+rows_fit : (s : State) → length (spelling s) ≤ max_size → length (puts (rows_of s)) < 2 ^ 32
+unfolding spelling
+rows_fit s fits = omega (arith, fits)
+
+pub sound_room : (s : State) → IsSound s → HaveRoom (rows_of s)
+sound_room s is = room_of (rows_of s) (keys_short s is.consistent) (rows_fit s is.size)

@@ -1,0 +1,7 @@
+use Rattle.std.proofs.Common.{◌≡◌, [], drop}
+use Rattle.state_codec.specs.Outcome.{folded, keeping}
+use Rattle.state_codec.specs.Reading.{slug_row}
+use Rattle.state_codec.proofs.sections.slugs_under.Given as goal
+
+abbrev pub invariant-loop-row : goal.invariant-loop-row
+invariant-loop-row l = folded (keeping (slug_row l.tag)) l.slugs (drop l.row-index l.rows) ≡ folded (keeping (slug_row l.tag)) [] l.rows

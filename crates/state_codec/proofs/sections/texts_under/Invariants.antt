@@ -1,0 +1,7 @@
+use Rattle.std.proofs.Common.{◌≡◌, [], drop}
+use Rattle.state_codec.specs.Outcome.{folded, keeping}
+use Rattle.state_codec.specs.Reading.{text_row}
+use Rattle.state_codec.proofs.sections.texts_under.Given as goal
+
+abbrev pub invariant-loop-row : goal.invariant-loop-row
+invariant-loop-row l = folded (keeping (text_row l.tag)) l.texts (drop l.row-index l.rows) ≡ folded (keeping (text_row l.tag)) [] l.rows

@@ -1,0 +1,47 @@
+-- The parts of a consistent state, as they are tested.
+use Rattle.std.specs.Prelude.{◌≡◌, ◌≤◌, ℕ, false, List, All, IsTrue, length}
+use Rattle.plain_text.specs.Names.{is_name}
+use Rattle.recipe_reader.specs.Payloads.{recipe_with}
+use Rattle.enrol_states.specs.Order.{Rise, is_in}
+use Rattle.enrol_states.specs.State.{slugs_of}
+use Rattle.enrol_states.specs.Statuses.{last_moment, IsSlug, IsStatus}
+use Rattle.enrol_states.specs.Consistent.{AreKept, ArePending, HasRecipe, HasBranch, IsNotOptedOut, IsParticipating}
+use Rattle.enrol_states.specs.Recipes.{offers}
+use Rattle.enrol_states.specs.declared.state.State.{State}
+use Rattle.enrol_states.specs.declared.state.Row.{Row}
+
+pub record HasMoments (s : State) : Type 0 where
+  pub installed : s.installed ≤ last_moment
+  pub updated : s.updated ≤ last_moment
+
+pub record HasOptOuts (s : State) : Type 0 where
+  pub slugs : All IsSlug s.opted_out
+  pub order : Rise s.opted_out
+  pub limit : length s.opted_out ≤ 4096
+
+pub record HasFeatures (s : State) : Type 0 where
+  pub names : All (λ name. IsTrue (is_name name)) s.coenrolling
+  pub order : Rise s.coenrolling
+
+pub record HasRecipes (s : State) : Type 0 where
+  pub live : AreKept s.live
+  pub pending : ArePending s.pending
+
+pub record IsRowOf (s : State) (row : Row) : Type 0 where
+  pub status : IsStatus row.status
+  pub recipe : HasRecipe s row
+  pub branch : HasBranch s row
+  pub choice : IsNotOptedOut s row
+  pub participation : IsParticipating s row
+
+pub record HasRows (s : State) : Type 0 where
+  pub slugs : All (λ row. IsSlug row.slug) s.rows
+  pub order : Rise (slugs_of s.rows)
+  pub each : All (IsRowOf s) s.rows
+
+-- the client takes part, its user didn't opt out of the slug, and the slug's recipe has the branch
+pub record MayBeEnrolled (s : State) (slug branch : List ℕ) : Type 0 where
+  pub slug_fits : IsSlug branch
+  pub participation : IsTrue s.participating
+  pub choice : is_in s.opted_out slug ≡ false
+  pub offer : IsTrue (offers (recipe_with slug s.live) branch)

@@ -1,0 +1,101 @@
+// How many bytes a state is spelled in.
+ghost use Rattle.std.specs.Prelude.{◌≡◌, ◌≤◌, ◌<◌, ◌^◌, ◌*◌, ◌∷◌, [], ℕ, All, IsTrue, map, codes, length, IfOk, OnOk};
+ghost use Rattle.plain_text.specs.Names.{is_name};
+ghost use Rattle.enrol_states.specs.Consistent.{IsConsistent};
+ghost use Rattle.state_codec.specs.Batches.{puts};
+ghost use Rattle.state_codec.specs.Spelling.{spelling, key_row, recipe_row, status_row, pending_recipes};
+ghost use Rattle.state_codec.specs.Sound.{HaveRecords, AreRecords};
+
+use crate::rows::recipe_text;
+use crate::status::status_len;
+use enrol_states::{Row, State};
+use plain_text::Slug;
+use recipe_reader::{Recipe, Recipes};
+use sequences::Text;
+use std::alloc::{AllocError, Global};
+
+/// The bytes of a put beside its key and its value.
+const PUT: u128 = 7;
+
+/// The clear, and the rows of a state that are always there: the id, whether the client
+/// participates, whether recipes are pending, two moments, and the version without its value.
+const FRAME: u128 = 103;
+
+/// How many bytes the state's spelling has. It is counted: no more than one recipe's text is
+/// written at a time. The one error is want of memory.
+pub fn state_size(alloc: Global, state: &State) -> Result<u128, AllocError>
+    requires { IsConsistent state.now }
+    ensures size { IfOk result (λ size. size ≡ length (spelling state.now)) }
+    ensures records { OnOk result (HaveRecords state.now) }
+{
+    let live = recipes_size(alloc, state.live.as_slice())?;
+    let pending = pending_size(alloc, &state.pending)?;
+    let features = features_size(state.coenrolling.as_slice());
+    let slugs = slugs_size(state.opted_out.as_slice());
+    let rows = client_rows_size(state.rows.as_slice());
+    let version = state.version.as_str().len() as u128;
+    Ok(FRAME + live + pending + features + slugs + rows + version)
+}
+
+fn recipes_size(alloc: Global, recipes: &[Recipe]) -> Result<u128, AllocError>
+    requires { length recipes.now ≤ 2000 }
+    ensures size { IfOk result (λ size. (tag : ℕ) → size ≡ length (puts (map (recipe_row (tag ∷ [])) recipes.now))) }
+    ensures bound { IfOk result (λ size. size ≤ 2000 * 2 ^ 66) }
+    ensures records { OnOk result (AreRecords recipes.now) }
+{
+    let mut size: u128 = 0;
+    for recipe in recipes {
+        let text = recipe_text(alloc, recipe)?;
+        size += PUT + 1 + recipe.slug.text().len() as u128 + text.as_str().len() as u128;
+    }
+    Ok(size)
+}
+
+fn pending_size(alloc: Global, pending: &Option<Recipes>) -> Result<u128, AllocError>
+    requires { length (pending_recipes pending.now) ≤ 2000 }
+    ensures size { IfOk result (λ size. (tag : ℕ) → size ≡ length (puts (map (recipe_row (tag ∷ [])) (pending_recipes pending.now)))) }
+    ensures bound { IfOk result (λ size. size ≤ 2000 * 2 ^ 66) }
+    ensures records { OnOk result (AreRecords (pending_recipes pending.now)) }
+{
+    match pending {
+        Some(recipes) => recipes_size(alloc, recipes.as_slice()),
+        None => Ok(0),
+    }
+}
+
+fn features_size(features: &[Text]) -> u128
+    requires { All (λ name. IsTrue (is_name name)) features.now }
+    ensures size { result ≡ length (puts (map (key_row (codes "c")) features.now)) }
+    ensures bound { result ≤ 88 * length features.now }
+    ensures count { length features.now < 2 ^ 64 }
+{
+    let mut size: u128 = 0;
+    for feature in features {
+        size += PUT + 1 + feature.as_str().len() as u128;
+    }
+    size
+}
+
+fn slugs_size(slugs: &[Slug]) -> u128
+    ensures size { result ≡ length (puts (map (key_row (codes "o")) slugs.now)) }
+    ensures bound { result ≤ 88 * length slugs.now }
+    ensures count { length slugs.now < 2 ^ 64 }
+{
+    let mut size: u128 = 0;
+    for slug in slugs {
+        size += PUT + 1 + slug.text().len() as u128;
+    }
+    size
+}
+
+fn client_rows_size(rows: &[Row]) -> u128
+    ensures size { result ≡ length (puts (map status_row rows.now)) }
+    ensures bound { result ≤ 177 * length rows.now }
+    ensures count { length rows.now < 2 ^ 64 }
+{
+    let mut size: u128 = 0;
+    for row in rows {
+        size += PUT + 1 + row.slug.text().len() as u128 + status_len(&row.status) as u128;
+    }
+    size
+}

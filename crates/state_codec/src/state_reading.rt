@@ -1,0 +1,145 @@
+// What rows say of a state. Of rows that spell a state it is that state.
+ghost use Rattle.std.specs.Prelude.{◌≡◌, IfOk};
+ghost use Rattle.recipe_reader.specs.Payloads.{AreValid};
+ghost use Rattle.state_codec.specs.Outcome.{Gives};
+ghost use Rattle.state_codec.specs.Reading.{id_under, version_under, number_under, flag_under, pending_if, lists_in, recipes_in, last_in, state_in, HaveValid, AreValidIf};
+
+use crate::fault::CodecFault;
+use crate::sections::{client_rows_under, recipes_under, slugs_under, texts_under, value_under};
+use crate::store_row::StoreRow;
+use crate::values::{flag_in, id_in, number_in, text_in};
+use enrol_states::{Row, State};
+use plain_text::Slug;
+use recipe_reader::Recipes;
+use sequences::{Sequence, Text};
+use std::alloc::Global;
+use uuid::Uuid;
+
+/// The lists of a state but for its recipes.
+#[derive(Drop)]
+pub(crate) struct Lists {
+    pub coenrolling: Sequence<Text>,
+    pub opted_out: Sequence<Slug>,
+    pub rows: Sequence<Row>,
+}
+
+/// The recipes of a state.
+#[derive(Drop)]
+pub(crate) struct StateRecipes {
+    pub live: Recipes,
+    pub pending: Option<Recipes>,
+}
+
+/// The moments and the version of a state.
+#[derive(Drop)]
+pub(crate) struct Last {
+    pub installed: u64,
+    pub updated: u64,
+    pub version: Text,
+}
+
+#[tactic(auto, unfolding(crate::specs::Reading::state_in))]
+pub(crate) fn state_in(alloc: Global, rows: &[StoreRow]) -> Result<State, CodecFault>
+    ensures state { Gives (λ s. s) result (state_in rows.now) }
+    ensures live { IfOk result (λ s. AreValid s.live) }
+    ensures pending { IfOk result (λ s. AreValidIf s.pending) }
+{
+    let id = id_under(rows)?;
+    let participating = flag_under(b'p', rows)?;
+    let lists = lists_in(alloc, rows)?;
+    let recipes = recipes_in(alloc, rows)?;
+    let last = last_in(alloc, rows)?;
+    Ok(State {
+        id,
+        installed: last.installed,
+        updated: last.updated,
+        version: last.version,
+        participating,
+        opted_out: lists.opted_out,
+        coenrolling: lists.coenrolling,
+        live: recipes.live,
+        pending: recipes.pending,
+        rows: lists.rows,
+    })
+}
+
+#[tactic(auto, unfolding(crate::specs::Reading::lists_in))]
+fn lists_in(alloc: Global, rows: &[StoreRow]) -> Result<Lists, CodecFault>
+    ensures { Gives (λ l. l) result (lists_in rows.now) }
+{
+    let coenrolling = texts_under(alloc, b'c', rows)?;
+    let opted_out = slugs_under(alloc, b'o', rows)?;
+    let rows = client_rows_under(alloc, b'r', rows)?;
+    Ok(Lists {
+        coenrolling,
+        opted_out,
+        rows,
+    })
+}
+
+#[tactic(auto, unfolding(crate::specs::Reading::recipes_in))]
+fn recipes_in(alloc: Global, rows: &[StoreRow]) -> Result<StateRecipes, CodecFault>
+    ensures recipes { Gives (λ r. r) result (recipes_in rows.now) }
+    ensures valid { IfOk result HaveValid }
+{
+    let live = recipes_under(alloc, b'l', rows)?;
+    let waiting = recipes_under(alloc, b'n', rows)?;
+    let pending = flag_under(b'q', rows)?;
+    Ok(StateRecipes {
+        live,
+        pending: pending_if(pending, waiting),
+    })
+}
+
+fn pending_if(pending: bool, waiting: Recipes) -> Option<Recipes>
+    ensures pending { result ≡ pending_if pending waiting }
+    ensures valid { AreValid waiting → AreValidIf result }
+{
+    if pending { Some(waiting) } else { None }
+}
+
+#[tactic(auto, unfolding(crate::specs::Reading::last_in))]
+fn last_in(alloc: Global, rows: &[StoreRow]) -> Result<Last, CodecFault>
+    ensures { Gives (λ l. l) result (last_in rows.now) }
+{
+    let installed = number_under(b't', rows)?;
+    let updated = number_under(b'u', rows)?;
+    let version = version_under(alloc, rows)?;
+    Ok(Last {
+        installed,
+        updated,
+        version,
+    })
+}
+
+#[tactic(auto, unfolding(crate::specs::Reading::id_under))]
+fn id_under(rows: &[StoreRow]) -> Result<Uuid, CodecFault>
+    ensures { Gives (λ id. id) result (id_under rows.now) }
+{
+    let value = value_under(b'i', rows)?;
+    id_in(value)
+}
+
+#[tactic(auto, unfolding(crate::specs::Reading::version_under))]
+fn version_under(alloc: Global, rows: &[StoreRow]) -> Result<Text, CodecFault>
+    ensures { Gives (λ t. t) result (version_under rows.now) }
+{
+    let value = value_under(b'v', rows)?;
+    text_in(alloc, value)
+}
+
+#[tactic(auto, unfolding(crate::specs::Reading::number_under))]
+fn number_under(tag: u8, rows: &[StoreRow]) -> Result<u64, CodecFault>
+    ensures { Gives (λ n. n) result (number_under tag rows.now) }
+{
+    let value = value_under(tag, rows)?;
+    number_in(value)
+}
+
+#[tactic(auto, unfolding(crate::specs::Reading::flag_under))]
+fn flag_under(tag: u8, rows: &[StoreRow]) -> Result<bool, CodecFault>
+    ensures { Gives (λ b. b) result (flag_under tag rows.now) }
+{
+    let value = value_under(tag, rows)?;
+    Ok(flag_in(value))
+}

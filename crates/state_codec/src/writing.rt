@@ -1,0 +1,20 @@
+// A state in bytes.
+ghost use Rattle.std.specs.Prelude.{◌≡◌, IfOk};
+ghost use Rattle.state_codec.specs.Spelling.{spelling};
+ghost use Rattle.state_codec.specs.Sound.{IsSound};
+
+use crate::batches::whole_batch;
+use crate::rows::rows_of;
+use enrol_states::State;
+use std::alloc::{AllocError, Global};
+
+/// The spelling of the state: a clear of all rows, and a put of each of its rows in the order of
+/// their keys. The one error is want of memory.
+#[tactic(auto, unfolding(crate::specs::Spelling::spelling))]
+pub fn write_state(alloc: Global, state: &State) -> Result<Vec<u8>, AllocError>
+    requires { IsSound state.now }
+    ensures { IfOk result (λ bytes. bytes.items ≡ spelling state.now) }
+{
+    let rows = rows_of(alloc, state)?;
+    whole_batch(alloc, rows.as_slice())
+}
