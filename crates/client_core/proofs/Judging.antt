@@ -1,0 +1,62 @@
+-- Which answer a call has, by what the pair of sides is.
+use Rattle.std.proofs.Common.{◌≡◌, ◌⊎◌, inl, inr, ℕ, List, refl, Result, Ok, Err, IsOk, IsErrOf}
+use Rattle.enrol_states.specs.declared.state.State.{State}
+use Rattle.client_core.specs.declared.client.Client.{Client}
+use Rattle.client_core.specs.declared.faults.ClientFault.{ClientFault}
+use Rattle.client_core.specs.declared.faults.ClientFault.TheVariants as opening
+use Rattle.client_core.specs.declared.faults.MakeFault.{MakeFault}
+use Rattle.client_core.specs.declared.faults.MakeFault.TheVariants as making
+use Rattle.client_core.specs.Finds.{OpenFinds, OpenFailed, MakeFinds, MakeFailed}
+use Rattle.client_core.specs.Store.{StandsFor, IsStore, IsAbsent, IsBad}
+use Rattle.client_core.proofs.Refusing.{stands_not_absent}
+
+module _ (l r : List ℕ) where
+  pub opened_where : (result : Result Client ClientFault) → OpenFinds l r result → (s : State) → StandsFor l r s → IsOk result ⊎ OpenFailed result
+  opened_where (Ok client) finds s stands = inl refl
+  opened_where (Err opening.NoStore) finds s stands = absurd (stands_not_absent l r s stands finds)
+  opened_where (Err opening.BadStore) finds s stands = absurd (finds.no_state s stands)
+  opened_where (Err opening.DiskFault) finds s stands = inr (inl refl)
+  opened_where (Err opening.OutOfMemory) finds s stands = inr (inr refl)
+
+  pub no_store_where : (result : Result Client ClientFault) → OpenFinds l r result → IsAbsent l r → IsErrOf result opening.NoStore ⊎ OpenFailed result
+  no_store_where (Ok client) finds absent = absurd (stands_not_absent l r client.state finds absent)
+  no_store_where (Err opening.NoStore) finds absent = inl refl
+  no_store_where (Err opening.BadStore) finds absent = absurd (finds.found absent)
+  no_store_where (Err opening.DiskFault) finds absent = inr (inl refl)
+  no_store_where (Err opening.OutOfMemory) finds absent = inr (inr refl)
+
+  pub bad_store_where : (result : Result Client ClientFault) → OpenFinds l r result → IsBad l r → IsErrOf result opening.BadStore ⊎ OpenFailed result
+  bad_store_where (Ok client) finds bad = absurd (bad.no_state client.state finds)
+  bad_store_where (Err opening.NoStore) finds bad = absurd (bad.found finds)
+  bad_store_where (Err opening.BadStore) finds bad = inl refl
+  bad_store_where (Err opening.DiskFault) finds bad = inr (inl refl)
+  bad_store_where (Err opening.OutOfMemory) finds bad = inr (inr refl)
+
+  module _ {T : Type 0} where
+    pub made_where : (result : Result T MakeFault) → MakeFinds l r result → IsAbsent l r → IsOk result ⊎ MakeFailed result
+    made_where (Ok made) finds absent = inl refl
+    made_where (Err making.AlreadyStore) finds absent = absurd (stands_not_absent l r finds.0 finds.1 absent)
+    made_where (Err making.BadStore) finds absent = absurd (finds.found absent)
+    made_where (Err making.DiskFault) finds absent = inr (inl refl)
+    made_where (Err making.OutOfMemory) finds absent = inr (inr refl)
+
+    pub already_store_where : (result : Result T MakeFault) → MakeFinds l r result → IsStore l r → IsErrOf result making.AlreadyStore ⊎ MakeFailed result
+    already_store_where (Ok made) finds store = absurd (stands_not_absent l r store.0 store.1 finds)
+    already_store_where (Err making.AlreadyStore) finds store = inl refl
+    already_store_where (Err making.BadStore) finds store = absurd (finds.no_state store.0 store.1)
+    already_store_where (Err making.DiskFault) finds store = inr (inl refl)
+    already_store_where (Err making.OutOfMemory) finds store = inr (inr refl)
+
+    pub bad_making_where : (result : Result T MakeFault) → MakeFinds l r result → IsBad l r → IsErrOf result making.BadStore ⊎ MakeFailed result
+    bad_making_where (Ok made) finds bad = absurd (bad.found finds)
+    bad_making_where (Err making.AlreadyStore) finds bad = absurd (bad.no_state finds.0 finds.1)
+    bad_making_where (Err making.BadStore) finds bad = inl refl
+    bad_making_where (Err making.DiskFault) finds bad = inr (inl refl)
+    bad_making_where (Err making.OutOfMemory) finds bad = inr (inr refl)
+
+-- what an opening found that opened nothing
+pub open_finds : (l r : List ℕ) (fault : ClientFault) → (fault ≡ opening.NoStore → IsAbsent l r) → (fault ≡ opening.BadStore → IsBad l r) → OpenFinds l r (Err fault)
+open_finds l r opening.NoStore absent bad = absent refl
+open_finds l r opening.BadStore absent bad = bad refl
+open_finds l r opening.DiskFault absent bad = tt
+open_finds l r opening.OutOfMemory absent bad = tt

@@ -1,0 +1,8 @@
+mod Copies
+mod Payloads
+mod Stepping
+pub mod Holding
+mod Judging
+pub mod Placing
+pub mod Refusing
+pub mod Uniqueness

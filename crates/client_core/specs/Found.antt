@@ -1,0 +1,25 @@
+-- What was found where a command named a file.
+use Rattle.std.specs.Prelude.{◌≡◌, List, length, Option, Some, Result, Ok, Err}
+use Rattle.json_tree.specs.Json.{Json}
+use Rattle.json_tree.specs.Tree.{json_of}
+use Rattle.json_tree.specs.declared.tree.Tree.{Tree}
+use Rattle.recipe_reader.specs.declared.payload.Payload.{Payload}
+use Rattle.enrol_states.specs.declared.state.State.{State}
+use Rattle.client_core.specs.declared.answer.Answer.{Answer}
+use Rattle.client_core.specs.declared.answer.Answer.TheVariants.{Fetched}
+use Rattle.client_core.specs.declared.session.Session.{Session}
+use Rattle.client_core.specs.Steps.{Outcome, Accepted, Refused}
+
+-- it is the tree of this reading, or its refusal
+abbrev pub IsTree : Result Tree Answer → Result Json Answer → Type 0
+IsTree (Ok tree) read = read ≡ Ok (json_of tree)
+IsTree (Err refusal) read = read ≡ Err refusal
+
+-- the state with these recipes pending, and the answer
+abbrev pub accepted : State → Session → Payload → Outcome
+accepted s session payload = Accepted (record s { pending = Some payload.recipes }) session (Fetched (length payload.recipes) payload.skipped)
+
+-- what is asked for with this payload, or this refusal
+abbrev pub outcome_of : State → Session → Result Payload Answer → Outcome
+outcome_of s session (Ok payload) = accepted s session payload
+outcome_of s session (Err refusal) = Refused refusal

@@ -1,0 +1,12 @@
+pub mod Clients
+pub mod Fetching
+pub mod Finds
+pub mod Found
+pub mod Moments
+pub mod Opening
+pub mod OpenStore
+pub mod Places
+pub mod Prepared
+pub mod Settings
+pub mod Steps
+pub mod Store

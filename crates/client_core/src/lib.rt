@@ -1,0 +1,26 @@
+//! One step of a client: what a command makes of its state and of the session, written to its store before it is
+//! answered. The store is a journal on the left of two sides, each of whose payloads is the spelling of a state.
+#![tactic(auto)]
+
+mod answer;
+mod client;
+mod command;
+mod faults;
+mod fetching;
+mod laws;
+mod making;
+mod opening;
+mod prepared;
+mod preparing;
+mod session;
+
+pub use answer::Answer;
+pub use client::Client;
+pub use command::Command;
+pub use faults::{ClientFault, MakeFault, StepFault};
+pub use laws::one_state;
+pub use prepared::Prepared;
+pub use session::Session;
+
+#[cfg(test)]
+mod tests;

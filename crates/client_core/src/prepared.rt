@@ -1,0 +1,33 @@
+// A step, built before anything of it is written.
+ghost use Rattle.std.specs.Prelude.{◌≡◌};
+
+use crate::answer::Answer;
+use crate::session::Session;
+use enrol_states::State;
+use gate_journal::Frame;
+
+/// A new state, and the record of its spelling.
+#[derive(Drop)]
+pub struct Change {
+    pub(crate) state: State,
+    pub(crate) frame: Frame,
+}
+
+/// What a command leaves, and its answer. Where the state changes it holds the new one with its record.
+#[derive(Drop)]
+pub struct Prepared {
+    pub(crate) change: Option<Change>,
+    pub(crate) session: Session,
+    pub(crate) answer: Answer,
+}
+
+impl Prepared {
+    ghost use Rattle.client_core.specs.Prepared.{answer_in};
+
+    /// The answer to the command. It takes no memory.
+    pub fn answer(&self) -> &Answer
+        ensures { result.now ≡ answer_in self.now }
+    {
+        &self.answer
+    }
+}

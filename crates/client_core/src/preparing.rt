@@ -1,0 +1,190 @@
+// A step is prepared: its new state, the record of it and its answer are built before the first write.
+ghost use Rattle.std.specs.Prelude.{◌≡◌, ◌≤◌, List, ℕ, Some, IfOk, OnOk, IsErrOf};
+ghost use Rattle.host_model.specs.Causes.{Rose};
+ghost use Rattle.enrol_states.specs.Consistent.{IsConsistent, AreKept};
+ghost use Rattle.enrol_states.specs.State.{last_moment};
+ghost use Rattle.state_codec.specs.Sound.{IsSound};
+ghost use Rattle.state_codec.specs.Spelling.{spelling};
+ghost use Rattle.client_core.specs.Found.{accepted};
+ghost use Rattle.client_core.specs.Places.{IsFullFor};
+ghost use Rattle.client_core.specs.Settings.{setting};
+ghost use Rattle.client_core.specs.Steps.{Accepted, shown_answer, showing, done};
+
+use crate::answer::Answer;
+use crate::client::Client;
+use crate::command::Command;
+use crate::faults::StepFault;
+use crate::fetching::fetch;
+use crate::prepared::{Change, Prepared};
+use enrol_states::{Row, State, participate};
+use gate_journal::{Frame, SIDE_END};
+use host_model::Shelf;
+use plain_text::Slug;
+use recipe_reader::Payload;
+use sequences::Sequence;
+use state_codec::{state_size, write_state};
+use std::alloc::{AllocError, Global};
+
+/// The most bytes of a state's spelling.
+const MAX_STATE_BYTES: u128 = 16_777_216;
+
+impl Client {
+    ghost use Rattle.client_core.specs.Clients.{state_of, session_of, end_of, step_of};
+    ghost use Rattle.client_core.specs.Prepared.{IsMadeOn, IsChange, Leads, changed};
+
+    /// Prepares the step of a command at a moment, in whole seconds since 1970. It changes neither the state nor the
+    /// session, and writes nothing. A command that is refused is `Ok` with its refusal as the answer.
+    pub fn prepare<F: Shelf>(
+        &self,
+        alloc: Global,
+        command: &Command,
+        now: u64,
+        shelf: &mut F,
+    ) -> Result<Prepared, StepFault>
+        requires sound { IsSound (state_of self.now) }
+        requires moment { now ≤ last_moment }
+
+        ensures made { IfOk result (λ prepared. IsMadeOn self.now prepared) }
+        ensures step { F.tells → IfOk result (λ prepared. Leads self.now prepared (step_of self.now (setting F.Shelf shelf.old now) command.now)) }
+
+        // `StoreFull` comes exactly where the state changes and its record has no room.
+        ensures full { IsErrOf result StepFault.StoreFull → F.tells
+            → IsFullFor (end_of self.now) (state_of self.now) (step_of self.now (setting F.Shelf shelf.old now) command.now).state }
+        ensures fits { F.tells → OnOk result
+            (IsFullFor (end_of self.now) (state_of self.now) (step_of self.now (setting F.Shelf shelf.old now) command.now).state → ⊥) }
+
+        ensures files { F.tells → (name : List ℕ) → F.file shelf.new name ≡ F.file shelf.old name }
+        ensures cause { IsErrOf result StepFault.ShelfFault → Rose (F.faults shelf.old) (F.faults shelf.new) }
+        ensures faults { F.faults shelf.old ≤ F.faults shelf.new }
+    {
+        match command {
+            Command::Participate { on } => {
+                let next = participate(alloc, &self.state, *on)?;
+                self.accepted(alloc, next, Answer::Okay)
+            }
+            Command::Show => Ok(self.shown(alloc)?),
+            Command::Fetch { file } => match fetch(alloc, shelf, file)? {
+                Ok(payload) => self.with_pending(alloc, payload),
+                Err(refusal) => Ok(self.unchanged(refusal)),
+            },
+        }
+    }
+
+    /// The state is as before.
+    fn unchanged(&self, answer: Answer) -> Prepared
+        ensures made { IsMadeOn self.now result }
+        ensures answer { result.answer ≡ answer }
+        ensures session { result.session ≡ self.now.session }
+        ensures state { changed self.now.state result.change ≡ self.now.state }
+    {
+        Prepared {
+            change: None,
+            session: self.session,
+            answer,
+        }
+    }
+
+    /// The step of `show`.
+    fn shown(&self, alloc: Global) -> Result<Prepared, AllocError>
+        requires { IsSound self.now.state }
+        ensures made { IfOk result (λ prepared. IsMadeOn self.now prepared) }
+        ensures step { IfOk result (λ prepared. Leads self.now prepared (done self.now.state self.now.session (showing self.now.state self.now.session))) }
+    {
+        let answer = answer_of(alloc, &self.state)?;
+        Ok(self.unchanged(answer))
+    }
+
+    /// The step of `fetch` with the payload of its file.
+    fn with_pending(&self, alloc: Global, payload: Payload) -> Result<Prepared, StepFault>
+        requires consistent { IsConsistent self.now.state }
+        requires kept { AreKept payload.recipes }
+        ensures made { IfOk result (λ prepared. IsMadeOn self.now prepared) }
+        ensures step { IfOk result (λ prepared. Leads self.now prepared (done self.now.state self.now.session (accepted self.now.state self.now.session payload))) }
+        ensures full { IsErrOf result StepFault.StoreFull
+            → IsFullFor self.now.journal.place self.now.state (done self.now.state self.now.session (accepted self.now.state self.now.session payload)).state }
+        ensures not_shelf { ¬ IsErrOf result StepFault.ShelfFault }
+    {
+        let Payload { recipes, skipped } = payload;
+        let kept = recipes.as_slice().len() as u32;
+        let mut next = self.state.clone()?;
+        next.pending = Some(recipes);
+        self.accepted(alloc, next, Answer::Fetched { kept, skipped })
+    }
+
+    /// The step of a command that asks for this state and has this answer, unless the state is too large.
+    fn accepted(&self, alloc: Global, next: State, answer: Answer) -> Result<Prepared, StepFault>
+        requires { IsConsistent next }
+        ensures made { IfOk result (λ prepared. IsMadeOn self.now prepared) }
+        ensures step { IfOk result (λ prepared. Leads self.now prepared (done self.now.state self.now.session (Accepted next self.now.session answer))) }
+        ensures full { IsErrOf result StepFault.StoreFull
+            → IsFullFor self.now.journal.place self.now.state (done self.now.state self.now.session (Accepted next self.now.session answer)).state }
+        ensures not_shelf { ¬ IsErrOf result StepFault.ShelfFault }
+    {
+        let size = state_size(alloc, &next)?;
+        if size > MAX_STATE_BYTES {
+            return Ok(self.unchanged(Answer::StateTooLarge(size)));
+        }
+        Ok(Prepared {
+            change: self.change_to(alloc, next)?,
+            session: self.session,
+            answer,
+        })
+    }
+
+    /// The change to a state, where it is another one.
+    fn change_to(&self, alloc: Global, next: State) -> Result<Option<Change>, StepFault>
+        requires { IsSound next }
+        ensures change { IfOk result (λ change. IsChange self.now.journal.place self.now.state change) }
+        ensures next { IfOk result (λ change. changed self.now.state change ≡ next) }
+        ensures full { IsErrOf result StepFault.StoreFull → IsFullFor self.now.journal.place self.now.state next }
+        ensures not_shelf { ¬ IsErrOf result StepFault.ShelfFault }
+    {
+        if next == self.state {
+            return Ok(None);
+        }
+        let frame = record_of(alloc, &next)?;
+        if self.journal.end_after(&frame) > SIDE_END {
+            return Err(StepFault::StoreFull);
+        }
+        Ok(Some(Change { state: next, frame }))
+    }
+}
+
+/// The record of a state.
+pub(crate) fn record_of(alloc: Global, state: &State) -> Result<Frame, AllocError>
+    requires { IsSound state.now }
+    ensures { IfOk result (λ frame. frame ≡ spelling state.now) }
+{
+    let payload = write_state(alloc, state)?;
+    match Frame::new(alloc, &payload) {
+        Ok(frame) => Ok(frame),
+        Err(_) => Err(AllocError),
+    }
+}
+
+/// The answer that shows a state.
+fn answer_of(alloc: Global, state: &State) -> Result<Answer, AllocError>
+    ensures { IfOk result (λ answer. answer ≡ shown_answer state.now) }
+{
+    Ok(Answer::Shown {
+        id: state.id,
+        participating: state.participating,
+        pending: state.pending.is_some(),
+        opted_out: copy_of_slugs(&state.opted_out)?,
+        rows: copy_of_rows(&state.rows)?,
+    })
+}
+
+#[tactic(auto, using(crate::proofs::Copies::same_lists))]
+fn copy_of_slugs(slugs: &Sequence<Slug>) -> Result<Sequence<Slug>, AllocError>
+    ensures { IfOk result (λ copy. copy ≡ slugs.now) }
+{
+    slugs.clone()
+}
+
+#[tactic(auto, using(crate::proofs::Copies::same_rows))]
+fn copy_of_rows(rows: &Sequence<Row>) -> Result<Sequence<Row>, AllocError>
+    ensures { IfOk result (λ copy. copy ≡ rows.now) }
+{
+    rows.clone()
+}
