@@ -18,6 +18,7 @@ usage:
 
 commands of `nimbus run`:
   participate yes|no  whether the client takes part in experiments
+  fetch FILE          takes the recipes of this file of the folder, for a later apply
   show                prints the state
 
 exit status:
@@ -29,6 +30,7 @@ exit status:
    6 BadStore         the files of the store stand for no state
    7 StoreFull        the store has no room for a further record
    8 SourceFault      standard input failed
+   9 ShelfFault       a file that a command names failed
   10 DiskFault        a file of the store failed
   11 SayFault         standard output failed
   12 OutOfMemory      want of memory

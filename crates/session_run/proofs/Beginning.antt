@@ -1,14 +1,15 @@
 -- A store is made, and then said to be ready.
-use Rattle.std.proofs.Common.{◌≡◌, inl, inr, ℕ, List, ◌++◌, take, ◌∙◌, ap, subst}
+use Rattle.std.proofs.Common.{◌≡◌, inl, inr, ℕ, List, ◌++◌, take, ◌∙◌, ap}
 use Rattle.host_model.specs.declared.side.Side.{Side}
 use Rattle.host_model.specs.declared.side.Side.TheVariants.{Left, Right}
 use Rattle.host_model.specs.declared.host.Host.{Ghosts}
-use Rattle.host_model.specs.Hosts.{NowOf, MeetsAll}
+use Rattle.host_model.specs.Hosts.{MeetsAll}
 use Rattle.host_model.specs.Moments.{IsSaying, Elapses, KeepsSide}
-use Rattle.host_model.proofs.Meeting.{goes_on, met_weaker, then_met}
-use Rattle.session_run.specs.declared.state.State.{State}
-use Rattle.session_run.specs.OpenStore.{AllKept}
-use Rattle.session_run.specs.Making.{IsQuiet, DuringMaking}
+use Rattle.host_model.proofs.Meeting.{goes_on, met_weaker}
+use Rattle.enrol_states.specs.declared.state.State.{State}
+use Rattle.client_core.specs.Moments.{IsQuiet}
+use Rattle.client_core.specs.OpenStore.{AllKept}
+use Rattle.session_run.specs.Making.{DuringMaking}
 
 module _ {H : Type 0} (h : Ghosts H) (start mid new : H) (s : State) (text : List ℕ) where
   -- the store is made, and its answer is said
@@ -18,9 +19,3 @@ module _ {H : Type 0} (h : Ghosts H) (start mid new : H) (s : State) (text : Lis
       goes_on h.moment h.might start mid new (DuringMaking (h.said start) s text) _
       (met_weaker h.moment h.might start mid _ (DuringMaking (h.said start) s text) run (λ l r u quiet. inl quiet)) time
       (λ l r u saying. inr (kept l r (((still Left).images_same l).0 saying.0) (((still Right).images_same r).0 saying.1), (saying.2.0, saying.2.1 ∙ ap (λ (d : List ℕ). d ++ take saying.2.0 text) same)))
-
-  -- a store is looked for first, and nothing is said meanwhile
-  pub looked_for_met : MeetsAll h start mid (NowOf h start) → h.said mid ≡ h.said start → MeetsAll h mid new (DuringMaking (h.said mid) s text) → MeetsAll h start new (DuringMaking (h.said start) s text)
-  looked_for_met first same second =
-      then_met h.moment h.might start mid new _ (DuringMaking (h.said start) s text) (DuringMaking (h.said start) s text) first
-      (subst (λ (u : List ℕ). MeetsAll h mid new (DuringMaking u s text)) same second) (λ l r u now. inl now.2) (λ l r u met. met)

@@ -1,10 +1,10 @@
 -- Which status a call has, by what the pair of sides is.
 use Rattle.std.proofs.Common.{◌≡◌, ◌⊎◌, inl, inr, ℕ, List, refl}
 use Rattle.session_run.specs.declared.status.RunStatus.{RunStatus}
-use Rattle.session_run.specs.declared.status.RunStatus.TheVariants.{Done, Usage, ScriptTooLong, NoStore, AlreadyStore, BadStore, StoreFull, SourceFault, DiskFault, SayFault, OutOfMemory}
-use Rattle.session_run.specs.Store.{IsAbsent, IsBad}
-use Rattle.session_run.specs.Finds.{IsStore, RunFinds, InitFinds, EndedBefore, RunJudges, InitJudges}
-use Rattle.session_run.proofs.Refusing.{stands_not_absent}
+use Rattle.session_run.specs.declared.status.RunStatus.TheVariants.{Done, Usage, ScriptTooLong, NoStore, AlreadyStore, BadStore, StoreFull, SourceFault, ShelfFault, DiskFault, SayFault, OutOfMemory}
+use Rattle.client_core.specs.Store.{IsStore, IsAbsent, IsBad}
+use Rattle.session_run.specs.Finds.{RunFinds, InitFinds, EndedBefore, RunJudges, InitJudges}
+use Rattle.client_core.proofs.Refusing.{stands_not_absent}
 
 module _ (l r : List ℕ) where
   store_not_absent : IsStore l r → IsAbsent l r → ⊥
@@ -17,6 +17,7 @@ module _ (l r : List ℕ) where
   run_no_store Done finds absent = absurd (store_not_absent finds absent)
   run_no_store StoreFull finds absent = absurd (store_not_absent finds absent)
   run_no_store SayFault finds absent = absurd (store_not_absent finds absent)
+  run_no_store ShelfFault finds absent = absurd (store_not_absent finds absent)
   run_no_store NoStore finds absent = inl refl
   run_no_store BadStore finds absent = absurd (finds.found absent)
   run_no_store ScriptTooLong finds absent = inr (inl refl)
@@ -30,6 +31,7 @@ module _ (l r : List ℕ) where
   run_bad_store Done finds bad = absurd (store_not_bad finds bad)
   run_bad_store StoreFull finds bad = absurd (store_not_bad finds bad)
   run_bad_store SayFault finds bad = absurd (store_not_bad finds bad)
+  run_bad_store ShelfFault finds bad = absurd (store_not_bad finds bad)
   run_bad_store NoStore finds bad = absurd (bad.found finds)
   run_bad_store BadStore finds bad = inl refl
   run_bad_store ScriptTooLong finds bad = inr (inl refl)
@@ -54,6 +56,7 @@ module _ (l r : List ℕ) where
   init_already_store NoStore finds found = absurd finds
   init_already_store StoreFull finds found = absurd finds
   init_already_store SourceFault finds found = absurd finds
+  init_already_store ShelfFault finds found = absurd finds
 
   init_bad_store : (status : RunStatus) → InitFinds l r status → IsBad l r → (status ≡ BadStore) ⊎ EndedBefore status
   init_bad_store Done finds bad = absurd (bad.found finds)
@@ -67,24 +70,26 @@ module _ (l r : List ℕ) where
   init_bad_store NoStore finds bad = absurd finds
   init_bad_store StoreFull finds bad = absurd finds
   init_bad_store SourceFault finds bad = absurd finds
+  init_bad_store ShelfFault finds bad = absurd finds
 
   pub init_judges : (status : RunStatus) → InitFinds l r status → InitJudges l r status
   init_judges status finds = record { already_store = init_already_store status finds; bad_store = init_bad_store status finds }
 
   -- a run that no fault has ended
-  pub run_complete : (status : RunStatus) → RunFinds l r status → IsStore l r → (status ≡ ScriptTooLong → ⊥) → (status ≡ SourceFault → ⊥) → (status ≡ DiskFault → ⊥) → (status ≡ SayFault → ⊥)
+  pub run_complete : (status : RunStatus) → RunFinds l r status → IsStore l r → (status ≡ ScriptTooLong → ⊥) → (status ≡ SourceFault → ⊥) → (status ≡ ShelfFault → ⊥) → (status ≡ DiskFault → ⊥) → (status ≡ SayFault → ⊥)
       → (status ≡ Done) ⊎ (status ≡ StoreFull) ⊎ (status ≡ OutOfMemory)
-  run_complete Done finds found long source disk say = inl refl
-  run_complete StoreFull finds found long source disk say = inr (inl refl)
-  run_complete OutOfMemory finds found long source disk say = inr (inr refl)
-  run_complete SayFault finds found long source disk say = absurd (say refl)
-  run_complete NoStore finds found long source disk say = absurd (store_not_absent found finds)
-  run_complete BadStore finds found long source disk say = absurd (store_not_bad found finds)
-  run_complete ScriptTooLong finds found long source disk say = absurd (long refl)
-  run_complete SourceFault finds found long source disk say = absurd (source refl)
-  run_complete DiskFault finds found long source disk say = absurd (disk refl)
-  run_complete Usage finds found long source disk say = absurd finds
-  run_complete AlreadyStore finds found long source disk say = absurd finds
+  run_complete Done finds found long source shelf disk say = inl refl
+  run_complete StoreFull finds found long source shelf disk say = inr (inl refl)
+  run_complete OutOfMemory finds found long source shelf disk say = inr (inr refl)
+  run_complete SayFault finds found long source shelf disk say = absurd (say refl)
+  run_complete NoStore finds found long source shelf disk say = absurd (store_not_absent found finds)
+  run_complete BadStore finds found long source shelf disk say = absurd (store_not_bad found finds)
+  run_complete ScriptTooLong finds found long source shelf disk say = absurd (long refl)
+  run_complete SourceFault finds found long source shelf disk say = absurd (source refl)
+  run_complete DiskFault finds found long source shelf disk say = absurd (disk refl)
+  run_complete ShelfFault finds found long source shelf disk say = absurd (shelf refl)
+  run_complete Usage finds found long source shelf disk say = absurd finds
+  run_complete AlreadyStore finds found long source shelf disk say = absurd finds
 
   pub init_complete : (status : RunStatus) → InitFinds l r status → IsAbsent l r → (status ≡ DiskFault → ⊥) → (status ≡ SayFault → ⊥) → (status ≡ Done) ⊎ (status ≡ OutOfMemory)
   init_complete Done finds absent disk say = inl refl
@@ -98,3 +103,4 @@ module _ (l r : List ℕ) where
   init_complete NoStore finds absent disk say = absurd finds
   init_complete StoreFull finds absent disk say = absurd finds
   init_complete SourceFault finds absent disk say = absurd finds
+  init_complete ShelfFault finds absent disk say = absurd finds

@@ -1,15 +1,14 @@
-pub mod Beginning
-pub mod Chaining
-pub mod Ending
-pub mod Holding
-pub mod Judging
-pub mod Opened
-pub mod Placing
-pub mod Puts
-pub mod Refusing
-pub mod Running
-pub mod Spellings
-pub mod Stepping
-pub mod Uniqueness
-pub mod Within
-pub mod WordLists
+mod Beginning
+mod Chaining
+mod Ending
+mod Joining
+mod Judging
+mod Lining
+mod Opened
+mod Outcomes
+mod Placing
+mod Running
+mod Answering
+mod Stepping
+mod Within
+mod WordLists

@@ -1,81 +1,120 @@
 -- A run from the state that was read is one from the state for which the pair was kept.
-use Rattle.std.proofs.Common.{◌≡◌, ◌≢◌, inr, ℕ, ◌+◌, List, ◌++◌, length, refl, sym, subst, Result, Err, IsErrOf}
-use Rattle.host_model.specs.declared.side.Side.TheVariants.{Left, Right}
+use Rattle.std.proofs.Common.{◌≡◌, ◌≢◌, inl, inr, ℕ, ◌+◌, List, [], ◌∷◌, ◌++◌, length, refl, sym, subst, Result, Err}
 use Rattle.host_model.specs.declared.host.Host.{Ghosts}
 use Rattle.host_model.specs.Hosts.{MeetsAll, NowOf}
-use Rattle.gate_journal.specs.OpenSide.{OpenSide}
-use Rattle.gate_journal.specs.Records.{place_of}
-use Rattle.session_run.specs.declared.state.State.{State}
-use Rattle.session_run.specs.declared.commit.StepFault.{StepFault}
-use Rattle.session_run.specs.declared.opening.StoreFault.{StoreFault}
-use Rattle.session_run.specs.declared.opening.StoreFault.TheVariants.{NoStore, BadStore, DiskFault, OutOfMemory}
-use Rattle.session_run.specs.Statuses.{of_store}
+use Rattle.host_model.proofs.Meeting.{then_met, met_weaker}
+use Rattle.enrol_states.specs.declared.state.State.{State}
+use Rattle.client_core.specs.declared.faults.ClientFault.{ClientFault}
+use Rattle.client_core.specs.declared.faults.ClientFault.TheVariants.{NoStore, BadStore, DiskFault, OutOfMemory}
+use Rattle.client_core.specs.declared.faults.MakeFault.{MakeFault}
+use Rattle.client_core.specs.declared.faults.MakeFault.TheVariants as making
+use Rattle.client_core.specs.Finds.{OpenFinds, MakeFinds}
+use Rattle.client_core.specs.OpenStore.{AllKept, AllKeptAmong, AllStand}
+use Rattle.client_core.specs.Settings.{Setting}
+use Rattle.client_core.specs.Store.{StandsFor, IsStore}
+use Rattle.client_core.proofs.Refusing.{stands_not_absent}
+use Rattle.session_run.specs.declared.faults.RunFault.{RunFault}
+use Rattle.session_run.specs.declared.faults.RunFault.TheVariants as run
+use Rattle.session_run.specs.Statuses.{of_store, of_making, of_run}
 use Rattle.session_run.specs.Steps.{after, out}
-use Rattle.session_run.specs.Store.{StandsFor, KeptFor, IsAbsent, IsBad}
-use Rattle.session_run.specs.OpenStore.{Holds, HasGate, AllKept, AllKeptAmong, AllStand}
 use Rattle.session_run.specs.Moments.{AfterPrefix, AmongThenAfter}
 use Rattle.session_run.specs.Places.{IsFullAtLine}
 use Rattle.session_run.specs.Ends.{LinesEnd, RunEnds, StaysAmong}
-use Rattle.session_run.proofs.Holding.{stands_of_kept, all_kept, all_stand}
-use Rattle.session_run.proofs.Refusing.{stands_not_absent}
-use Rattle.session_run.proofs.Uniqueness.{is_known, has_gate, place_is_known, opened_met}
+use Rattle.session_run.specs.Finds.{RunFinds, InitFinds}
+use Rattle.session_run.proofs.Running.{some_at_start}
 
-module _ {H : Type 0} (h : Ghosts H) (start mid : H) (journal : OpenSide) (s t : State) (lines those : List (List ℕ)) (lines_are : lines ≡ those) (holds : Holds h journal mid t) (same : h.reads mid Left ≡ h.reads start Left) (text : h.said mid ≡ h.said start) where
-  pub run_met : (states : List State) (new : H) → AllKeptAmong h start states → KeptFor (h.reads start Left) (h.reads start Right) s → MeetsAll h start mid (NowOf h start)
-      → (HasGate h journal mid → MeetsAll h mid new (AfterPrefix t lines (h.said mid))) → MeetsAll h start new (AmongThenAfter states s those (h.said start))
-  run_met states new all kept first second =
-      subst (λ (l : List (List ℕ)). MeetsAll h start new (AmongThenAfter states s l (h.said start))) lines_are
-      (opened_met h start states s lines all mid new t (is_known h start mid journal s t holds same (stands_of_kept (h.reads start Left) (h.reads start Right) s kept)) text first (second (has_gate h start mid journal s t holds same kept)))
+-- the images at entry are each kept for one of these states
+module _ {H : Type 0} (h : Ghosts H) (at : Setting) (start : H) (states : List State) (s : State) (lines : List (List ℕ)) (all : AllKeptAmong h start states) where
+  among_at_start : (l r u : List ℕ) → NowOf h start l r u → AmongThenAfter states at s lines (h.said start) l r u
+  among_at_start l r u now = inl (all l r now.0 now.1, now.2)
 
-  pub lines_ended : (new : H) (result : Result (Unit {0}) StepFault) → KeptFor (h.reads start Left) (h.reads start Right) s → (HasGate h journal mid → LinesEnd h t lines (h.said mid) new result) → LinesEnd h s those (h.said start) new result
-  lines_ended new result kept ends =
-      subst (λ (l : List (List ℕ)). LinesEnd h s l (h.said start) new result) lines_are
-      (subst (λ (u : List ℕ). LinesEnd h s lines u new result) text
-      (subst (λ (x : State). LinesEnd h x lines (h.said mid) new result) (is_known h start mid journal s t holds same (stands_of_kept (h.reads start Left) (h.reads start Right) s kept))
-      (ends (has_gate h start mid journal s t holds same kept))))
+  pub opening_met : (new : H) → MeetsAll h start new (NowOf h start) → MeetsAll h start new (AmongThenAfter states at s lines (h.said start))
+  opening_met new run = met_weaker h.moment h.might start new _ (AmongThenAfter states at s lines (h.said start)) run among_at_start
 
-  module _ (stands : StandsFor (h.reads start Left) (h.reads start Right) s) where
-    known : t ≡ s
-    known = is_known h start mid journal s t holds same stands
+-- the store is opened, and its state is the one for which the pair stands
+module _ {H : Type 0} (h : Ghosts H) (at : Setting) (start mid : H) (s t : State) (lines those : List (List ℕ)) (lines_are : lines ≡ those) (known : t ≡ s) (text : h.said mid ≡ h.said start) where
+  -- it is opened, and then its lines are done
+  pub run_met : (states : List State) (new : H) → AllKeptAmong h start states → MeetsAll h start mid (NowOf h start) → MeetsAll h mid new (AfterPrefix at t lines (h.said mid)) → MeetsAll h start new (AmongThenAfter states at s those (h.said start))
+  run_met states new all first second =
+      let lines_met = subst (λ (l : List (List ℕ)). MeetsAll h mid new (AfterPrefix at s l (h.said start))) lines_are
+      (subst (λ (u : List ℕ). MeetsAll h mid new (AfterPrefix at s lines u)) text (subst (λ (x : State). MeetsAll h mid new (AfterPrefix at x lines (h.said mid))) known second)) in
+      then_met h.moment h.might start mid new (AmongThenAfter states at s those (h.said start)) (AfterPrefix at s those (h.said start)) (AmongThenAfter states at s those (h.said start))
+      (opening_met h at start states s those all mid first) lines_met (λ l r u met. met) (λ l r u met. inr met)
 
-    pub all_stand_after : (later : OpenSide) (new : H) (n : ℕ) → n ≡ length lines → Holds h later new (after t lines n) → AllStand h new (after s those (length those))
-    all_stand_after later new n whole held =
-        subst (λ (l : List (List ℕ)). AllStand h new (after s l (length l))) lines_are
-        (subst (λ (x : State). AllStand h new (after x lines (length lines))) known
-        (subst (λ (m : ℕ). AllStand h new (after t lines m)) whole (all_stand h later new (after t lines n) held)))
+  pub lines_ended : (new : H) (result : Result (Unit {0}) RunFault) → LinesEnd h at t lines (h.said mid) new result → LinesEnd h at s those (h.said start) new result
+  lines_ended new result ends =
+      subst (λ (l : List (List ℕ)). LinesEnd h at s l (h.said start) new result) lines_are
+      (subst (λ (u : List ℕ). LinesEnd h at s lines u new result) text
+      (subst (λ (x : State). LinesEnd h at x lines (h.said mid) new result) known ends))
 
-    pub all_kept_after : (later : OpenSide) (new : H) (n : ℕ) → n ≡ length lines → Holds h later new (after t lines n) → HasGate h later new → AllKept h new (after s those (length those))
-    all_kept_after later new n whole held gate =
-        subst (λ (l : List (List ℕ)). AllKept h new (after s l (length l))) lines_are
-        (subst (λ (x : State). AllKept h new (after x lines (length lines))) known
-        (subst (λ (m : ℕ). AllKept h new (after t lines m)) whole (all_kept h later new (after t lines n) held gate)))
+  pub all_stand_after : (new : H) (n : ℕ) → n ≡ length lines → AllStand h new (after at t lines n) → AllStand h new (after at s those (length those))
+  all_stand_after new n whole stand =
+      subst (λ (l : List (List ℕ)). AllStand h new (after at s l (length l))) lines_are
+      (subst (λ (x : State). AllStand h new (after at x lines (length lines))) known (subst (λ (m : ℕ). AllStand h new (after at t lines m)) whole stand))
 
-    pub said_after : (new : H) (n : ℕ) → n ≡ length lines → h.said new ≡ h.said mid ++ out t lines n → h.said new ≡ h.said start ++ out s those (length those)
-    said_after new n whole said =
-        subst (λ (l : List (List ℕ)). h.said new ≡ h.said start ++ out s l (length l)) lines_are
-        (subst (λ (x : State). h.said new ≡ h.said start ++ out x lines (length lines)) known
-        (subst (λ (m : ℕ). h.said new ≡ h.said start ++ out t lines m) whole (subst (λ (u : List ℕ). h.said new ≡ u ++ out t lines n) text said)))
+  pub all_kept_after : (new : H) (n : ℕ) → n ≡ length lines → AllKept h new (after at t lines n) → AllKept h new (after at s those (length those))
+  all_kept_after new n whole kept =
+      subst (λ (l : List (List ℕ)). AllKept h new (after at s l (length l))) lines_are
+      (subst (λ (x : State). AllKept h new (after at x lines (length lines))) known (subst (λ (m : ℕ). AllKept h new (after at t lines m)) whole kept))
 
-    -- a line of those that changes the state from s changes it from t
-    pub changes_there : (k : ℕ) → after s those k ≢ after s those (k + 1) → after t lines k ≢ after t lines (k + 1)
-    changes_there k changed = subst (λ (x : State). after x lines k ≢ after x lines (k + 1)) (sym known) (subst (λ (l : List (List ℕ)). after s l k ≢ after s l (k + 1)) (sym lines_are) changed)
+  pub said_after : (new : H) (n : ℕ) → n ≡ length lines → h.said new ≡ h.said mid ++ out at t lines n → h.said new ≡ h.said start ++ out at s those (length those)
+  said_after new n whole said =
+      subst (λ (l : List (List ℕ)). h.said new ≡ h.said start ++ out at s l (length l)) lines_are
+      (subst (λ (x : State). h.said new ≡ h.said start ++ out at x lines (length lines)) known
+      (subst (λ (m : ℕ). h.said new ≡ h.said start ++ out at t lines m) whole (subst (λ (u : List ℕ). h.said new ≡ u ++ out at t lines n) text said)))
 
-    pub full_there : (k : ℕ) → IsFullAtLine journal.place t lines k → IsFullAtLine (place_of stands.payloads) s those k
+  -- a line of those that changes the state from s changes it from t
+  pub changes_there : (k : ℕ) → after at s those k ≢ after at s those (k + 1) → after at t lines k ≢ after at t lines (k + 1)
+  changes_there k changed =
+      subst (λ (x : State). after at x lines k ≢ after at x lines (k + 1)) (sym known) (subst (λ (l : List (List ℕ)). after at s l k ≢ after at s l (k + 1)) (sym lines_are) changed)
+
+  -- the records end where those of the pair do
+  module _ (here there : ℕ) (same : here ≡ there) where
+    pub full_there : (k : ℕ) → IsFullAtLine at here t lines k → IsFullAtLine at there s those k
     full_there k full =
-        subst (λ (l : List (List ℕ)). IsFullAtLine (place_of stands.payloads) s l k) lines_are
-        (subst (λ (x : State). IsFullAtLine (place_of stands.payloads) x lines k) known
-        (subst (λ (p : ℕ). IsFullAtLine p t lines k) (place_is_known h start mid journal s t holds same stands) full))
+        subst (λ (l : List (List ℕ)). IsFullAtLine at there s l k) lines_are
+        (subst (λ (x : State). IsFullAtLine at there x lines k) known (subst (λ (p : ℕ). IsFullAtLine at p t lines k) same full))
 
-    pub full_here : (k : ℕ) → IsFullAtLine (place_of stands.payloads) s those k → IsFullAtLine journal.place t lines k
+    pub full_here : (k : ℕ) → IsFullAtLine at there s those k → IsFullAtLine at here t lines k
     full_here k full =
-        subst (λ (p : ℕ). IsFullAtLine p t lines k) (sym (place_is_known h start mid journal s t holds same stands))
-        (subst (λ (x : State). IsFullAtLine (place_of stands.payloads) x lines k) (sym known)
-        (subst (λ (l : List (List ℕ)). IsFullAtLine (place_of stands.payloads) s l k) (sym lines_are) full))
+        subst (λ (p : ℕ). IsFullAtLine at p t lines k) (sym same)
+        (subst (λ (x : State). IsFullAtLine at there x lines k) (sym known) (subst (λ (l : List (List ℕ)). IsFullAtLine at there s l k) (sym lines_are) full))
 
--- a store that is kept for a state is opened, unless the disk fails or memory is wanting
-pub not_opened_ends : {H T : Type 0} (h : Ghosts H) (states : List State) (s : State) (lines : List (List ℕ)) (said : List ℕ) (new : H) (l r : List ℕ) (fault : StoreFault) → StandsFor l r s
-    → (IsErrOf {T = T} (Err fault) NoStore → IsAbsent l r) → (IsErrOf {T = T} (Err fault) BadStore → IsBad l r) → StaysAmong h states said new → RunEnds h states s lines said new (of_store fault)
-not_opened_ends h states s lines said new l r NoStore stands absent bad stays = absurd (stands_not_absent l r s stands (absent refl))
-not_opened_ends h states s lines said new l r BadStore stands absent bad stays = absurd ((bad refl).no_state s stands)
-not_opened_ends h states s lines said new l r DiskFault stands absent bad stays = inr stays
-not_opened_ends h states s lines said new l r OutOfMemory stands absent bad stays = inr stays
+-- a store that stands for a state is opened, unless the disk fails or memory is wanting
+pub not_opened_ends : {H : Type 0} (h : Ghosts H) (states : List State) (at : Setting) (s : State) (lines : List (List ℕ)) (said : List ℕ) (new : H) (l r : List ℕ) (fault : ClientFault) → StandsFor l r s
+    → OpenFinds l r (Err fault) → StaysAmong h states said new → RunEnds h states at s lines said new (of_store fault)
+not_opened_ends h states at s lines said new l r NoStore stands finds stays = absurd (stands_not_absent l r s stands finds)
+not_opened_ends h states at s lines said new l r BadStore stands finds stays = absurd (finds.no_state s stands)
+not_opened_ends h states at s lines said new l r DiskFault stands finds stays = inr stays
+not_opened_ends h states at s lines said new l r OutOfMemory stands finds stays = inr stays
+
+-- what a run found that wasn't opened
+pub run_finds : (l r : List ℕ) (fault : ClientFault) → OpenFinds l r (Err fault) → RunFinds l r (of_store fault)
+run_finds l r NoStore finds = finds
+run_finds l r BadStore finds = finds
+run_finds l r DiskFault finds = tt
+run_finds l r OutOfMemory finds = tt
+
+-- what a run found that a line has ended
+pub lines_find : (l r : List ℕ) (fault : RunFault) → IsStore l r → RunFinds l r (of_run fault)
+lines_find l r run.ShelfFault store = store
+lines_find l r run.StoreFull store = store
+lines_find l r run.DiskFault store = tt
+lines_find l r run.SayFault store = store
+lines_find l r run.OutOfMemory store = tt
+
+-- what a making found that made no store
+pub init_finds : (l r : List ℕ) (fault : MakeFault) → MakeFinds {T = Unit {0}} l r (Err fault) → InitFinds l r (of_making fault)
+init_finds l r making.AlreadyStore finds = finds
+init_finds l r making.BadStore finds = finds
+init_finds l r making.DiskFault finds = tt
+init_finds l r making.OutOfMemory finds = tt
+
+-- kept for s, as one of a list of one
+pub among_one : {H : Type 0} (h : Ghosts H) (start : H) (s : State) → AllKept h start s → AllKeptAmong h start (s ∷ [])
+among_one h start s all l r left right = inl (all l r left right)
+
+pub after_of_among : (at : Setting) (s : State) (lines : List (List ℕ)) (said l r u : List ℕ) → AmongThenAfter (s ∷ []) at s lines said l r u → AfterPrefix at s lines said l r u
+after_of_among at s lines said l r u (inl (inl kept, text)) = some_at_start at s lines said l r u kept text
+after_of_among at s lines said l r u (inl (inr none, text)) = absurd none
+after_of_among at s lines said l r u (inr met) = met

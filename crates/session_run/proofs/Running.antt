@@ -4,25 +4,26 @@ use Rattle.std.proofs.lemmas.List.{append-nil, take_more, take-append-drop}
 use Rattle.host_model.specs.declared.host.Host.{Ghosts}
 use Rattle.host_model.specs.Hosts.{MeetsAll}
 use Rattle.host_model.proofs.Meeting.{then_met}
-use Rattle.session_run.specs.declared.state.State.{State}
-use Rattle.session_run.specs.Steps.{state_after, answer, all_after, all_answers, after, out}
-use Rattle.session_run.specs.Store.{KeptFor}
+use Rattle.enrol_states.specs.declared.state.State.{State}
+use Rattle.client_core.specs.Settings.{Setting}
+use Rattle.client_core.specs.Store.{KeptFor}
+use Rattle.session_run.specs.Steps.{RunState, begun, run_after, answer, all_after, all_answers, run_at, after, out}
 use Rattle.session_run.specs.Moments.{DuringLine, IsPrefixOf, AfterPrefix}
 use Rattle.session_run.proofs.Stepping.{all_after-push, all_answers-push}
 
 -- the answers to all lines but the last of the first k
-answered_before : (s : State) (lines : List (List ℕ)) (k : ℕ) → 0 < k → k ≤ length lines → IsPrefixOf (out s lines (k - 1)) (out s lines k)
-answered_before s lines k some within =
+answered_before : (at : Setting) (s : State) (lines : List (List ℕ)) (k : ℕ) → 0 < k → k ≤ length lines → IsPrefixOf (out at s lines (k - 1)) (out at s lines k)
+answered_before at s lines k some within =
     let again : k - 1 + 1 ≡ k = omega (arith, some) in
     let line = get_or lines (k - 1) [] in
     let more : take (k - 1 + 1) lines ≡ take (k - 1) lines ++ line ∷ [] = take_more lines (k - 1) [] (omega (arith, some, within)) in (
-      answer (after s lines (k - 1)) line,
-      sym (all_answers-push s (take (k - 1) lines) line) ∙ sym (ap (λ (some_lines : List (List ℕ)). all_answers s some_lines) more) ∙ ap (λ (n : ℕ). out s lines n) again,
+      answer at (run_at at s lines (k - 1)) line,
+      sym (all_answers-push at (begun s) (take (k - 1) lines) line) ∙ sym (ap (λ (some_lines : List (List ℕ)). all_answers at (begun s) some_lines) more) ∙ ap (λ (n : ℕ). out at s lines n) again,
     )
 
 -- before the first line
-pub some_at_start : (s : State) (lines : List (List ℕ)) (said l r u : List ℕ) → KeptFor l r s → u ≡ said → AfterPrefix s lines said l r u
-some_at_start s lines said l r u kept same = record {
+pub some_at_start : (at : Setting) (s : State) (lines : List (List ℕ)) (said l r u : List ℕ) → KeptFor l r s → u ≡ said → AfterPrefix at s lines said l r u
+some_at_start at s lines said l r u kept same = record {
   new = [];
   text = same ∙ sym (append-nil said);
   k = 0;
@@ -32,55 +33,62 @@ some_at_start s lines said l r u kept same = record {
   answered = λ none. absurd (omega (arith, none));
 }
 
-module _ (s : State) (lines : List (List ℕ)) (i : ℕ) (line : List ℕ) (within : i < length lines) (more : take (i + 1) lines ≡ take i lines ++ line ∷ []) where
-  pub after-more : after s lines (i + 1) ≡ state_after (after s lines i) line
-  after-more = ap (λ (some : List (List ℕ)). all_after s some) more ∙ all_after-push s (take i lines) line
+module _ (at : Setting) (s : State) (lines : List (List ℕ)) (i : ℕ) (line : List ℕ) (within : i < length lines) (more : take (i + 1) lines ≡ take i lines ++ line ∷ []) where
+  pub run-more : run_at at s lines (i + 1) ≡ run_after at (run_at at s lines i) line
+  run-more = ap (λ (some : List (List ℕ)). all_after at (begun s) some) more ∙ all_after-push at (begun s) (take i lines) line
 
-  pub out-more : out s lines (i + 1) ≡ out s lines i ++ answer (after s lines i) line
-  out-more = ap (λ (some : List (List ℕ)). all_answers s some) more ∙ all_answers-push s (take i lines) line
+  pub after-more : after at s lines (i + 1) ≡ (run_after at (run_at at s lines i) line).state
+  after-more = ap (λ (run : RunState). run.state) run-more
+
+  pub out-more : out at s lines (i + 1) ≡ out at s lines i ++ answer at (run_at at s lines i) line
+  out-more = ap (λ (some : List (List ℕ)). all_answers at (begun s) some) more ∙ all_answers-push at (begun s) (take i lines) line
 
   one_less : i + 1 - 1 ≡ i
   one_less = omega arith
 
   -- the text said during the line
-  pub part : (n : ℕ) → (out s lines i ++ take n (answer (after s lines i) line)) ++ drop n (answer (after s lines i) line) ≡ out s lines (i + 1)
-  part n = append_assoc (out s lines i) (take n (answer (after s lines i) line)) (drop n (answer (after s lines i) line))
-      ∙ ap (λ (u : List ℕ). out s lines i ++ u) (take-append-drop n (answer (after s lines i) line)) ∙ sym out-more
+  pub part : (n : ℕ) → (out at s lines i ++ take n (answer at (run_at at s lines i) line)) ++ drop n (answer at (run_at at s lines i) line) ≡ out at s lines (i + 1)
+  part n =
+      let text = answer at (run_at at s lines i) line in
+      append_assoc (out at s lines i) (take n text) (drop n text) ∙ ap (λ (u : List ℕ). out at s lines i ++ u) (take-append-drop n text) ∙ sym out-more
 
-  pub some_during : (said l r u : List ℕ) → DuringLine (said ++ out s lines i) (after s lines i) (state_after (after s lines i) line) (answer (after s lines i) line) l r u → AfterPrefix s lines said l r u
+  pub some_during : (said l r u : List ℕ) → DuringLine (said ++ out at s lines i) (after at s lines i) (run_after at (run_at at s lines i) line).state (answer at (run_at at s lines i) line) l r u → AfterPrefix at s lines said l r u
   some_during said l r u (inl (inl kept, text)) = record {
-    new = out s lines i;
+    new = out at s lines i;
     text = text;
     k = i;
     within = omega (arith, within);
     kept = kept;
-    printed = ([], append-nil (out s lines i));
-    answered = λ some. answered_before s lines i some (omega (arith, within));
+    printed = ([], append-nil (out at s lines i));
+    answered = λ some. answered_before at s lines i some (omega (arith, within));
   }
   some_during said l r u (inl (inr kept, text)) = record {
-    new = out s lines i;
+    new = out at s lines i;
     text = text;
     k = i + 1;
     within = omega (arith, within);
     kept = subst (KeptFor l r) (sym after-more) kept;
-    printed = (answer (after s lines i) line, sym out-more);
-    answered = λ some. subst (λ (n : ℕ). IsPrefixOf (out s lines n) (out s lines i)) (sym one_less) ([], append-nil (out s lines i));
+    printed = (answer at (run_at at s lines i) line, sym out-more);
+    answered = λ some. subst (λ (n : ℕ). IsPrefixOf (out at s lines n) (out at s lines i)) (sym one_less) ([], append-nil (out at s lines i));
   }
-  some_during said l r u (inr (kept, (n, text))) = record {
-    new = out s lines i ++ take n (answer (after s lines i) line);
-    text = text ∙ append_assoc said (out s lines i) (take n (answer (after s lines i) line));
-    k = i + 1;
-    within = omega (arith, within);
-    kept = subst (KeptFor l r) (sym after-more) kept;
-    printed = (drop n (answer (after s lines i) line), part n);
-    answered = λ some. subst (λ (m : ℕ). IsPrefixOf (out s lines m) (out s lines i ++ take n (answer (after s lines i) line))) (sym one_less) (take n (answer (after s lines i) line), refl);
-  }
+  some_during said l r u (inr (kept, (n, text))) =
+      let said_part = take n (answer at (run_at at s lines i) line) in
+      record {
+        new = out at s lines i ++ said_part;
+        text = text ∙ append_assoc said (out at s lines i) said_part;
+        k = i + 1;
+        within = omega (arith, within);
+        kept = subst (KeptFor l r) (sym after-more) kept;
+        printed = (drop n (answer at (run_at at s lines i) line), part n);
+        answered = λ some. subst (λ (m : ℕ). IsPrefixOf (out at s lines m) (out at s lines i ++ said_part)) (sym one_less) (said_part, refl);
+      }
 
-  module _ {H : Type 0} (h : Ghosts H) (start mid new : H) (now : State) (is : now ≡ after s lines i) (said : h.said mid ≡ h.said start ++ out s lines i) where
+  module _ {H : Type 0} (h : Ghosts H) (start mid new : H) (now : RunState) (is : now ≡ run_at at s lines i) (said : h.said mid ≡ h.said start ++ out at s lines i) where
     -- the line's moments are some of the run's
-    pub lines_met : MeetsAll h start mid (AfterPrefix s lines (h.said start)) → MeetsAll h mid new (DuringLine (h.said mid) now (state_after now line) (answer now line)) → MeetsAll h start new (AfterPrefix s lines (h.said start))
+    pub lines_met : MeetsAll h start mid (AfterPrefix at s lines (h.said start)) → MeetsAll h mid new (DuringLine (h.said mid) now.state (run_after at now line).state (answer at now line)) → MeetsAll h start new (AfterPrefix at s lines (h.said start))
     lines_met first second =
-        let during = subst (λ (text : List ℕ). MeetsAll h mid new (DuringLine text (after s lines i) (state_after (after s lines i) line) (answer (after s lines i) line))) said
-        (subst (λ (x : State). MeetsAll h mid new (DuringLine (h.said mid) x (state_after x line) (answer x line))) is second) in
-        then_met h.moment h.might start mid new (AfterPrefix s lines (h.said start)) (DuringLine (h.said start ++ out s lines i) (after s lines i) (state_after (after s lines i) line) (answer (after s lines i) line)) (AfterPrefix s lines (h.said start))
+        let there = run_at at s lines i in
+        let during = subst (λ (text : List ℕ). MeetsAll h mid new (DuringLine text there.state (run_after at there line).state (answer at there line))) said
+        (subst (λ (run : RunState). MeetsAll h mid new (DuringLine (h.said mid) run.state (run_after at run line).state (answer at run line))) is second) in
+        then_met h.moment h.might start mid new (AfterPrefix at s lines (h.said start)) (DuringLine (h.said start ++ out at s lines i) there.state (run_after at there line).state (answer at there line)) (AfterPrefix at s lines (h.said start))
         first during (λ l r u met. met) (some_during (h.said start))

@@ -1,30 +1,27 @@
 -- A line more.
-use Rattle.std.proofs.Common.{◌≡◌, List, ℕ, [], ◌∷◌, ◌++◌, refl, sym, ◌∙◌, ap, append_assoc, Result, Ok, Err}
+use Rattle.std.proofs.Common.{◌≡◌, List, ℕ, [], ◌∷◌, ◌++◌, refl, sym, ◌∙◌, ap, append_assoc}
+use Rattle.std.specs.Prelude.{Option}
 use Rattle.std.proofs.lemmas.List.{append-nil}
-use Rattle.session_run.specs.declared.state.State.{State}
-use Rattle.session_run.specs.declared.command.Command.{Command}
-use Rattle.session_run.specs.declared.command.Command.TheVariants.{Participate, Show}
-use Rattle.session_run.specs.declared.command.LineFault.{LineFault}
-use Rattle.session_run.specs.Commands.{command_of}
-use Rattle.session_run.specs.State.{IsSound}
-use Rattle.session_run.specs.Steps.{effect, state_after, answer, all_after, all_answers}
+use mathlib.Core.Path.{fun_ext}
+use Rattle.host_model.specs.declared.shelf.Shelf.{Ghosts}
+use Rattle.client_core.specs.Settings.{Setting, setting}
+use Rattle.session_run.specs.Steps.{RunState, run_after, answer, all_after, all_answers}
 
-sound_effect : (s : State) (read : Result Command LineFault) → IsSound s → IsSound (effect s read)
-sound_effect s (Ok (Participate on)) sound = record { id = sound.id; bytes = sound.bytes; installed = sound.installed; updated = sound.updated }
-sound_effect s (Ok Show) sound = sound
-sound_effect s (Err fault) sound = sound
+module _ (at : Setting) where
+  pub all_after-push : (run : RunState) (lines : List (List ℕ)) (line : List ℕ) → all_after at run (lines ++ line ∷ []) ≡ run_after at (all_after at run lines) line
+  all_after-push run [] line = refl
+  all_after-push run (first ∷ lines) line = all_after-push (run_after at run first) lines line
 
--- a line leaves a sound state
-pub sound_after : (s : State) (line : List ℕ) → IsSound s → IsSound (state_after s line)
-unfolding state_after
-sound_after s line sound = sound_effect s (command_of line) sound
+  pub all_answers-push : (run : RunState) (lines : List (List ℕ)) (line : List ℕ) → all_answers at run (lines ++ line ∷ []) ≡ all_answers at run lines ++ answer at (all_after at run lines) line
+  all_answers-push run [] line = append-nil (answer at run line)
+  all_answers-push run (first ∷ lines) line =
+      ap (λ (u : List ℕ). answer at run first ++ u) (all_answers-push (run_after at run first) lines line)
+      ∙ sym (append_assoc (answer at run first) (all_answers at (run_after at run first) lines) (answer at (all_after at (run_after at run first) lines) line))
 
-pub all_after-push : (s : State) (lines : List (List ℕ)) (line : List ℕ) → all_after s (lines ++ line ∷ []) ≡ state_after (all_after s lines) line
-all_after-push s [] line = refl
-all_after-push s (first ∷ lines) line = all_after-push (state_after s first) lines line
+setting_of : (List ℕ → Option (List ℕ)) → ℕ → Setting
+setting_of files now = record { files = files; now = now }
 
-pub all_answers-push : (s : State) (lines : List (List ℕ)) (line : List ℕ) → all_answers s (lines ++ line ∷ []) ≡ all_answers s lines ++ answer (all_after s lines) line
-all_answers-push s [] line = append-nil (answer s line)
-all_answers-push s (first ∷ lines) line =
-    ap (λ (u : List ℕ). answer s first ++ u) (all_answers-push (state_after s first) lines line)
-    ∙ sym (append_assoc (answer s first) (all_answers (state_after s first) lines) (answer (all_after (state_after s first) lines) line))
+-- a shelf whose files stay the same gives the same setting
+pub same_setting : {F : Type 0} (f : Ghosts F) (old new : F) (now : ℕ) → ((name : List ℕ) → f.file new name ≡ f.file old name) → setting f new now ≡ setting f old now
+unfolding setting_of
+same_setting f old new now files = ap (λ (held : List ℕ → Option (List ℕ)). setting_of held now) (fun_ext files)

@@ -1,11 +1,13 @@
 -- Runs, each started on what the one before left.
 use Rattle.std.specs.Prelude.{ℕ, ◌≤◌, List, [], ◌∷◌, length}
-use Rattle.session_run.specs.declared.state.State.{State}
+use Rattle.enrol_states.specs.declared.state.State.{State}
+use Rattle.client_core.specs.Settings.{Setting}
+use Rattle.client_core.specs.Store.{KeptFor}
 use Rattle.session_run.specs.Steps.{after}
-use Rattle.session_run.specs.Store.{KeptFor}
 
--- a run's lines, how many of them count, and the pair of images that it left
+-- a run's setting and its lines, how many of them count, and the pair of images that it left
 pub record Link : Type 0 where
+  pub at : Setting
   pub lines : List (List ℕ)
   pub k : ℕ
   pub l : List ℕ
@@ -14,14 +16,14 @@ pub record Link : Type 0 where
 -- the state after these runs
 abbrev pub folded : State → List Link → State
 folded s [] = s
-folded s (link ∷ links) = folded (after s link.lines link.k) links
+folded s (link ∷ links) = folded (after link.at s link.lines link.k) links
 
 -- this pair is kept for some state, and the run's for its first k lines from there
 pub record Leads (l r : List ℕ) (link : Link) : Type 0 where
   pub s : State
   pub within : link.k ≤ length link.lines
   pub from : KeptFor l r s
-  pub left : KeptFor link.l link.r (after s link.lines link.k)
+  pub left : KeptFor link.l link.r (after link.at s link.lines link.k)
 
 abbrev pub IsChain : List ℕ → List ℕ → List Link → Type 0
 IsChain l r [] = Unit {0}

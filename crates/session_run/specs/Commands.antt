@@ -1,8 +1,9 @@
 -- The lines of a script, and the command of a line.
 use Rattle.std.specs.Prelude.{ℕ, ◌≤◌, nat_lt, true, false, List, [], ◌∷◌, Result, Ok, Err, map, length, slice_range, bytes_eq, codes, if◌then◌else◌}
+use Rattle.std.specs.Str.{is_utf8}
 use Rattle.plain_text.specs.Spans.{lines, words}
-use Rattle.session_run.specs.declared.command.Command.{Command}
-use Rattle.session_run.specs.declared.command.Command.TheVariants.{Participate, Show}
+use Rattle.client_core.specs.declared.command.Command.{Command}
+use Rattle.client_core.specs.declared.command.Command.TheVariants.{Participate, Show, Fetch}
 use Rattle.session_run.specs.declared.command.LineFault.{LineFault}
 use Rattle.session_run.specs.declared.command.LineFault.TheVariants.{LineTooLong, Blank, UnknownCommand, BadWords}
 
@@ -33,10 +34,20 @@ abbrev pub showing : List (List ℕ) → Result Command LineFault
 showing [] = Ok Show
 showing (word ∷ more) = Err BadWords
 
+-- a file's name, which is in UTF-8
+unfoldable pub file_named : List ℕ → Result Command LineFault
+file_named name = if is_utf8 name then Ok (Fetch name) else Err BadWords
+
+-- the words behind `fetch`
+abbrev pub fetching : List (List ℕ) → Result Command LineFault
+fetching [] = Err BadWords
+fetching (word ∷ []) = file_named word
+fetching (word ∷ next ∷ more) = Err BadWords
+
 -- the command of these words
 abbrev pub command_of_words : List (List ℕ) → Result Command LineFault
 command_of_words [] = Err Blank
-command_of_words (name ∷ arguments) = if bytes_eq name (codes "participate") then participation arguments else (if bytes_eq name (codes "show") then showing arguments else Err UnknownCommand)
+command_of_words (name ∷ arguments) = if bytes_eq name (codes "participate") then participation arguments else (if bytes_eq name (codes "show") then showing arguments else (if bytes_eq name (codes "fetch") then fetching arguments else Err UnknownCommand))
 
 -- the command of a line, or the first fault that applies
 unfoldable pub command_of : List ℕ → Result Command LineFault

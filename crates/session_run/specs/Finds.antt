@@ -1,19 +1,15 @@
 -- What the pair of sides was, as the status of a call tells it.
 use Rattle.std.specs.Prelude.{◌≡◌, ◌⊎◌, ℕ, List}
-use Rattle.session_run.specs.declared.state.State.{State}
 use Rattle.session_run.specs.declared.status.RunStatus.{RunStatus}
-use Rattle.session_run.specs.declared.status.RunStatus.TheVariants.{Done, Usage, ScriptTooLong, NoStore, AlreadyStore, BadStore, StoreFull, SourceFault, DiskFault, SayFault, OutOfMemory}
-use Rattle.session_run.specs.Store.{StandsFor, IsAbsent, IsBad}
-
--- the pair stands for a state
-abbrev pub IsStore : List ℕ → List ℕ → Type 0
-IsStore l r = (s : State) × StandsFor l r s
+use Rattle.session_run.specs.declared.status.RunStatus.TheVariants.{Done, Usage, ScriptTooLong, NoStore, AlreadyStore, BadStore, StoreFull, SourceFault, ShelfFault, DiskFault, SayFault, OutOfMemory}
+use Rattle.client_core.specs.Store.{IsStore, IsAbsent, IsBad}
 
 -- of a run. Four statuses may come before the pair is judged
 abbrev pub RunFinds : List ℕ → List ℕ → RunStatus → Type 0
 RunFinds l r Done = IsStore l r
 RunFinds l r StoreFull = IsStore l r
 RunFinds l r SayFault = IsStore l r
+RunFinds l r ShelfFault = IsStore l r
 RunFinds l r NoStore = IsAbsent l r
 RunFinds l r BadStore = IsBad l r
 RunFinds l r ScriptTooLong = Unit {0}
@@ -36,6 +32,7 @@ InitFinds l r ScriptTooLong = ⊥
 InitFinds l r NoStore = ⊥
 InitFinds l r StoreFull = ⊥
 InitFinds l r SourceFault = ⊥
+InitFinds l r ShelfFault = ⊥
 
 -- the call ended before the pair was judged
 abbrev pub EndedBefore : RunStatus → Type 0

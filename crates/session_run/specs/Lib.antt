@@ -5,12 +5,7 @@ pub mod Ends
 pub mod Finds
 pub mod Making
 pub mod Moments
-pub mod Opening
-pub mod OpenStore
 pub mod Places
-pub mod Spelling
-pub mod State
 pub mod Statuses
 pub mod Steps
-pub mod Store
 pub mod Words

@@ -1,15 +1,17 @@
 -- The exit number of each status, and the status of each fault.
 use Rattle.std.specs.Prelude.{ℕ}
-use Rattle.gate_journal.specs.declared.faults.AppendFault.{AppendFault}
-use Rattle.gate_journal.specs.declared.faults.AppendFault.TheVariants as append
-use Rattle.session_run.specs.declared.commit.StepFault.{StepFault}
-use Rattle.session_run.specs.declared.commit.StepFault.TheVariants as step
-use Rattle.session_run.specs.declared.opening.StoreFault.{StoreFault}
-use Rattle.session_run.specs.declared.opening.StoreFault.TheVariants as store
+use Rattle.client_core.specs.declared.faults.ClientFault.{ClientFault}
+use Rattle.client_core.specs.declared.faults.ClientFault.TheVariants as store
+use Rattle.client_core.specs.declared.faults.MakeFault.{MakeFault}
+use Rattle.client_core.specs.declared.faults.MakeFault.TheVariants as make
+use Rattle.client_core.specs.declared.faults.StepFault.{StepFault}
+use Rattle.client_core.specs.declared.faults.StepFault.TheVariants as step
+use Rattle.session_run.specs.declared.faults.RunFault.{RunFault}
+use Rattle.session_run.specs.declared.faults.RunFault.TheVariants as run
 use Rattle.session_run.specs.declared.script.ScriptFault.{ScriptFault}
 use Rattle.session_run.specs.declared.script.ScriptFault.TheVariants as script
 use Rattle.session_run.specs.declared.status.RunStatus.{RunStatus}
-use Rattle.session_run.specs.declared.status.RunStatus.TheVariants.{Done, Usage, ScriptTooLong, NoStore, AlreadyStore, BadStore, StoreFull, SourceFault, DiskFault, SayFault, OutOfMemory}
+use Rattle.session_run.specs.declared.status.RunStatus.TheVariants.{Done, Usage, ScriptTooLong, NoStore, AlreadyStore, BadStore, StoreFull, SourceFault, ShelfFault, DiskFault, SayFault, OutOfMemory}
 
 abbrev pub code_of : RunStatus → ℕ
 code_of Done = 0
@@ -20,27 +22,36 @@ code_of AlreadyStore = 5
 code_of BadStore = 6
 code_of StoreFull = 7
 code_of SourceFault = 8
+code_of ShelfFault = 9
 code_of DiskFault = 10
 code_of SayFault = 11
 code_of OutOfMemory = 12
-
-abbrev pub of_append : AppendFault → StepFault
-of_append append.SideFull = step.StoreFull
-of_append append.DiskFault = step.DiskFault
 
 abbrev pub of_script : ScriptFault → RunStatus
 of_script script.TooLong = ScriptTooLong
 of_script script.SourceFault = SourceFault
 of_script script.OutOfMemory = OutOfMemory
 
-abbrev pub of_store : StoreFault → RunStatus
+abbrev pub of_store : ClientFault → RunStatus
 of_store store.NoStore = NoStore
 of_store store.BadStore = BadStore
 of_store store.DiskFault = DiskFault
 of_store store.OutOfMemory = OutOfMemory
 
-abbrev pub of_step : StepFault → RunStatus
-of_step step.StoreFull = StoreFull
-of_step step.DiskFault = DiskFault
-of_step step.SayFault = SayFault
-of_step step.OutOfMemory = OutOfMemory
+abbrev pub of_making : MakeFault → RunStatus
+of_making make.AlreadyStore = AlreadyStore
+of_making make.BadStore = BadStore
+of_making make.DiskFault = DiskFault
+of_making make.OutOfMemory = OutOfMemory
+
+abbrev pub of_step : StepFault → RunFault
+of_step step.ShelfFault = run.ShelfFault
+of_step step.StoreFull = run.StoreFull
+of_step step.OutOfMemory = run.OutOfMemory
+
+abbrev pub of_run : RunFault → RunStatus
+of_run run.ShelfFault = ShelfFault
+of_run run.StoreFull = StoreFull
+of_run run.DiskFault = DiskFault
+of_run run.SayFault = SayFault
+of_run run.OutOfMemory = OutOfMemory

@@ -1,48 +1,65 @@
--- One step: what a line does and what is said to it. And a run: what many lines do. A line is its bytes.
+-- One line of a script: what it makes of a run, and what is said to it. And many lines. A line is its bytes.
 use Rattle.std.specs.Prelude.{ℕ, List, [], ◌∷◌, ◌++◌, Result, Ok, Err, take}
-use Rattle.session_run.specs.declared.state.State.{State}
-use Rattle.session_run.specs.declared.command.Command.{Command}
-use Rattle.session_run.specs.declared.command.Command.TheVariants.{Participate, Show}
+use Rattle.enrol_states.specs.declared.state.State.{State}
+use Rattle.client_core.specs.declared.client.Client.{Client}
+use Rattle.client_core.specs.declared.command.Command.{Command}
+use Rattle.client_core.specs.declared.session.Session.{Session}
+use Rattle.client_core.specs.Settings.{Setting}
+use Rattle.client_core.specs.Steps.{Step, step, no_session}
 use Rattle.session_run.specs.declared.command.LineFault.{LineFault}
 use Rattle.session_run.specs.Commands.{command_of}
-use Rattle.session_run.specs.Answers.{command_answer, fault_answer}
+use Rattle.session_run.specs.Answers.{answer_lines, fault_answer}
 
--- the state after a command
-abbrev pub command_effect : State → Command → State
-command_effect s (Participate on) = record s { participating = on }
-command_effect s Show = s
+-- a run between two lines: the client's state, and the session
+pub record RunState : Type 0 where
+  pub state : State
+  pub session : Session
 
--- the state after a line that was read, and the answer to it. A fault changes nothing
-abbrev pub effect : State → Result Command LineFault → State
-effect s (Ok command) = command_effect s command
-effect s (Err fault) = s
+-- a run begins with an empty session
+abbrev pub begun : State → RunState
+begun s = record { state = s; session = no_session }
 
-abbrev pub reply : State → Result Command LineFault → List ℕ
-reply s (Ok command) = command_answer s command
-reply s (Err fault) = fault_answer fault
+abbrev pub run_of : Client → RunState
+run_of client = record { state = client.state; session = client.session }
 
--- the state that a line leaves
-unfoldable pub state_after : State → List ℕ → State
-state_after s line = effect s (command_of line)
+abbrev pub left_by : Step → RunState
+left_by step = record { state = step.state; session = step.session }
+
+-- what a line leaves, once it was read. A fault changes nothing
+abbrev pub effect : Setting → RunState → Result Command LineFault → RunState
+effect at run (Ok command) = left_by (step at run.state run.session command)
+effect at run (Err fault) = run
+
+abbrev pub reply : Setting → RunState → Result Command LineFault → List ℕ
+reply at run (Ok command) = answer_lines (step at run.state run.session command).answer
+reply at run (Err fault) = fault_answer fault
+
+-- what a line leaves
+unfoldable pub run_after : Setting → RunState → List ℕ → RunState
+run_after at run line = effect at run (command_of line)
 
 -- what is said to it
-unfoldable pub answer : State → List ℕ → List ℕ
-answer s line = reply s (command_of line)
+unfoldable pub answer : Setting → RunState → List ℕ → List ℕ
+answer at run line = reply at run (command_of line)
 
--- the state after these lines
-abbrev pub all_after : State → List (List ℕ) → State
-all_after s [] = s
-all_after s (line ∷ lines) = all_after (state_after s line) lines
+-- what these lines leave
+abbrev pub all_after : Setting → RunState → List (List ℕ) → RunState
+all_after at run [] = run
+all_after at run (line ∷ lines) = all_after at (run_after at run line) lines
 
 -- their answers, joined
-abbrev pub all_answers : State → List (List ℕ) → List ℕ
-all_answers s [] = []
-all_answers s (line ∷ lines) = answer s line ++ all_answers (state_after s line) lines
+abbrev pub all_answers : Setting → RunState → List (List ℕ) → List ℕ
+all_answers at run [] = []
+all_answers at run (line ∷ lines) = answer at run line ++ all_answers at (run_after at run line) lines
+
+-- a run from s, after the first k lines
+abbrev pub run_at : Setting → State → List (List ℕ) → ℕ → RunState
+run_at at s lines k = all_after at (begun s) (take k lines)
 
 -- the state after the first k lines
-abbrev pub after : State → List (List ℕ) → ℕ → State
-after s lines k = all_after s (take k lines)
+abbrev pub after : Setting → State → List (List ℕ) → ℕ → State
+after at s lines k = (run_at at s lines k).state
 
 -- the joined answers to them
-abbrev pub out : State → List (List ℕ) → ℕ → List ℕ
-out s lines k = all_answers s (take k lines)
+abbrev pub out : Setting → State → List (List ℕ) → ℕ → List ℕ
+out at s lines k = all_answers at (begun s) (take k lines)

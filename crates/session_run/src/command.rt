@@ -1,22 +1,16 @@
 // A line of a script, and its command.
 ghost use Rattle.std.specs.Prelude.{◌≡◌, ◌≢◌, ◌≤◌, ◌⊎◌, ◌∷◌, List, ℕ, Err, All, map, length};
 ghost use Rattle.plain_text.specs.Spans.{words};
-ghost use Rattle.session_run.specs.Commands.{command_of, command_of_words, participation, showing, words_of, part_at, IsWithin};
+ghost use Rattle.session_run.specs.Commands.{command_of, command_of_words, participation, showing, file_named, fetching, words_of, part_at, IsWithin};
 
+use client_core::Command;
 use plain_text::words;
+use sequences::Text;
 use std::alloc::{AllocError, Global};
+use std::str;
 
 /// The most bytes of a line, without its end.
 pub const LINE_LIMIT: usize = 4096;
-
-/// What a line asks for.
-#[derive(Clone, Copy, Debug, PartialEq, Eq)]
-pub enum Command {
-    /// `participate yes` or `participate no`: whether the client takes part at all.
-    Participate { on: bool },
-    /// `show`: the state, as text.
-    Show,
-}
 
 /// Why a line has no command, in the order in which the causes are tested.
 #[derive(Clone, Copy, Debug, PartialEq, Eq)]
@@ -53,29 +47,36 @@ pub fn read_command(alloc: Global, line: &[u8]) -> Result<Command, LineFault>
         return Err(LineFault::LineTooLong);
     }
     let spans = words(alloc, line)?;
-    command_at(line, spans.as_slice())
+    command_at(alloc, line, spans.as_slice())
 }
 
 /// The command of the words at these spans of a line.
-fn command_at(line: &[u8], spans: &[(usize, usize)]) -> Result<Command, LineFault>
+fn command_at(alloc: Global, line: &[u8], spans: &[(usize, usize)]) -> Result<Command, LineFault>
     requires { All (IsWithin (length line.now)) spans.now }
-    ensures { result ≡ command_of_words (map (part_at line.now) spans.now) }
+    ensures { (result ≡ command_of_words (map (part_at line.now) spans.now)) ⊎ (result ≡ Err LineFault.OutOfMemory) }
 {
     match spans {
         [] => Err(LineFault::Blank),
-        [name, arguments @ ..] => named(part(line, *name), line, arguments),
+        [name, arguments @ ..] => named(alloc, part(line, *name), line, arguments),
     }
 }
 
 /// The command of this name, with the words behind it.
-fn named(name: &[u8], line: &[u8], arguments: &[(usize, usize)]) -> Result<Command, LineFault>
+fn named(
+    alloc: Global,
+    name: &[u8],
+    line: &[u8],
+    arguments: &[(usize, usize)],
+) -> Result<Command, LineFault>
     requires { All (IsWithin (length line.now)) arguments.now }
-    ensures { result ≡ command_of_words (name.now ∷ map (part_at line.now) arguments.now) }
+    ensures { (result ≡ command_of_words (name.now ∷ map (part_at line.now) arguments.now)) ⊎ (result ≡ Err LineFault.OutOfMemory) }
 {
     if name == b"participate".as_slice() {
         participation(line, arguments)
     } else if name == b"show".as_slice() {
         showing(arguments)
+    } else if name == b"fetch".as_slice() {
+        fetching(alloc, line, arguments)
     } else {
         Err(LineFault::UnknownCommand)
     }
@@ -89,10 +90,13 @@ fn participation(line: &[u8], arguments: &[(usize, usize)]) -> Result<Command, L
     let [word] = arguments else {
         return Err(LineFault::BadWords);
     };
-    match part(line, *word) {
-        b"yes" => Ok(Command::Participate { on: true }),
-        b"no" => Ok(Command::Participate { on: false }),
-        _ => Err(LineFault::BadWords),
+    let word = part(line, *word);
+    if word == b"yes".as_slice() {
+        Ok(Command::Participate { on: true })
+    } else if word == b"no".as_slice() {
+        Ok(Command::Participate { on: false })
+    } else {
+        Err(LineFault::BadWords)
     }
 }
 
@@ -103,6 +107,29 @@ fn showing(arguments: &[(usize, usize)]) -> Result<Command, LineFault>
     match arguments {
         [] => Ok(Command::Show),
         _ => Err(LineFault::BadWords),
+    }
+}
+
+/// The words behind `fetch`: the one name of a file, in UTF-8.
+fn fetching(alloc: Global, line: &[u8], arguments: &[(usize, usize)]) -> Result<Command, LineFault>
+    requires { All (IsWithin (length line.now)) arguments.now }
+    ensures { (result ≡ fetching (map (part_at line.now) arguments.now)) ⊎ (result ≡ Err LineFault.OutOfMemory) }
+{
+    let [word] = arguments else {
+        return Err(LineFault::BadWords);
+    };
+    file_named(alloc, part(line, *word))
+}
+
+/// The command to fetch the file of this name, where it is in UTF-8.
+fn file_named(alloc: Global, name: &[u8]) -> Result<Command, LineFault>
+    ensures { (result ≡ file_named name.now) ⊎ (result ≡ Err LineFault.OutOfMemory) }
+{
+    match str::from_utf8(name) {
+        Ok(name) => Ok(Command::Fetch {
+            file: Text::new(alloc, name)?,
+        }),
+        Err(_) => Err(LineFault::BadWords),
     }
 }
 

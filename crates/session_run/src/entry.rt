@@ -3,17 +3,19 @@ ghost use Rattle.std.specs.Prelude.{◌≡◌, ◌≢◌, ◌⊎◌, ◌↔◌, 
 ghost use Rattle.host_model.specs.Causes.{Rose};
 ghost use Rattle.host_model.specs.Hosts.{MeetsAll};
 ghost use Rattle.gate_journal.specs.Records.{place_of};
-ghost use Rattle.session_run.specs.declared.state.State.{State};
-ghost use Rattle.session_run.specs.State.{fresh, last_moment};
+ghost use Rattle.enrol_states.specs.declared.state.State.{State};
+ghost use Rattle.enrol_states.specs.State.{fresh, last_moment};
+ghost use Rattle.client_core.specs.Moments.{IsLeftAs};
+ghost use Rattle.client_core.specs.OpenStore.{AllKept, AllKeptAmong, AllStand};
+ghost use Rattle.client_core.specs.Settings.{setting};
+ghost use Rattle.client_core.specs.Store.{StandsFor, KeptFor, IsStore, IsAbsent};
 ghost use Rattle.session_run.specs.Commands.{lines_of};
 ghost use Rattle.session_run.specs.Steps.{after, out};
-ghost use Rattle.session_run.specs.Store.{StandsFor, KeptFor, IsAbsent};
-ghost use Rattle.session_run.specs.OpenStore.{AllKept, AllKeptAmong, AllStand};
 ghost use Rattle.session_run.specs.Moments.{AfterPrefix, AmongThenAfter};
-ghost use Rattle.session_run.specs.Making.{ready, DuringMaking, IsLeftAs};
+ghost use Rattle.session_run.specs.Making.{ready, DuringMaking};
 ghost use Rattle.session_run.specs.Places.{IsFullAtLine};
 ghost use Rattle.session_run.specs.Ends.{RunEnds};
-ghost use Rattle.session_run.specs.Finds.{IsStore, RunFinds, InitFinds, RunJudges, InitJudges};
+ghost use Rattle.session_run.specs.Finds.{RunFinds, InitFinds, RunJudges, InitJudges};
 ghost use Rattle.session_run.specs.Words.{IsRun, IsInit, IsInitOf, HasForm};
 
 use crate::making::init;
@@ -26,51 +28,52 @@ use std::alloc::Global;
 /// Does what the words ask for: `init ID` makes a store with that id and the moment `now`, in whole seconds since
 /// 1970, and says `ready ID`. `run` reads the source to its end, opens the store, and does and answers each line.
 ///
-/// Clauses on content hold where the source and the host tell what they hold. What reads give is one of the images.
-/// A state is `after s lines k` where the first k lines are done from s, and `out s lines k` is what was answered.
+/// Clauses on content hold where the source, the shelf and the host tell what they hold. What reads give is one of the
+/// images. With the shelf's files and this moment as the setting, `after setting s lines k` is the state after the first
+/// k lines from s, and `out setting s lines k` is what was answered.
 pub fn nimbus<S: Source, F: Shelf, H: Host>(
     alloc: Global,
     words: &[String],
     now: u64,
     source: &mut S,
-    _shelf: &mut F,
+    shelf: &mut F,
     host: &mut H,
 ) -> RunStatus
     requires moment { now ≤ last_moment }
 
     // Words without a form are refused, and only these. Nothing is touched then.
     ensures usage { (result ≡ RunStatus.Usage) ↔ (¬ HasForm (map string_bytes words.now)) }
-    ensures usage_same { result ≡ RunStatus.Usage → (source.new ≡ source.old) × (host.new ≡ host.old) }
-    ensures shelf { _shelf.new ≡ _shelf.old }
+    ensures usage_same { result ≡ RunStatus.Usage → (source.new ≡ source.old) × (shelf.new ≡ shelf.old) × (host.new ≡ host.old) }
+    ensures files { F.tells → (name : List ℕ) → F.file shelf.new name ≡ F.file shelf.old name }
 
     // A run. Whenever a crash comes, inside a call too, the two images are kept for the state after the first k lines,
     // each whose answer was said among them, and what was said is a prefix of the answers to them.
-    ensures crash { IsRun (map string_bytes words.now) → S.tells → H.tells → (s : State) → AllKept H.Host host.old s
-        → MeetsAll H.Host host.old host.new (AfterPrefix s (lines_of (S.left source.old)) (H.said host.old)) }
+    ensures crash { IsRun (map string_bytes words.now) → S.tells → F.tells → H.tells → (s : State) → AllKept H.Host host.old s
+        → MeetsAll H.Host host.old host.new (AfterPrefix (setting F.Shelf shelf.old now) s (lines_of (S.left source.old)) (H.said host.old)) }
 
     // What stands when it has ended, status by status.
-    ensures ends { IsRun (map string_bytes words.now) → S.tells → H.tells → (s : State) → AllKept H.Host host.old s
-        → RunEnds H.Host (s ∷ []) s (lines_of (S.left source.old)) (H.said host.old) host.new result }
+    ensures ends { IsRun (map string_bytes words.now) → S.tells → F.tells → H.tells → (s : State) → AllKept H.Host host.old s
+        → RunEnds H.Host (s ∷ []) (setting F.Shelf shelf.old now) s (lines_of (S.left source.old)) (H.said host.old) host.new result }
 
     // The same after a run that the disk has ended, whose images are each kept for one of some states: so it is until
     // both sides are synced, and from then on the state is the one for which reads are kept.
-    ensures reopened { IsRun (map string_bytes words.now) → S.tells → H.tells → (states : List State) (s : State)
+    ensures reopened { IsRun (map string_bytes words.now) → S.tells → F.tells → H.tells → (states : List State) (s : State)
         → AllKeptAmong H.Host host.old states → KeptFor (H.reads host.old Side.Left) (H.reads host.old Side.Right) s
-        → MeetsAll H.Host host.old host.new (AmongThenAfter states s (lines_of (S.left source.old)) (H.said host.old)) }
-    ensures reopened_ends { IsRun (map string_bytes words.now) → S.tells → H.tells → (states : List State) (s : State)
+        → MeetsAll H.Host host.old host.new (AmongThenAfter states (setting F.Shelf shelf.old now) s (lines_of (S.left source.old)) (H.said host.old)) }
+    ensures reopened_ends { IsRun (map string_bytes words.now) → S.tells → F.tells → H.tells → (states : List State) (s : State)
         → AllKeptAmong H.Host host.old states → KeptFor (H.reads host.old Side.Left) (H.reads host.old Side.Right) s
-        → RunEnds H.Host states s (lines_of (S.left source.old)) (H.said host.old) host.new result }
+        → RunEnds H.Host states (setting F.Shelf shelf.old now) s (lines_of (S.left source.old)) (H.said host.old) host.new result }
 
     // Without a crash: where it answers Done the source was read to its end, all answers were said, and each pair of
     // images stands for the state after all lines. It is kept for it where a line changed the state.
     ensures read { IsRun (map string_bytes words.now) → result ≡ RunStatus.Done → S.tells → S.left source.new ≡ [] }
-    ensures stands { IsRun (map string_bytes words.now) → result ≡ RunStatus.Done → S.tells → H.tells → (s : State) → AllStand H.Host host.old s
-        → AllStand H.Host host.new (after s (lines_of (S.left source.old)) (length (lines_of (S.left source.old))))
-        × (H.said host.new ≡ H.said host.old ++ out s (lines_of (S.left source.old)) (length (lines_of (S.left source.old)))) }
-    ensures made { IsRun (map string_bytes words.now) → result ≡ RunStatus.Done → S.tells → H.tells → (s : State) → AllStand H.Host host.old s
+    ensures stands { IsRun (map string_bytes words.now) → result ≡ RunStatus.Done → S.tells → F.tells → H.tells → (s : State) → AllStand H.Host host.old s
+        → AllStand H.Host host.new (after (setting F.Shelf shelf.old now) s (lines_of (S.left source.old)) (length (lines_of (S.left source.old))))
+        × (H.said host.new ≡ H.said host.old ++ out (setting F.Shelf shelf.old now) s (lines_of (S.left source.old)) (length (lines_of (S.left source.old)))) }
+    ensures made { IsRun (map string_bytes words.now) → result ≡ RunStatus.Done → S.tells → F.tells → H.tells → (s : State) → AllStand H.Host host.old s
         → (k : ℕ) → k < length (lines_of (S.left source.old))
-        → after s (lines_of (S.left source.old)) k ≢ after s (lines_of (S.left source.old)) (k + 1)
-        → AllKept H.Host host.new (after s (lines_of (S.left source.old)) (length (lines_of (S.left source.old)))) }
+        → after (setting F.Shelf shelf.old now) s (lines_of (S.left source.old)) k ≢ after (setting F.Shelf shelf.old now) s (lines_of (S.left source.old)) (k + 1)
+        → AllKept H.Host host.new (after (setting F.Shelf shelf.old now) s (lines_of (S.left source.old)) (length (lines_of (S.left source.old)))) }
 
     // What the pair was that it read, by its status, and which status each such pair has.
     ensures finds { IsRun (map string_bytes words.now) → H.tells → RunFinds (H.reads host.old Side.Left) (H.reads host.old Side.Right) result }
@@ -82,15 +85,15 @@ pub fn nimbus<S: Source, F: Shelf, H: Host>(
         → (H.said host.new ≡ H.said host.old) × (H.written host.new ≡ H.written host.old) }
 
     // StoreFull comes where a line's record would end past the end of a side, and Done only where none would.
-    ensures full { IsRun (map string_bytes words.now) → result ≡ RunStatus.StoreFull → S.tells → H.tells
+    ensures full { IsRun (map string_bytes words.now) → result ≡ RunStatus.StoreFull → S.tells → F.tells → H.tells
         → (s : State) (stands : StandsFor (H.reads host.old Side.Left) (H.reads host.old Side.Right) s)
-        → (k : ℕ) × IsFullAtLine (place_of stands.payloads) s (lines_of (S.left source.old)) k }
-    ensures fits { IsRun (map string_bytes words.now) → result ≡ RunStatus.Done → S.tells → H.tells
+        → (k : ℕ) × IsFullAtLine (setting F.Shelf shelf.old now) (place_of stands.payloads) s (lines_of (S.left source.old)) k }
+    ensures fits { IsRun (map string_bytes words.now) → result ≡ RunStatus.Done → S.tells → F.tells → H.tells
         → (s : State) (stands : StandsFor (H.reads host.old Side.Left) (H.reads host.old Side.Right) s)
-        → (k : ℕ) → IsFullAtLine (place_of stands.payloads) s (lines_of (S.left source.old)) k → ⊥ }
+        → (k : ℕ) → IsFullAtLine (setting F.Shelf shelf.old now) (place_of stands.payloads) s (lines_of (S.left source.old)) k → ⊥ }
 
     // ScriptTooLong comes exactly where the source had more than 2^20 bytes, unless it failed or memory was wanting.
-    ensures too_long { result ≡ RunStatus.ScriptTooLong → (host.new ≡ host.old) × (S.tells → 2 ^ 20 < length (S.left source.old)) }
+    ensures too_long { result ≡ RunStatus.ScriptTooLong → (host.new ≡ host.old) × (shelf.new ≡ shelf.old) × (S.tells → 2 ^ 20 < length (S.left source.old)) }
     ensures too_long_where { IsRun (map string_bytes words.now) → S.tells → 2 ^ 20 < length (S.left source.old)
         → (result ≡ RunStatus.ScriptTooLong) ⊎ (result ≡ RunStatus.SourceFault) ⊎ (result ≡ RunStatus.OutOfMemory) }
 
@@ -104,7 +107,7 @@ pub fn nimbus<S: Source, F: Shelf, H: Host>(
         → AllKept H.Host host.new (fresh id now) }
     ensures init_left { IsInit (map string_bytes words.now) → H.tells → (s : State) → AllKept H.Host host.old s
         → MeetsAll H.Host host.old host.new (IsLeftAs (H.said host.old) s) }
-    ensures init_source { IsInit (map string_bytes words.now) → source.new ≡ source.old }
+    ensures init_same { IsInit (map string_bytes words.now) → (source.new ≡ source.old) × (shelf.new ≡ shelf.old) }
 
     // What the pair was that it read, by its status, and which status each such pair has.
     ensures init_finds { IsInit (map string_bytes words.now) → H.tells → InitFinds (H.reads host.old Side.Left) (H.reads host.old Side.Right) result }
@@ -118,12 +121,13 @@ pub fn nimbus<S: Source, F: Shelf, H: Host>(
         → (H.said host.new ≡ H.said host.old) × (H.written host.new ≡ H.written host.old) }
 
     // Each fault comes only where its count rose. Where none rose all is done, unless memory is wanting or the store full.
-    ensures source_cause { result ≡ RunStatus.SourceFault → (host.new ≡ host.old) × Rose (S.faults source.old) (S.faults source.new) }
+    ensures source_cause { result ≡ RunStatus.SourceFault → (host.new ≡ host.old) × (shelf.new ≡ shelf.old) × Rose (S.faults source.old) (S.faults source.new) }
+    ensures shelf_cause { result ≡ RunStatus.ShelfFault → Rose (F.faults shelf.old) (F.faults shelf.new) }
     ensures disk_cause { result ≡ RunStatus.DiskFault → Rose (H.disk_faults host.old) (H.disk_faults host.new) }
     ensures say_cause { result ≡ RunStatus.SayFault → Rose (H.say_faults host.old) (H.say_faults host.new) }
     ensures complete { IsRun (map string_bytes words.now) → S.tells → H.tells → length (S.left source.old) ≤ 2 ^ 20
         → IsStore (H.reads host.old Side.Left) (H.reads host.old Side.Right)
-        → ¬ Rose (S.faults source.old) (S.faults source.new) → ¬ Rose (H.disk_faults host.old) (H.disk_faults host.new)
+        → ¬ Rose (S.faults source.old) (S.faults source.new) → ¬ Rose (F.faults shelf.old) (F.faults shelf.new) → ¬ Rose (H.disk_faults host.old) (H.disk_faults host.new)
         → ¬ Rose (H.say_faults host.old) (H.say_faults host.new)
         → (result ≡ RunStatus.Done) ⊎ (result ≡ RunStatus.StoreFull) ⊎ (result ≡ RunStatus.OutOfMemory) }
     ensures init_complete { IsInit (map string_bytes words.now) → H.tells → IsAbsent (H.reads host.old Side.Left) (H.reads host.old Side.Right)
@@ -133,6 +137,6 @@ pub fn nimbus<S: Source, F: Shelf, H: Host>(
     match read_words(words) {
         None => RunStatus::Usage,
         Some(Request::Init(id)) => init(alloc, id, now, host),
-        Some(Request::Run) => run(alloc, source, host),
+        Some(Request::Run) => run(alloc, source, shelf, host, now),
     }
 }

@@ -1,14 +1,9 @@
-// The laws of stores. Each function does nothing: its contract is the law.
-ghost use Rattle.std.specs.Prelude.{◌≡◌, ℕ, List};
-ghost use Rattle.session_run.specs.declared.state.State.{State};
-ghost use Rattle.session_run.specs.State.{IsSound};
-ghost use Rattle.session_run.specs.Store.{KeptFor};
+// The law of stores over many runs. The function does nothing: its contract is the law.
+ghost use Rattle.std.specs.Prelude.{ℕ, List};
+ghost use Rattle.enrol_states.specs.declared.state.State.{State};
+ghost use Rattle.state_codec.specs.Sound.{IsSound};
+ghost use Rattle.client_core.specs.Store.{KeptFor};
 ghost use Rattle.session_run.specs.Chains.{Link, IsChain, EndsKept, folded};
-
-/// A pair of images is kept for one state at most.
-pub fn one_state()
-    ensures { (l r : List ℕ) (s t : State) → KeptFor l r s → KeptFor l r t → s ≡ t }
-{}
 
 /// After any runs and crashes the store is kept for the state of the lines that counted, run by run, which is sound.
 pub fn kept_chain()

@@ -3,25 +3,23 @@
 
 mod answer;
 mod command;
-mod commit;
 mod entry;
+mod faults;
 mod laws;
+mod line;
 mod lines;
 mod making;
-mod opening;
-mod reading;
+mod rows;
 mod run;
+mod saying;
 mod script;
-mod spelling;
-mod state;
 mod status;
-mod step;
 mod words;
 
-pub use command::{Command, LineFault, read_command};
+pub use answer::{answer_text, line_text};
+pub use command::{LINE_LIMIT, LineFault, read_command};
 pub use entry::nimbus;
-pub use laws::{kept_chain, one_state};
-pub use state::State;
+pub use laws::kept_chain;
 pub use status::RunStatus;
 
 #[cfg(test)]

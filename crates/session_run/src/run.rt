@@ -3,63 +3,75 @@ ghost use Rattle.std.specs.Prelude.{◌≡◌, ◌≢◌, ◌⊎◌, ◌<◌, �
 ghost use Rattle.host_model.specs.Causes.{Rose};
 ghost use Rattle.host_model.specs.Hosts.{MeetsAll};
 ghost use Rattle.gate_journal.specs.Records.{place_of};
-ghost use Rattle.session_run.specs.declared.state.State.{State};
+ghost use Rattle.enrol_states.specs.declared.state.State.{State};
+ghost use Rattle.enrol_states.specs.State.{last_moment};
+ghost use Rattle.client_core.specs.OpenStore.{AllKept, AllKeptAmong, AllStand};
+ghost use Rattle.client_core.specs.Settings.{setting};
+ghost use Rattle.client_core.specs.Store.{StandsFor, KeptFor};
 ghost use Rattle.session_run.specs.Commands.{lines_of};
 ghost use Rattle.session_run.specs.Steps.{after, out};
-ghost use Rattle.session_run.specs.Store.{StandsFor, KeptFor};
-ghost use Rattle.session_run.specs.OpenStore.{AllKept, AllKeptAmong, AllStand};
 ghost use Rattle.session_run.specs.Moments.{AfterPrefix, AmongThenAfter};
 ghost use Rattle.session_run.specs.Places.{IsFullAtLine};
 ghost use Rattle.session_run.specs.Ends.{RunEnds};
 ghost use Rattle.session_run.specs.Finds.{RunFinds};
 
 use crate::lines::run_lines;
-use crate::opening::open_store;
 use crate::script::read_script;
 use crate::status::RunStatus;
-use host_model::{Host, Side, Source};
+use client_core::Client;
+use host_model::{Host, Shelf, Side, Source};
 use plain_text::lines;
 use std::alloc::Global;
 
 /// Opens the store, and does the lines of a script.
-fn run_store<H: Host>(alloc: Global, host: &mut H, script: &[u8]) -> RunStatus
+fn run_store<F: Shelf, H: Host>(
+    alloc: Global,
+    host: &mut H,
+    shelf: &mut F,
+    now: u64,
+    script: &[u8],
+) -> RunStatus
+    requires { now ≤ last_moment }
     // Where the images at entry are each kept for one of some states: until the store is open each image is, and from
     // then on the state is the one that was read.
-    ensures any_moment { H.tells → (states : List State) (s : State) → AllKeptAmong H.Host host.old states
+    ensures any_moment { F.tells → H.tells → (states : List State) (s : State) → AllKeptAmong H.Host host.old states
         → KeptFor (H.reads host.old Side.Left) (H.reads host.old Side.Right) s
-        → MeetsAll H.Host host.old host.new (AmongThenAfter states s (lines_of script.now) (H.said host.old)) }
-    ensures ends { H.tells → (states : List State) (s : State) → AllKeptAmong H.Host host.old states
+        → MeetsAll H.Host host.old host.new (AmongThenAfter states (setting F.Shelf shelf.old now) s (lines_of script.now) (H.said host.old)) }
+    ensures ends { F.tells → H.tells → (states : List State) (s : State) → AllKeptAmong H.Host host.old states
         → KeptFor (H.reads host.old Side.Left) (H.reads host.old Side.Right) s
-        → RunEnds H.Host states s (lines_of script.now) (H.said host.old) host.new result }
+        → RunEnds H.Host states (setting F.Shelf shelf.old now) s (lines_of script.now) (H.said host.old) host.new result }
 
-    ensures stands { result ≡ RunStatus.Done → H.tells → (s : State) → AllStand H.Host host.old s
-        → AllStand H.Host host.new (after s (lines_of script.now) (length (lines_of script.now)))
-        × (H.said host.new ≡ H.said host.old ++ out s (lines_of script.now) (length (lines_of script.now))) }
-    ensures made { result ≡ RunStatus.Done → H.tells → (s : State) → AllStand H.Host host.old s → (k : ℕ) → k < length (lines_of script.now)
-        → after s (lines_of script.now) k ≢ after s (lines_of script.now) (k + 1)
-        → AllKept H.Host host.new (after s (lines_of script.now) (length (lines_of script.now))) }
+    ensures stands { result ≡ RunStatus.Done → F.tells → H.tells → (s : State) → AllStand H.Host host.old s
+        → AllStand H.Host host.new (after (setting F.Shelf shelf.old now) s (lines_of script.now) (length (lines_of script.now)))
+        × (H.said host.new ≡ H.said host.old ++ out (setting F.Shelf shelf.old now) s (lines_of script.now) (length (lines_of script.now))) }
+    ensures made { result ≡ RunStatus.Done → F.tells → H.tells → (s : State) → AllStand H.Host host.old s → (k : ℕ) → k < length (lines_of script.now)
+        → after (setting F.Shelf shelf.old now) s (lines_of script.now) k ≢ after (setting F.Shelf shelf.old now) s (lines_of script.now) (k + 1)
+        → AllKept H.Host host.new (after (setting F.Shelf shelf.old now) s (lines_of script.now) (length (lines_of script.now))) }
     ensures finds { H.tells → RunFinds (H.reads host.old Side.Left) (H.reads host.old Side.Right) result }
     ensures quiet { H.tells → ((s : State) → StandsFor (H.reads host.old Side.Left) (H.reads host.old Side.Right) s → ⊥)
         → (H.said host.new ≡ H.said host.old) × (H.written host.new ≡ H.written host.old) }
 
-    ensures full { result ≡ RunStatus.StoreFull → H.tells → (s : State) (stands : StandsFor (H.reads host.old Side.Left) (H.reads host.old Side.Right) s)
-        → (k : ℕ) × IsFullAtLine (place_of stands.payloads) s (lines_of script.now) k }
-    ensures fits { result ≡ RunStatus.Done → H.tells → (s : State) (stands : StandsFor (H.reads host.old Side.Left) (H.reads host.old Side.Right) s)
-        → (k : ℕ) → IsFullAtLine (place_of stands.payloads) s (lines_of script.now) k → ⊥ }
+    ensures full { result ≡ RunStatus.StoreFull → F.tells → H.tells → (s : State) (stands : StandsFor (H.reads host.old Side.Left) (H.reads host.old Side.Right) s)
+        → (k : ℕ) × IsFullAtLine (setting F.Shelf shelf.old now) (place_of stands.payloads) s (lines_of script.now) k }
+    ensures fits { result ≡ RunStatus.Done → F.tells → H.tells → (s : State) (stands : StandsFor (H.reads host.old Side.Left) (H.reads host.old Side.Right) s)
+        → (k : ℕ) → IsFullAtLine (setting F.Shelf shelf.old now) (place_of stands.payloads) s (lines_of script.now) k → ⊥ }
     ensures cause { result ≡ RunStatus.DiskFault → Rose (H.disk_faults host.old) (H.disk_faults host.new) }
     ensures say_cause { result ≡ RunStatus.SayFault → Rose (H.say_faults host.old) (H.say_faults host.new) }
+    ensures shelf_cause { result ≡ RunStatus.ShelfFault → Rose (F.faults shelf.old) (F.faults shelf.new) }
+    ensures files { F.tells → (name : List ℕ) → F.file shelf.new name ≡ F.file shelf.old name }
     ensures not_script { (result ≢ RunStatus.ScriptTooLong) × (result ≢ RunStatus.SourceFault) × (result ≢ RunStatus.Usage) }
 {
     let Ok(spans) = lines(alloc, script) else {
         return RunStatus::OutOfMemory;
     };
-    match open_store(alloc, host) {
-        Ok((mut journal, mut state)) => {
+    match Client::open(alloc, host) {
+        Ok(mut client) => {
             match run_lines(
                 alloc,
                 host,
-                &mut journal,
-                &mut state,
+                &mut client,
+                shelf,
+                now,
                 script,
                 spans.as_slice(),
             ) {
@@ -72,52 +84,61 @@ fn run_store<H: Host>(alloc: Global, host: &mut H, script: &[u8]) -> RunStatus
 }
 
 /// Reads the script to its end, opens the store, and does the lines.
-pub(crate) fn run<S: Source, H: Host>(alloc: Global, source: &mut S, host: &mut H) -> RunStatus
+pub(crate) fn run<S: Source, F: Shelf, H: Host>(
+    alloc: Global,
+    source: &mut S,
+    shelf: &mut F,
+    host: &mut H,
+    now: u64,
+) -> RunStatus
+    requires { now ≤ last_moment }
     // Where the images at entry are each kept for one state: whenever a crash comes, they are kept for the state after
     // the first k lines, each that was answered among them, and what was said is a prefix of their answers.
-    ensures crash { S.tells → H.tells → (s : State) → AllKept H.Host host.old s
-        → MeetsAll H.Host host.old host.new (AfterPrefix s (lines_of (S.left source.old)) (H.said host.old)) }
-    ensures ends { S.tells → H.tells → (s : State) → AllKept H.Host host.old s
-        → RunEnds H.Host (s ∷ []) s (lines_of (S.left source.old)) (H.said host.old) host.new result }
+    ensures crash { S.tells → F.tells → H.tells → (s : State) → AllKept H.Host host.old s
+        → MeetsAll H.Host host.old host.new (AfterPrefix (setting F.Shelf shelf.old now) s (lines_of (S.left source.old)) (H.said host.old)) }
+    ensures ends { S.tells → F.tells → H.tells → (s : State) → AllKept H.Host host.old s
+        → RunEnds H.Host (s ∷ []) (setting F.Shelf shelf.old now) s (lines_of (S.left source.old)) (H.said host.old) host.new result }
 
     // Where they are each kept for one of some states: so it is until the store is open, and from then on the state is
     // the one for which reads are kept.
-    ensures reopened { S.tells → H.tells → (states : List State) (s : State) → AllKeptAmong H.Host host.old states
+    ensures reopened { S.tells → F.tells → H.tells → (states : List State) (s : State) → AllKeptAmong H.Host host.old states
         → KeptFor (H.reads host.old Side.Left) (H.reads host.old Side.Right) s
-        → MeetsAll H.Host host.old host.new (AmongThenAfter states s (lines_of (S.left source.old)) (H.said host.old)) }
-    ensures reopened_ends { S.tells → H.tells → (states : List State) (s : State) → AllKeptAmong H.Host host.old states
+        → MeetsAll H.Host host.old host.new (AmongThenAfter states (setting F.Shelf shelf.old now) s (lines_of (S.left source.old)) (H.said host.old)) }
+    ensures reopened_ends { S.tells → F.tells → H.tells → (states : List State) (s : State) → AllKeptAmong H.Host host.old states
         → KeptFor (H.reads host.old Side.Left) (H.reads host.old Side.Right) s
-        → RunEnds H.Host states s (lines_of (S.left source.old)) (H.said host.old) host.new result }
+        → RunEnds H.Host states (setting F.Shelf shelf.old now) s (lines_of (S.left source.old)) (H.said host.old) host.new result }
 
     ensures read { result ≡ RunStatus.Done → S.tells → S.left source.new ≡ [] }
-    ensures stands { result ≡ RunStatus.Done → S.tells → H.tells → (s : State) → AllStand H.Host host.old s
-        → AllStand H.Host host.new (after s (lines_of (S.left source.old)) (length (lines_of (S.left source.old))))
-        × (H.said host.new ≡ H.said host.old ++ out s (lines_of (S.left source.old)) (length (lines_of (S.left source.old)))) }
-    ensures made { result ≡ RunStatus.Done → S.tells → H.tells → (s : State) → AllStand H.Host host.old s
+    ensures stands { result ≡ RunStatus.Done → S.tells → F.tells → H.tells → (s : State) → AllStand H.Host host.old s
+        → AllStand H.Host host.new (after (setting F.Shelf shelf.old now) s (lines_of (S.left source.old)) (length (lines_of (S.left source.old))))
+        × (H.said host.new ≡ H.said host.old ++ out (setting F.Shelf shelf.old now) s (lines_of (S.left source.old)) (length (lines_of (S.left source.old)))) }
+    ensures made { result ≡ RunStatus.Done → S.tells → F.tells → H.tells → (s : State) → AllStand H.Host host.old s
         → (k : ℕ) → k < length (lines_of (S.left source.old))
-        → after s (lines_of (S.left source.old)) k ≢ after s (lines_of (S.left source.old)) (k + 1)
-        → AllKept H.Host host.new (after s (lines_of (S.left source.old)) (length (lines_of (S.left source.old)))) }
+        → after (setting F.Shelf shelf.old now) s (lines_of (S.left source.old)) k ≢ after (setting F.Shelf shelf.old now) s (lines_of (S.left source.old)) (k + 1)
+        → AllKept H.Host host.new (after (setting F.Shelf shelf.old now) s (lines_of (S.left source.old)) (length (lines_of (S.left source.old)))) }
     ensures finds { H.tells → RunFinds (H.reads host.old Side.Left) (H.reads host.old Side.Right) result }
     ensures quiet { H.tells → ((s : State) → StandsFor (H.reads host.old Side.Left) (H.reads host.old Side.Right) s → ⊥)
         → (H.said host.new ≡ H.said host.old) × (H.written host.new ≡ H.written host.old) }
 
-    ensures full { result ≡ RunStatus.StoreFull → S.tells → H.tells
+    ensures full { result ≡ RunStatus.StoreFull → S.tells → F.tells → H.tells
         → (s : State) (stands : StandsFor (H.reads host.old Side.Left) (H.reads host.old Side.Right) s)
-        → (k : ℕ) × IsFullAtLine (place_of stands.payloads) s (lines_of (S.left source.old)) k }
-    ensures fits { result ≡ RunStatus.Done → S.tells → H.tells
+        → (k : ℕ) × IsFullAtLine (setting F.Shelf shelf.old now) (place_of stands.payloads) s (lines_of (S.left source.old)) k }
+    ensures fits { result ≡ RunStatus.Done → S.tells → F.tells → H.tells
         → (s : State) (stands : StandsFor (H.reads host.old Side.Left) (H.reads host.old Side.Right) s)
-        → (k : ℕ) → IsFullAtLine (place_of stands.payloads) s (lines_of (S.left source.old)) k → ⊥ }
+        → (k : ℕ) → IsFullAtLine (setting F.Shelf shelf.old now) (place_of stands.payloads) s (lines_of (S.left source.old)) k → ⊥ }
 
-    ensures too_long { result ≡ RunStatus.ScriptTooLong → (host.new ≡ host.old) × (S.tells → 2 ^ 20 < length (S.left source.old)) }
+    ensures too_long { result ≡ RunStatus.ScriptTooLong → (host.new ≡ host.old) × (shelf.new ≡ shelf.old) × (S.tells → 2 ^ 20 < length (S.left source.old)) }
     ensures too_long_where { S.tells → 2 ^ 20 < length (S.left source.old)
         → (result ≡ RunStatus.ScriptTooLong) ⊎ (result ≡ RunStatus.SourceFault) ⊎ (result ≡ RunStatus.OutOfMemory) }
-    ensures source_cause { result ≡ RunStatus.SourceFault → (host.new ≡ host.old) × Rose (S.faults source.old) (S.faults source.new) }
+    ensures source_cause { result ≡ RunStatus.SourceFault → (host.new ≡ host.old) × (shelf.new ≡ shelf.old) × Rose (S.faults source.old) (S.faults source.new) }
     ensures cause { result ≡ RunStatus.DiskFault → Rose (H.disk_faults host.old) (H.disk_faults host.new) }
     ensures say_cause { result ≡ RunStatus.SayFault → Rose (H.say_faults host.old) (H.say_faults host.new) }
+    ensures shelf_cause { result ≡ RunStatus.ShelfFault → Rose (F.faults shelf.old) (F.faults shelf.new) }
+    ensures files { F.tells → (name : List ℕ) → F.file shelf.new name ≡ F.file shelf.old name }
     ensures usage { result ≢ RunStatus.Usage }
 {
     match read_script(alloc, source) {
-        Ok(script) => run_store(alloc, host, &script),
+        Ok(script) => run_store(alloc, host, shelf, now, &script),
         Err(fault) => fault.into(),
     }
 }

@@ -1,9 +1,9 @@
 // How a call ended.
 ghost use Rattle.std.specs.Prelude.{◌≡◌};
 
-use crate::commit::StepFault;
-use crate::opening::StoreFault;
+use crate::faults::RunFault;
 use crate::script::ScriptFault;
+use client_core::{ClientFault, MakeFault};
 use std::alloc::AllocError;
 use std::fmt;
 
@@ -26,6 +26,8 @@ pub enum RunStatus {
     StoreFull,
     /// The source failed.
     SourceFault,
+    /// The shelf failed.
+    ShelfFault,
     /// The disk failed.
     DiskFault,
     /// The output failed.
@@ -50,6 +52,7 @@ impl RunStatus {
             RunStatus::BadStore => 6,
             RunStatus::StoreFull => 7,
             RunStatus::SourceFault => 8,
+            RunStatus::ShelfFault => 9,
             RunStatus::DiskFault => 10,
             RunStatus::SayFault => 11,
             RunStatus::OutOfMemory => 12,
@@ -69,6 +72,7 @@ impl fmt::Display for RunStatus {
             RunStatus::BadStore => "BadStore",
             RunStatus::StoreFull => "StoreFull",
             RunStatus::SourceFault => "SourceFault",
+            RunStatus::ShelfFault => "ShelfFault",
             RunStatus::DiskFault => "DiskFault",
             RunStatus::SayFault => "SayFault",
             RunStatus::OutOfMemory => "OutOfMemory",
@@ -91,34 +95,51 @@ impl From<ScriptFault> for RunStatus {
     }
 }
 
-impl From<StoreFault> for RunStatus {
+impl From<ClientFault> for RunStatus {
     ghost use Rattle.std.specs.Prelude.{◌≡◌};
     ghost use Rattle.session_run.specs.Statuses.{of_store};
 
     ghost from_gives = { λ fault status. status ≡ of_store fault };
 
-    fn from(fault: StoreFault) -> Self {
+    fn from(fault: ClientFault) -> Self {
         match fault {
-            StoreFault::NoStore => RunStatus::NoStore,
-            StoreFault::BadStore => RunStatus::BadStore,
-            StoreFault::DiskFault => RunStatus::DiskFault,
-            StoreFault::OutOfMemory => RunStatus::OutOfMemory,
+            ClientFault::NoStore => RunStatus::NoStore,
+            ClientFault::BadStore => RunStatus::BadStore,
+            ClientFault::DiskFault => RunStatus::DiskFault,
+            ClientFault::OutOfMemory => RunStatus::OutOfMemory,
         }
     }
 }
 
-impl From<StepFault> for RunStatus {
+impl From<MakeFault> for RunStatus {
     ghost use Rattle.std.specs.Prelude.{◌≡◌};
-    ghost use Rattle.session_run.specs.Statuses.{of_step};
+    ghost use Rattle.session_run.specs.Statuses.{of_making};
 
-    ghost from_gives = { λ fault status. status ≡ of_step fault };
+    ghost from_gives = { λ fault status. status ≡ of_making fault };
 
-    fn from(fault: StepFault) -> Self {
+    fn from(fault: MakeFault) -> Self {
         match fault {
-            StepFault::StoreFull => RunStatus::StoreFull,
-            StepFault::DiskFault => RunStatus::DiskFault,
-            StepFault::SayFault => RunStatus::SayFault,
-            StepFault::OutOfMemory => RunStatus::OutOfMemory,
+            MakeFault::AlreadyStore => RunStatus::AlreadyStore,
+            MakeFault::BadStore => RunStatus::BadStore,
+            MakeFault::DiskFault => RunStatus::DiskFault,
+            MakeFault::OutOfMemory => RunStatus::OutOfMemory,
+        }
+    }
+}
+
+impl From<RunFault> for RunStatus {
+    ghost use Rattle.std.specs.Prelude.{◌≡◌};
+    ghost use Rattle.session_run.specs.Statuses.{of_run};
+
+    ghost from_gives = { λ fault status. status ≡ of_run fault };
+
+    fn from(fault: RunFault) -> Self {
+        match fault {
+            RunFault::ShelfFault => RunStatus::ShelfFault,
+            RunFault::StoreFull => RunStatus::StoreFull,
+            RunFault::DiskFault => RunStatus::DiskFault,
+            RunFault::SayFault => RunStatus::SayFault,
+            RunFault::OutOfMemory => RunStatus::OutOfMemory,
         }
     }
 }

@@ -1,5 +1,6 @@
 // Calls of the program over sides, a source and an output in memory. Each check is a small function of its own.
 use super::*;
+use client_core::Command;
 use host_model::{Choice, MemHost, MemShelf, MemSource, Side};
 use std::alloc::Global;
 use std::test::Fail;
@@ -48,19 +49,30 @@ fn has_said(host: &MemHost, text: &[u8]) -> bool {
     host.said() == text
 }
 
-// Calls the program with these words and this source.
+// Calls the program with these words, this source and this shelf.
+fn call_over(
+    alloc: Global,
+    host: &mut MemHost,
+    words: &[&str],
+    source: &mut MemSource,
+    shelf: &mut MemShelf,
+) -> Result<RunStatus, Fail> {
+    let mut list = Vec::new(alloc);
+    for word in words {
+        list.push(String::from_str(alloc, word)?)?;
+    }
+    Ok(nimbus(alloc, &list, NOW, source, shelf, host))
+}
+
+// Calls the program with these words and this source, and no files.
 fn call_with(
     alloc: Global,
     host: &mut MemHost,
     words: &[&str],
     source: &mut MemSource,
 ) -> Result<RunStatus, Fail> {
-    let mut list = Vec::new(alloc);
-    for word in words {
-        list.push(String::from_str(alloc, word)?)?;
-    }
     let mut shelf = MemShelf::new(alloc, &[])?;
-    Ok(nimbus(alloc, &list, NOW, source, &mut shelf, host))
+    call_over(alloc, host, words, source, &mut shelf)
 }
 
 // Calls the program with these words and this script.
@@ -185,7 +197,7 @@ fn first_run(rt: HostRuntime) -> Result<(), Fail> {
         b"participate\nparticipate yes no\n",
         b"refused BadWords\nrefused BadWords\n",
     )?;
-    check(read_command(alloc, b" show") == Ok(Command::Show))
+    check(matches!(read_command(alloc, b" show"), Ok(Command::Show)))
 }
 
 // A script of this many bytes.
@@ -331,5 +343,161 @@ fn faults_of_the_outside(rt: HostRuntime) -> Result<(), Fail> {
     for number in 1..=20 {
         fails_at(alloc, &left, number)?;
     }
-    source_fails(alloc, &left)
+    source_fails(alloc, &left)?;
+    shelf_fails(alloc)
+}
+
+/// What stands behind the version of the schema in a plain record of an experiment.
+const RECORD_REST: &str =
+    "\",\"appName\":\"fenix\",\"channel\":\"release\",\"isEnrollmentPaused\":false,\"isRollout\":false,\"bucketConfig\":{\"randomizationUnit\":\"nimbus_id\",\"namespace\":\"ns\",\"start\":0,\"count\":10000,\"total\":10000},\"branches\":[{\"slug\":\"control\",\"ratio\":0,\"features\":[{\"featureId\":\"homescreen\",\"value\":{}}]},{\"slug\":\"treatment\",\"ratio\":1,\"features\":[{\"featureId\":\"homescreen\",\"value\":{}}]}]}";
+
+// A plain record with this slug and this version of the schema.
+fn push_record(text: &mut String, slug: &str, schema: &str) -> Result<(), Fail> {
+    text.push_str("{\"slug\":\"")?;
+    text.push_str(slug)?;
+    text.push_str("\",\"schemaVersion\":\"")?;
+    text.push_str(schema)?;
+    text.push_str(RECORD_REST)?;
+    Ok(())
+}
+
+// A payload of two equal records, a number, and a record of a later schema.
+fn mixed_payload(alloc: Global) -> Result<String, Fail> {
+    let mut text = String::from_str(alloc, "{\"data\":[")?;
+    push_record(&mut text, "alpha", "1.12.0")?;
+    text.push_str(",")?;
+    push_record(&mut text, "alpha", "1.12.0")?;
+    text.push_str(",5,")?;
+    push_record(&mut text, "beta", "2.0.0")?;
+    text.push_str("]}")?;
+    Ok(text)
+}
+
+// Runs this script over this host with this file alone.
+fn run_with_file(
+    alloc: Global,
+    host: &mut MemHost,
+    name: &str,
+    bytes: &[u8],
+    script: &[u8],
+) -> Result<RunStatus, Fail> {
+    let mut shelf = MemShelf::new(alloc, &[])?;
+    shelf.add(alloc, name, bytes)?;
+    let mut source = MemSource::new(alloc, script, 4096, &[])?;
+    call_over(alloc, host, &["run"], &mut source, &mut shelf)
+}
+
+// Over a new store the script is answered so, with this file alone.
+fn answers_with_file(
+    alloc: Global,
+    name: &str,
+    bytes: &[u8],
+    script: &[u8],
+    said: &[u8],
+) -> Result<(), Fail> {
+    let left = made(alloc)?;
+    let mut host = host_of(alloc, &left, b"\x00", &[])?;
+    let status = run_with_file(alloc, &mut host, name, bytes, script)?;
+    check(status == RunStatus::Done && has_said(&host, said))
+}
+
+#[test]
+fn skipped_records(rt: HostRuntime) -> Result<(), Fail> {
+    let alloc = rt.alloc();
+    let payload = mixed_payload(alloc)?;
+    answers_with_file(
+        alloc,
+        "skipped.json",
+        payload.as_bytes(),
+        b"fetch skipped.json\n",
+        b"fetched 1 skipped 3\nskipped 1 Duplicate\nskipped 2 NotAnObject\nskipped 3 BadSchema\n",
+    )?;
+    answers_with_file(
+        alloc,
+        "skipped.json",
+        payload.as_bytes(),
+        b"show\nfetch skipped.json\nshow\n",
+        b"id 5a8f0b1e-7c3d-4e2a-9b6c-0123456789ab\nparticipating yes\npending no\nend\nfetched 1 skipped 3\nskipped 1 Duplicate\nskipped 2 NotAnObject\nskipped 3 BadSchema\nid 5a8f0b1e-7c3d-4e2a-9b6c-0123456789ab\nparticipating yes\npending yes\nend\n",
+    )
+}
+
+// The second fetch of one payload leaves the sides as the first one did.
+fn second_fetch_is_quiet(alloc: Global) -> Result<(), Fail> {
+    let payload = mixed_payload(alloc)?;
+    let left = made(alloc)?;
+    let mut host = host_of(alloc, &left, b"\x00", &[])?;
+    let once = b"fetch a.json\n";
+    run_with_file(alloc, &mut host, "a.json", payload.as_bytes(), once)?;
+    let first = image(alloc, &host, Side::Left, Choice::New)?;
+    run_with_file(alloc, &mut host, "a.json", payload.as_bytes(), once)?;
+    let second = image(alloc, &host, Side::Left, Choice::New)?;
+    check(first.len() > left.len() && first.as_slice() == second.as_slice())
+}
+
+// A payload of so many numbers.
+fn numbers(alloc: Global, count: usize) -> Result<Vec<u8>, Fail> {
+    let mut bytes = b"{\"data\":[5".to_vec(alloc)?;
+    for _ in 1..count {
+        bytes.extend_from_slice(b",5")?;
+    }
+    bytes.extend_from_slice(b"]}")?;
+    Ok(bytes)
+}
+
+// So many lists, each in the one before.
+fn nested(alloc: Global, count: usize) -> Result<Vec<u8>, Fail> {
+    let mut bytes = script_of(alloc, b'[', count)?;
+    bytes.extend_from_slice(&script_of(alloc, b']', count)?)?;
+    Ok(bytes)
+}
+
+#[test]
+fn file_refusals(rt: HostRuntime) -> Result<(), Fail> {
+    let alloc = rt.alloc();
+    let fetch = b"fetch a.json\n";
+    answers_with_file(
+        alloc,
+        "a.json",
+        b"{}",
+        b"fetch none.json\n",
+        b"refused AbsentFile \"none.json\"\n",
+    )?;
+    let not_json = b"refused NotJson \"a.json\"\n";
+    answers_with_file(alloc, "a.json", b"{\"data\":[", fetch, not_json)?;
+    answers_with_file(alloc, "a.json", &nested(alloc, 65)?, fetch, not_json)?;
+    let no_data = b"refused NoData\n";
+    answers_with_file(alloc, "a.json", &nested(alloc, 64)?, fetch, no_data)?;
+    answers_with_file(alloc, "a.json", b"{\"app_name\":\"fenix\"}", fetch, no_data)?;
+    answers_with_file(
+        alloc,
+        "a.json",
+        &numbers(alloc, 2001)?,
+        fetch,
+        b"refused TooManyRecipes 2001\n",
+    )?;
+    answers_with_file(
+        alloc,
+        "a.json",
+        &script_of(alloc, b' ', 4_194_305)?,
+        fetch,
+        b"refused FileTooLarge \"a.json\" 4194305\n",
+    )?;
+    answers_with_file(
+        alloc,
+        "a.json",
+        b"{}",
+        b"fetch\nfetch a b\nfetch \xff\n",
+        b"refused BadWords\nrefused BadWords\nrefused BadWords\n",
+    )?;
+    second_fetch_is_quiet(alloc)
+}
+
+// A shelf that fails ends the run before the line is answered.
+fn shelf_fails(alloc: Global) -> Result<(), Fail> {
+    let left = made(alloc)?;
+    let mut host = host_of(alloc, &left, b"\x00", &[])?;
+    let mut shelf = MemShelf::new(alloc, &[1])?;
+    let mut source = MemSource::new(alloc, b"show\nfetch a.json\nshow\n", 4096, &[])?;
+    let status = call_over(alloc, &mut host, &["run"], &mut source, &mut shelf)?;
+    check(status == RunStatus::ShelfFault && status.code() == 9 && has_said(&host, SHOWN_IN))
 }

@@ -1,5 +1,5 @@
 -- The spans of the words lie within the line.
-use Rattle.std.proofs.Common.{◌≡◌, ◌≤◌, All, length, map, ◌∙◌, ap, sym, subst, inl, List, ℕ, refl, arith}
+use Rattle.std.proofs.Common.{◌≡◌, ◌≤◌, All, length, map, ◌∙◌, ap, sym, subst, inl, inr, ⊎_elim, List, ℕ, refl, arith}
 use Rattle.std.proofs.lemmas.Bool.{le-ltb}
 use Rattle.plain_text.specs.Spans.{words}
 use Rattle.session_run.specs.Commands.{IsWithin, command_of, command_of_words, words_of, part_at}
@@ -17,4 +17,4 @@ command_at-requires c = subst (λ (spans : List (ℕ × ℕ)). All (IsWithin (le
 pub returns : goal.returns
 returns c =
     let short : length c.args.line.now ≤ 4096 = omega arith in
-    inl (c.command_at.ensures ∙ ap (λ (spans : List (ℕ × ℕ)). command_of_words (map (part_at c.args.line.now) spans)) (c.as_slice.ensures ∙ c.in_ok-spans.ensures) ∙ command_of-short c.args.line.now short)
+    ⊎_elim (λ is. inl (is ∙ ap (λ (spans : List (ℕ × ℕ)). command_of_words (map (part_at c.args.line.now) spans)) (c.as_slice.ensures ∙ c.in_ok-spans.ensures) ∙ command_of-short c.args.line.now short)) inr c.command_at.ensures

@@ -26,8 +26,8 @@ pub returns-in-Some-Run-clause-judges : goal.returns-in-Some-Run-clause-judges
 returns-in-Some-Run-clause-judges g c is_run tells = run_judges _ _ c.run.result (c.run.ensures.finds tells)
 
 pub returns-in-Some-Run-clause-complete : goal.returns-in-Some-Run-clause-complete
-returns-in-Some-Run-clause-complete g c is_run source_tells tells short found source disk say =
-    run_complete _ _ c.run.result (c.run.ensures.finds tells) found (λ is. omega (arith, short, (c.run.ensures.too_long is).1 source_tells)) (λ is. source (c.run.ensures.source_cause is).1)
+returns-in-Some-Run-clause-complete g c is_run source_tells tells short found source shelf disk say =
+    run_complete _ _ c.run.result (c.run.ensures.finds tells) found (λ is. omega (arith, short, (c.run.ensures.too_long is).2 source_tells)) (λ is. source (c.run.ensures.source_cause is).2) (λ is. shelf (c.run.ensures.shelf_cause is))
     (λ is. disk (c.run.ensures.cause is)) (λ is. say (c.run.ensures.say_cause is))
 
 pub returns-in-None-clause-making : goal.returns-in-None-clause-making

@@ -1,10 +1,11 @@
 -- After the first lines: the store holds their state, and their answers are said.
-use Rattle.std.proofs.Common.{◌≡◌, ◌≢◌, ◌+◌, ℕ, ◌≤◌, ◌<◌, ◌++◌, map, take}
+use Rattle.std.proofs.Common.{◌≡◌, ◌≢◌, ◌+◌, ℕ, ◌≤◌, ◌<◌, List, ◌++◌, map, take}
 use Rattle.host_model.specs.Hosts.{MeetsAll}
-use Rattle.session_run.specs.State.{IsSound}
+use Rattle.state_codec.specs.Sound.{IsSound}
+use Rattle.client_core.specs.Clients.{state_of, end_of, IsOpenOn, HasGateOn}
+use Rattle.client_core.specs.Settings.{setting}
 use Rattle.session_run.specs.Commands.{part_at}
-use Rattle.session_run.specs.Steps.{after, out}
-use Rattle.session_run.specs.OpenStore.{Holds, HasGate}
+use Rattle.session_run.specs.Steps.{run_of, begun, run_at, after, out}
 use Rattle.session_run.specs.Moments.{AfterPrefix}
 use Rattle.session_run.specs.Places.{all_places, IsFullAtLine}
 use Rattle.session_run.proofs.lines.run_lines.Given as goal
@@ -12,19 +13,23 @@ use Rattle.session_run.proofs.lines.run_lines.Given as goal
 abbrev pub invariant-loop-span : goal.invariant-loop-span
 invariant-loop-span g l =
     let h = g.H.Host in
+    let f = g.F.Shelf in
+    let at = setting f l.fn.shelf l.now in
     let lines = map (part_at l.script) l.spans in
-    let s = l.fn.state in
+    let s = state_of l.fn.client in
     let i = l.span-index in
     record {
-      sound : IsSound l.state;
-      state : l.state ≡ after s lines i;
-      holds : h.tells → Holds h l.journal l.host (after s lines i);
-      said : h.tells → h.said l.host ≡ h.said l.fn.host ++ out s lines i;
-      gate : h.tells → HasGate h l.fn.journal l.fn.host → HasGate h l.journal l.host;
-      gate_made : h.tells → (k : ℕ) → k < i → after s lines k ≢ after s lines (k + 1) → HasGate h l.journal l.host;
-      any_moment : h.tells → HasGate h l.fn.journal l.fn.host → MeetsAll h l.fn.host l.host (AfterPrefix s lines (h.said l.fn.host));
-      place : l.journal.place ≡ all_places l.fn.journal.place s (take i lines);
-      fits : (k : ℕ) → k < i → IsFullAtLine l.fn.journal.place s lines k → ⊥;
+      sound : IsSound (state_of l.client);
+      holds : h.tells → IsOpenOn h l.client l.host;
+      files : f.tells → (name : List ℕ) → f.file l.shelf name ≡ f.file l.fn.shelf name;
+      state : f.tells → run_of l.client ≡ run_at at s lines i;
+      said : f.tells → h.tells → h.said l.host ≡ h.said l.fn.host ++ out at s lines i;
+      gate : h.tells → HasGateOn h l.fn.client l.fn.host → HasGateOn h l.client l.host;
+      gate_made : f.tells → h.tells → (k : ℕ) → k < i → after at s lines k ≢ after at s lines (k + 1) → HasGateOn h l.client l.host;
+      any_moment : f.tells → h.tells → HasGateOn h l.fn.client l.fn.host → MeetsAll h l.fn.host l.host (AfterPrefix at s lines (h.said l.fn.host));
+      place : f.tells → end_of l.client ≡ all_places at (end_of l.fn.client) (begun s) (take i lines);
+      fits : f.tells → (k : ℕ) → k < i → IsFullAtLine at (end_of l.fn.client) s lines k → ⊥;
+      shelf_faults : f.faults l.fn.shelf ≤ f.faults l.shelf;
       disk_faults : h.disk_faults l.fn.host ≤ h.disk_faults l.host;
       say_faults : h.say_faults l.fn.host ≤ h.say_faults l.host;
     }

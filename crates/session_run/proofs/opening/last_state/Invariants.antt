@@ -1,7 +1,0 @@
--- The payloads so far are a history of the last state.
-use Rattle.std.proofs.Common.{map, take}
-use Rattle.session_run.specs.Opening.{IsHistorySoFar}
-use Rattle.session_run.proofs.opening.last_state.Given as goal
-
-abbrev pub invariant-loop-payload : goal.invariant-loop-payload
-invariant-loop-payload l = IsHistorySoFar (map (λ v. v.items) (take l.payload-index l.payloads)) l.last
