@@ -1,7 +1,7 @@
 -- Rows and opt-outs after an opt-in.
-use Rattle.std.proofs.Common.{Ordering, ◌≡◌, ℕ, zero, suc, ◌+◌, ◌<◌, ◌≤◌, Bool, true, false, List, [], ◌∷◌, ◌++◌, map, length, get_or, take, drop, Option, Some, None, Less, Equal, Greater, ◌&&◌, refl, sym, ap, ◌∙◌, subst, arith}
-use Rattle.std.specs.Prelude.{All, slice_set, filter, not, ◌||◌, IsTrue, bytes_eq, if◌then◌else◌}
-use Rattle.std.specs.List.{insert, list_any}
+use Rattle.std.proofs.Common.{Ordering, ◌≡◌, ℕ, zero, suc, ◌<◌, ◌≤◌, Bool, true, false, List, [], ◌∷◌, length, get_or, Some, Less, Equal, Greater, refl, sym, ap, ◌∙◌, subst, arith}
+use Rattle.std.specs.Prelude.{All, slice_set, not, ◌||◌, IsTrue, bytes_eq, if◌then◌else◌}
+use Rattle.std.specs.List.{insert}
 use Rattle.std.specs.BTreeSet.{insert_key}
 use Rattle.std.specs.Ordering.{match_ordering, ordering_reverse}
 use Rattle.std.specs.Cmp.Lexicographic.{nat_list_cmp_total}
@@ -12,18 +12,20 @@ use Rattle.std.proofs.lemmas.List.Kept.{IsStrictlySortedBy-filter}
 use Rattle.std.proofs.lemmas.Map.Views.{any-filter_same}
 use Rattle.recipe_reader.specs.Payloads.{slug_cmp, has_slug, recipe_with}
 use Rattle.recipe_reader.specs.declared.recipe.Recipe.{Recipe}
-use Rattle.enrol_states.specs.Order.{Rise, IsPlace, AreAbove, is_in}
-use Rattle.enrol_states.specs.Statuses.{IsSlug, IsStatus, is_enrolled, enrolled_branch}
+use Rattle.enrol_states.specs.Order.{Rise, IsPlace, is_in}
+use Rattle.enrol_states.specs.Statuses.{IsSlug, IsStatus}
 use Rattle.enrol_states.specs.State.{slugs_of}
-use Rattle.enrol_states.specs.Recipes.{has_branch, offers}
+use Rattle.enrol_states.specs.Recipes.{offers}
 use Rattle.enrol_states.specs.Consistent.{HasRecipe, HasBranch, IsNotOptedOut, IsParticipating, IsConsistent}
 use Rattle.enrol_states.specs.Commands.{without_text, with_row, opted_in, after_opt_in}
+use Rattle.enrol_states.specs.Features.{IsFree}
 use Rattle.enrol_states.specs.Choices.{MayChoose}
 use Rattle.enrol_states.specs.declared.state.State.{State}
 use Rattle.enrol_states.specs.declared.state.Row.{Row}
-use Rattle.enrol_states.proofs.Ordered.{same_texts, turned_up, turned_down, text_at, order_by, place_searched}
+use Rattle.enrol_states.proofs.Ordered.{same_texts, turned_up, text_at}
 use Rattle.enrol_states.proofs.Lookups.{slug_of}
 use Rattle.enrol_states.proofs.OptOuts.{rise-insert}
+use Rattle.enrol_states.proofs.Exclusion as exclusion
 
 -- ---- a row in the place of another, or at its place
 
@@ -106,8 +108,8 @@ has_recipe : (s : List ℕ) (rs : List Recipe) (r : Recipe) → recipe_with s rs
 has_recipe s [] r e = absurd cc
 has_recipe s (q ∷ qs) r e = has_recipe_at s q qs r (bytes_eq q.slug s) (has_recipe s qs r) e
 
-pub consistent : (s : State) (slug branch : List ℕ) (r : Recipe) → IsSlug slug → IsSlug branch → MayChoose s slug branch r → IsConsistent s → IsConsistent (after_opt_in s slug branch)
-consistent s slug branch r is_slug is_branch may c = let t = after_opt_in s slug branch in let row = opted_in slug branch in record {
+pub consistent : (s : State) (slug branch : List ℕ) (r : Recipe) → IsSlug slug → IsSlug branch → MayChoose s slug branch r → IsFree s r → IsConsistent s → IsConsistent (after_opt_in s slug branch)
+consistent s slug branch r is_slug is_branch may free c = let t = after_opt_in s slug branch in let row = opted_in slug branch in record {
   id = c.id;
   installed = c.installed;
   updated = c.updated;
@@ -126,4 +128,5 @@ consistent s slug branch r is_slug is_branch may c = let t = after_opt_in s slug
   row_branches = All-with_row (HasBranch t) row s.rows (λ b e. let same : branch ≡ b = cc in subst (λ x. IsTrue (offers (recipe_with slug s.live) x)) same (ap (λ o. offers o branch) may.recipe ∙ may.offered)) c.row_branches;
   row_choices = All-with_row (IsNotOptedOut t) row s.rows (λ enrolled. without-itself slug s.opted_out) (All-weaker (IsNotOptedOut s) (IsNotOptedOut t) (λ q h enrolled. is_in-without q.slug slug s.opted_out (h enrolled)) s.rows c.row_choices);
   row_participation = All-with_row (IsParticipating t) row s.rows (λ enrolled. may.participating) c.row_participation;
+  exclusive = exclusion.opt_in s slug branch r may free c.exclusive;
 }

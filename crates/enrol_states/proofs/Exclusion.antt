@@ -1,5 +1,5 @@
 -- The commands leave features to one recipe of a kind.
-use Rattle.std.proofs.Common.{Ordering, ◌≡◌, ℕ, Bool, true, false, List, [], ◌∷◌, map, Option, Some, None, Less, Equal, Greater, ◌&&◌, refl, sym, ap, ◌∙◌, subst}
+use Rattle.std.proofs.Common.{Ordering, ◌≡◌, ℕ, Bool, true, false, List, [], ◌∷◌, map, Option, Some, Less, Equal, Greater, ◌&&◌, refl, sym, ap, ◌∙◌, subst}
 use Rattle.std.specs.Prelude.{All, IsTrue, not, bytes_eq, if◌then◌else◌}
 use Rattle.std.specs.Bool.{beq}
 use Rattle.std.specs.Cmp.Lexicographic.{bytes_decides}
@@ -14,13 +14,12 @@ use Rattle.enrol_states.specs.Recipes.{has_feature, share}
 use Rattle.enrol_states.specs.Features.{takes, shares_with, IsFree}
 use Rattle.enrol_states.specs.Exclusive.{AreExclusive}
 use Rattle.enrol_states.specs.Choices.{MayChoose}
-use Rattle.enrol_states.specs.Commands.{opted_out, row_opted_out, opted_out_of, with_row, opted_in, after_participate, after_opt_out, after_opt_in, after_reset}
+use Rattle.enrol_states.specs.Commands.{row_opted_out, opted_out_of, with_row, opted_in, after_participate, after_opt_out, after_opt_in}
 use Rattle.enrol_states.specs.declared.state.State.{State}
 use Rattle.enrol_states.specs.declared.state.Row.{Row}
 use Rattle.enrol_states.specs.declared.status.Status.{Status}
 use Rattle.enrol_states.proofs.Ordered.{same_texts, bytes_turned, greater_texts}
-use Rattle.enrol_states.proofs.OptingOut.{is_enrolled-opted_out}
-use Rattle.enrol_states.proofs.OptOuts.{either}
+use Rattle.enrol_states.proofs.OptingOut.{is_enrolled-opted_out, either}
 
 -- ---- fewer enrolments
 
@@ -53,8 +52,8 @@ opt_out s out ex slug other f r q one two =
     in
     ex slug other f r q (fewer (opted_out_of out) slug s.rows same kept one) (fewer (opted_out_of out) other s.rows same kept two)
 
-pub reset : (s : State) (id : List ℕ) → AreExclusive (after_reset s id)
-reset s id slug other f r q one two = absurd cc
+pub without_rows : (s : State) → s.rows ≡ [] → AreExclusive s
+without_rows s none slug other f r q one two = let out = ap (λ rows. is_enrolled_now (status_of slug rows)) none in absurd cc
 
 -- ---- one more enrolment
 

@@ -1,14 +1,14 @@
 -- The state of a new store, and that after a reset, are states that a client can have.
-use Rattle.std.proofs.Common.{◌≤◌, ℕ, List, arith}
+use Rattle.std.proofs.Common.{◌≤◌, ℕ, List, refl, arith}
 use Rattle.std.specs.List.Sorted.{IsStrictlySortedBy}
 use Rattle.std.proofs.lemmas.List.Elements.{All-nil}
 use Rattle.std.proofs.lemmas.Str.{IsUtf8-nil}
 use Rattle.recipe_reader.specs.declared.recipe.Recipe.{Recipe}
 use Rattle.enrol_states.specs.State.{last_moment, fresh}
-use Rattle.enrol_states.specs.Statuses.{IsSlug, IsStatus}
 use Rattle.enrol_states.specs.Consistent.{IsId, AreKept, IsConsistent}
 use Rattle.enrol_states.specs.Commands.{after_reset}
 use Rattle.enrol_states.specs.declared.state.State.{State}
+use Rattle.enrol_states.proofs.Exclusion.{without_rows}
 
 pub fresh-consistent : (id : List ℕ) (now : ℕ) → IsId id → now ≤ last_moment → IsConsistent (fresh id now)
 unfolding IsStrictlySortedBy
@@ -31,6 +31,7 @@ fresh-consistent id now is_id is_moment = record {
   row_branches = All-nil _;
   row_choices = All-nil _;
   row_participation = All-nil _;
+  exclusive = without_rows (fresh id now) refl;
 }
 
 pub reset-consistent : (s : State) (id : List ℕ) → IsId id → IsConsistent s → IsConsistent (after_reset s id)
@@ -54,6 +55,7 @@ reset-consistent s id is_id c = record {
   row_branches = All-nil _;
   row_choices = All-nil _;
   row_participation = All-nil _;
+  exclusive = without_rows (after_reset s id) refl;
 }
 
 -- a new store's state with recipes
@@ -78,4 +80,5 @@ live-consistent id now rs c kept = record {
   row_branches = All-nil _;
   row_choices = All-nil _;
   row_participation = All-nil _;
+  exclusive = without_rows (record (fresh id now) { live = rs }) refl;
 }

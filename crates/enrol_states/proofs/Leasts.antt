@@ -1,7 +1,7 @@
 -- The least of texts that pass a test.
 use Rattle.std.proofs.Common.{Ordering, ◌≡◌, ℕ, ◌+◌, ◌<◌, ◌≤◌, length, get_or, take, Bool, true, false, List, Option, Some, None, Less, Equal, Greater, ◌&&◌, ◌||◌, refl, sym, ap, ◌∙◌, subst}
 use Rattle.std.specs.Prelude.{IsTrue, bytes_eq, if◌then◌else◌}
-use Rattle.std.specs.Cmp.{alike_right, first_so, second_so}
+use Rattle.std.specs.Cmp.{alike_right, second_so}
 use Rattle.std.specs.Cmp.Lexicographic.{nat_list_cmp_total, texts_ties, bytes_decides}
 use Rattle.std.specs.BTreeMap.Comparable.{le_lt_trans}
 use Rattle.std.specs.Ordering.{is_eq, is_le, is_lt, ordering_reverse}
@@ -21,7 +21,7 @@ le_at a b c Greater e first second = absurd cc
 pub le_trans : (a b c : List ℕ) → IsTrue (is_le (slug_cmp a b)) → IsTrue (is_le (slug_cmp b c)) → IsTrue (is_le (slug_cmp a c))
 le_trans a b c first second = le_at a b c (slug_cmp b c) refl first second
 
-is_Equal : (o : Ordering) → is_eq o ≡ true → o ≡ Equal
+pub is_Equal : (o : Ordering) → is_eq o ≡ true → o ≡ Equal
 is_Equal Less e = absurd cc
 is_Equal Equal e = refl
 is_Equal Greater e = absurd cc

@@ -3,10 +3,11 @@ pub mod Fresh
 pub mod Ordered
 pub mod Lookups
 pub mod OptingOut
+pub mod Exclusion
 pub mod Participations
 pub mod OptOuts
 pub mod Sets
 pub mod Leasts
 pub mod Takings
 pub mod Enrolments
-pub mod Exclusion
+pub mod Holdings

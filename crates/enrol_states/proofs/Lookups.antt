@@ -1,5 +1,5 @@
 -- The status of a slug among rows in order, found by a search.
-use Rattle.std.proofs.Common.{◌≡◌, ◌≢◌, ℕ, zero, suc, ◌<◌, Bool, true, false, List, [], ◌∷◌, map, length, get_or, take, drop, Option, Some, None, Less, Equal, Greater, Err, refl, sym, ap, ◌∙◌, subst, arith}
+use Rattle.std.proofs.Common.{◌≡◌, ℕ, zero, suc, ◌<◌, false, List, [], ◌∷◌, length, get_or, Some, None, Less, Equal, Err, refl, ap, ◌∙◌, subst, arith}
 use Rattle.std.specs.Prelude.{bytes_eq, if◌then◌else◌}
 use Rattle.std.specs.List.{AllByRecursion}
 use Rattle.std.specs.List.Sorted.{IsStrictlySortedBy, IsBinarySearchResult}
@@ -7,7 +7,6 @@ use Rattle.recipe_reader.specs.Payloads.{slug_cmp}
 use Rattle.enrol_states.specs.Order.{Rise, IsPlace}
 use Rattle.enrol_states.specs.State.{slugs_of, status_of}
 use Rattle.enrol_states.specs.declared.state.Row.{Row}
-use Rattle.enrol_states.specs.declared.status.Status.{Status}
 use Rattle.enrol_states.proofs.Ordered.{order_by, equal_texts, same_texts, lesser_texts, greater_texts, turned_up, text_at, place_searched}
 
 abbrev pub slug_of : Row → List ℕ

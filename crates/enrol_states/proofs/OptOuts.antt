@@ -1,6 +1,6 @@
 -- A state stays consistent where a slug is opted out.
-use Rattle.std.proofs.Common.{Ordering, ◌≡◌, ℕ, zero, suc, ◌+◌, ◌<◌, ◌≤◌, Bool, true, false, List, [], ◌∷◌, map, length, Less, Equal, Greater, refl, sym, ap, ◌∙◌, subst, arith}
-use Rattle.std.specs.Prelude.{All, ◌||◌, ◌&&◌, not, nat_le, IsTrue, bytes_eq, if◌then◌else◌}
+use Rattle.std.proofs.Common.{Ordering, ◌≡◌, ℕ, ◌+◌, ◌<◌, ◌≤◌, Bool, true, false, List, [], ◌∷◌, length, Less, Equal, Greater, refl, sym, ap, ◌∙◌, subst, arith}
+use Rattle.std.specs.Prelude.{◌||◌, ◌&&◌, not, nat_le, bytes_eq}
 use Rattle.std.specs.BTreeSet.{insert_key}
 use Rattle.std.specs.Ordering.{match_ordering}
 use Rattle.std.specs.List.Sorted.{IsStrictlySortedBy}
@@ -8,15 +8,15 @@ use Rattle.std.proofs.lemmas.Bool.{le-leb, lt-leb, leb-false}
 use Rattle.std.proofs.lemmas.Map.Views.{All-insert_key}
 use Rattle.recipe_reader.specs.Payloads.{slug_cmp, has_slug}
 use Rattle.enrol_states.specs.Order.{Rise, AreAbove, is_in}
-use Rattle.enrol_states.specs.Statuses.{IsSlug, IsStatus, is_enrolled, enrolled_branch}
+use Rattle.enrol_states.specs.Statuses.{IsSlug, IsStatus}
 use Rattle.enrol_states.specs.Consistent.{HasRecipe, HasBranch, IsNotOptedOut, IsParticipating, IsConsistent}
-use Rattle.enrol_states.specs.Commands.{opted_out, row_opted_out, opted_out_of, after_opt_out}
+use Rattle.enrol_states.specs.Commands.{opted_out_of, after_opt_out}
 use Rattle.enrol_states.specs.Choices.{has_no_room}
 use Rattle.enrol_states.specs.declared.state.State.{State}
-use Rattle.enrol_states.specs.declared.state.Row.{Row}
-use Rattle.enrol_states.proofs.Ordered.{above_trans, is_in-above, lesser_texts, greater_texts, turned_up, turned_down, bytes_turned}
-use Rattle.enrol_states.proofs.OptingOut.{is_enrolled-opted_out, enrolled_branch-opted_out, was_enrolled-opted_out, IsStatus-opted_out, All-image, slugs-image}
+use Rattle.enrol_states.proofs.Ordered.{above_trans, is_in-above, lesser_texts, turned_down, bytes_turned}
+use Rattle.enrol_states.proofs.OptingOut.{was_enrolled-opted_out, IsStatus-opted_out, All-image, slugs-image, either}
 use Rattle.enrol_states.proofs.Participations.{not_enrolled, no_branch}
+use Rattle.enrol_states.proofs.Exclusion as exclusion
 
 -- ---- one more text
 
@@ -94,15 +94,7 @@ free_at s ts fewer = ap (λ b. not (is_in ts s) && b) (lt-leb 4096 (length ts) f
 pub full : (s : List ℕ) (ts : List (List ℕ)) → is_in ts s ≡ false → 4096 ≤ length ts → has_no_room ts s ≡ true
 full s ts other most = ap (λ b. not b && nat_le 4096 (length ts)) other ∙ le-leb 4096 (length ts) most
 
--- ---- rows
-
-other_row : (P : Row → Type 0) (slug : List ℕ) (row : Row) → P (row_opted_out row) → (bytes_eq row.slug slug ≡ false → P row) → (b : Bool) → bytes_eq row.slug slug ≡ b → P (if b then row_opted_out row else row)
-other_row P slug row out same true e = out
-other_row P slug row out same false e = same e
-
--- what holds of the row after an opt-out, and of a row of another slug
-pub either : (P : Row → Type 0) (slug : List ℕ) (row : Row) → P (row_opted_out row) → (bytes_eq row.slug slug ≡ false → P row) → P (opted_out_of slug row)
-either P slug row out same = other_row P slug row out same (bytes_eq row.slug slug) refl
+-- ---- the state
 
 pub consistent : (s : State) (slug : List ℕ) → IsSlug slug → has_no_room s.opted_out slug ≡ false → IsConsistent s → IsConsistent (after_opt_out s slug)
 consistent s slug is_slug free c = let t = after_opt_out s slug in record {
@@ -125,4 +117,5 @@ consistent s slug is_slug free c = let t = after_opt_out s slug in record {
   row_choices = All-image (IsNotOptedOut s) (IsNotOptedOut t) (opted_out_of slug) s.rows
       (λ row h. either (IsNotOptedOut t) slug row (λ enrolled. not_enrolled row enrolled) (λ other enrolled. is_in-insert slug row.slug s.opted_out (bytes_turned slug row.slug ∙ other) ∙ h enrolled)) c.row_choices;
   row_participation = All-image (IsParticipating s) (IsParticipating t) (opted_out_of slug) s.rows (λ row h. either (IsParticipating t) slug row (λ enrolled. not_enrolled row enrolled) (λ other. h)) c.row_participation;
+  exclusive = exclusion.opt_out s slug c.exclusive;
 }

@@ -1,12 +1,10 @@
 -- What an opt-out makes of rows.
-use Rattle.std.proofs.Common.{◌≡◌, ℕ, Bool, true, false, List, [], ◌∷◌, map, Option, Some, None, refl, sym, ap, ◌∙◌, subst}
-use Rattle.std.specs.Prelude.{All, ◌||◌, IsTrue, bytes_eq, if◌then◌else◌}
+use Rattle.std.proofs.Common.{◌≡◌, ℕ, Bool, true, false, List, [], ◌∷◌, map, None, refl, ap, ◌∙◌}
+use Rattle.std.specs.Prelude.{All, bytes_eq, if◌then◌else◌}
 use Rattle.std.proofs.lemmas.List.Elements.{All-map, All-weaker}
-use Rattle.enrol_states.specs.Order.{Rise, is_in}
-use Rattle.enrol_states.specs.Statuses.{IsSlug, IsStatus, is_enrolled, was_enrolled, enrolled_branch}
+use Rattle.enrol_states.specs.Statuses.{IsStatus, is_enrolled, was_enrolled, enrolled_branch}
 use Rattle.enrol_states.specs.State.{slugs_of}
-use Rattle.enrol_states.specs.Consistent.{HasRecipe, HasBranch, IsNotOptedOut, IsParticipating}
-use Rattle.enrol_states.specs.Commands.{opted_out, row_opted_out}
+use Rattle.enrol_states.specs.Commands.{opted_out, row_opted_out, opted_out_of}
 use Rattle.enrol_states.specs.declared.state.Row.{Row}
 use Rattle.enrol_states.specs.declared.status.Status.{Status}
 use Rattle.enrol_states.specs.declared.status.Status.TheVariants as statuses
@@ -46,3 +44,11 @@ All-image P Q g rows kept all = All-map Q g rows (All-weaker P (λ row. Q (g row
 pub slugs-image : (g : Row → Row) (rows : List Row) → ((row : Row) → (g row).slug ≡ row.slug) → slugs_of (map g rows) ≡ slugs_of rows
 slugs-image g [] same = refl
 slugs-image g (row ∷ rows) same = ap (λ s. s ∷ slugs_of (map g rows)) (same row) ∙ ap (λ ss. row.slug ∷ ss) (slugs-image g rows same)
+
+other_row : (P : Row → Type 0) (slug : List ℕ) (row : Row) → P (row_opted_out row) → (bytes_eq row.slug slug ≡ false → P row) → (b : Bool) → bytes_eq row.slug slug ≡ b → P (if b then row_opted_out row else row)
+other_row P slug row out same true e = out
+other_row P slug row out same false e = same e
+
+-- what holds of the row after an opt-out, and of a row of another slug
+pub either : (P : Row → Type 0) (slug : List ℕ) (row : Row) → P (row_opted_out row) → (bytes_eq row.slug slug ≡ false → P row) → P (opted_out_of slug row)
+either P slug row out same = other_row P slug row out same (bytes_eq row.slug slug) refl

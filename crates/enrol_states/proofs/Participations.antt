@@ -1,6 +1,6 @@
 -- A state stays consistent where its client takes part, or does so no longer.
-use Rattle.std.proofs.Common.{◌≡◌, ℕ, Bool, true, false, List, Some, None, refl, sym, ap, ◌∙◌, subst}
-use Rattle.std.specs.Prelude.{All, ◌||◌, IsTrue}
+use Rattle.std.proofs.Common.{◌≡◌, ℕ, Bool, true, false, List, Some, refl, sym, ap, ◌∙◌, subst}
+use Rattle.std.specs.Prelude.{◌||◌, IsTrue}
 use Rattle.std.proofs.lemmas.List.Elements.{All-weaker}
 use Rattle.recipe_reader.specs.Payloads.{has_slug}
 use Rattle.enrol_states.specs.Order.{Rise}
@@ -10,6 +10,7 @@ use Rattle.enrol_states.specs.Commands.{opted_out, row_opted_out, after_particip
 use Rattle.enrol_states.specs.declared.state.State.{State}
 use Rattle.enrol_states.specs.declared.state.Row.{Row}
 use Rattle.enrol_states.proofs.OptingOut.{is_enrolled-opted_out, enrolled_branch-opted_out, was_enrolled-opted_out, IsStatus-opted_out, All-image, slugs-image}
+use Rattle.enrol_states.proofs.Exclusion as exclusion
 
 pub not_enrolled : {A : Type 0} (row : Row) → IsTrue (is_enrolled (opted_out row.status)) → A
 not_enrolled row h = let none = is_enrolled-opted_out row.status in absurd cc
@@ -37,6 +38,7 @@ consistent s true c = record {
   row_branches = c.row_branches;
   row_choices = c.row_choices;
   row_participation = All-weaker (IsParticipating s) (IsParticipating (after_participate s true)) (λ row h enrolled. refl) s.rows c.row_participation;
+  exclusive = exclusion.participate s true c.exclusive;
 }
 consistent s false c = let t = after_participate s false in record {
   id = c.id;
@@ -57,4 +59,5 @@ consistent s false c = let t = after_participate s false in record {
   row_branches = All-image (HasBranch s) (HasBranch t) row_opted_out s.rows (λ row h branch there. no_branch row branch there) c.row_branches;
   row_choices = All-image (IsNotOptedOut s) (IsNotOptedOut t) row_opted_out s.rows (λ row h enrolled. not_enrolled row enrolled) c.row_choices;
   row_participation = All-image (IsParticipating s) (IsParticipating t) row_opted_out s.rows (λ row h enrolled. not_enrolled row enrolled) c.row_participation;
+  exclusive = exclusion.participate s false c.exclusive;
 }

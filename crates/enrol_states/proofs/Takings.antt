@@ -1,11 +1,10 @@
 -- The rows that take features of a recipe.
-use Rattle.std.proofs.Common.{◌≡◌, ℕ, zero, suc, ◌+◌, ◌<◌, ◌≤◌, Bool, true, false, List, [], ◌∷◌, map, length, get_or, take, Option, Some, None, Less, ◌&&◌, refl, sym, ap, ap₂, ◌∙◌, subst, arith, inl, inr}
-use Rattle.std.specs.Prelude.{All, Contains, IsTrue, not, bytes_eq, if◌then◌else◌}
+use Rattle.std.proofs.Common.{◌≡◌, ℕ, ◌<◌, ◌≤◌, Bool, true, false, List, length, get_or, Option, Some, None, Less, ◌&&◌, refl, sym, ap, ◌∙◌, subst, arith, inl, inr}
+use Rattle.std.specs.Prelude.{IsTrue, not, bytes_eq, if◌then◌else◌}
 use Rattle.std.specs.Bool.{beq}
 use Rattle.std.specs.Borrow.{Bor}
 use Rattle.std.specs.BTreeSet.{BTreeSet}
 use Rattle.std.specs.Ordering.{is_le}
-use Rattle.std.specs.List.Sorted.{IsStrictlySortedBy}
 use Rattle.std.proofs.lemmas.Bool.{cases_lt}
 use Rattle.std.proofs.lemmas.List.{get_or_default}
 use Rattle.recipe_reader.specs.Payloads.{slug_cmp, recipe_with}
@@ -13,7 +12,7 @@ use Rattle.recipe_reader.specs.declared.recipe.Recipe.{Recipe}
 use Rattle.enrol_states.specs.Order.{Rise, is_in}
 use Rattle.enrol_states.specs.Statuses.{is_enrolled}
 use Rattle.enrol_states.specs.State.{slugs_of}
-use Rattle.enrol_states.specs.Recipes.{has_feature, share}
+use Rattle.enrol_states.specs.Recipes.{has_feature}
 use Rattle.enrol_states.specs.Features.{shares_with, takes}
 use Rattle.enrol_states.specs.Choices.{IsTaken}
 use Rattle.enrol_states.specs.Least.{has_text, IsLeast, of_kind, rival_of}

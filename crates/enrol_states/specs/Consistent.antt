@@ -1,11 +1,12 @@
 -- The states that a client can have.
-use Rattle.std.specs.Prelude.{◌≡◌, ◌≤◌, ◌<◌, ℕ, ◌||◌, Bool, false, List, length, All, IsTrue, IsUtf8, Option, Some, None, ⊤}
+use Rattle.std.specs.Prelude.{◌≡◌, ◌≤◌, ◌<◌, ℕ, ◌||◌, false, List, length, All, IsTrue, IsUtf8, Option, Some, None, ⊤}
 use Rattle.plain_text.specs.Names.{is_name}
 use Rattle.recipe_reader.specs.Payloads.{AreInOrder, AreValid, has_slug, recipe_with}
 use Rattle.recipe_reader.specs.declared.recipe.Recipe.{Recipe}
 use Rattle.enrol_states.specs.Order.{Rise, is_in}
 use Rattle.enrol_states.specs.State.{slugs_of}
 use Rattle.enrol_states.specs.Recipes.{offers}
+use Rattle.enrol_states.specs.Exclusive.{AreExclusive}
 use Rattle.enrol_states.specs.Statuses.{last_moment, IsSlug, IsStatus, is_enrolled, was_enrolled, enrolled_branch}
 use Rattle.enrol_states.specs.declared.state.State.{State}
 use Rattle.enrol_states.specs.declared.state.Row.{Row}
@@ -61,3 +62,4 @@ pub record IsConsistent (s : State) : Type 0 where
   pub row_branches : All (HasBranch s) s.rows
   pub row_choices : All (IsNotOptedOut s) s.rows
   pub row_participation : All (IsParticipating s) s.rows
+  pub exclusive : AreExclusive s

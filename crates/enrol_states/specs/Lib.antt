@@ -2,9 +2,10 @@ pub mod Order
 pub mod Statuses
 pub mod State
 pub mod Recipes
+pub mod Exclusive
 pub mod Consistent
 pub mod Features
-pub mod Exclusive
+pub mod Holding
 pub mod Equal
 pub mod Equals
 pub mod Commands

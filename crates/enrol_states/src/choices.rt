@@ -2,7 +2,6 @@
 // begin anew.
 ghost use Rattle.std.specs.Prelude.{◌≡◌, IfOk};
 ghost use Rattle.enrol_states.specs.Consistent.{IsConsistent};
-ghost use Rattle.enrol_states.specs.Exclusive.{AreExclusive};
 ghost use Rattle.enrol_states.specs.Statuses.{IsSlug};
 ghost use Rattle.enrol_states.specs.Commands.{after_reset};
 ghost use Rattle.enrol_states.specs.Choices.{OptsOut, OptsIn};
@@ -64,7 +63,6 @@ pub fn opt_out(alloc: Global, state: &State, slug: &Slug) -> Result<State, OptOu
     requires { IsConsistent state.now }
     ensures answer { OptsOut state.now slug.now result }
     ensures consistent { IfOk result IsConsistent }
-    ensures exclusive { AreExclusive state.now → IfOk result AreExclusive }
 {
     slug_fits(slug);
     let opted_out = with_slug(&state.opted_out, slug)?;
@@ -84,7 +82,6 @@ pub fn opt_in(alloc: Global, state: &State, slug: &Slug, branch: &Slug) -> Resul
     requires { IsConsistent state.now }
     ensures answer { OptsIn state.now slug.now branch.now result }
     ensures consistent { IfOk result IsConsistent }
-    ensures exclusive { AreExclusive state.now → IfOk result AreExclusive }
 {
     slug_fits(slug);
     slug_fits(branch);
@@ -108,7 +105,6 @@ pub fn reset(alloc: Global, state: &State, id: Uuid) -> Result<State, AllocError
     requires { IsConsistent state.now }
     ensures state { IfOk result (λ s. s ≡ after_reset state.now id) }
     ensures consistent { IfOk result IsConsistent }
-    ensures exclusive { AreExclusive state.now → IfOk result AreExclusive }
 {
     id_fits(id);
     let mut next = state.with_rows(Sequence::new(alloc), Sequence::new(alloc))?;

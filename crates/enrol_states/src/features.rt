@@ -6,6 +6,7 @@ ghost use Rattle.enrol_states.specs.Statuses.{is_enrolled};
 ghost use Rattle.enrol_states.specs.Recipes.{has_feature, sets};
 ghost use Rattle.enrol_states.specs.Features.{takes, IsFree};
 ghost use Rattle.enrol_states.specs.Choices.{IsTaken};
+ghost use Rattle.enrol_states.specs.Holding.{has_alone};
 ghost use Rattle.enrol_states.specs.Least.{has_text, IsLeast, lesser_of, rival_of};
 
 use crate::state::{Row, State};
@@ -44,7 +45,7 @@ fn taken_by<'a>(
     features: &BTreeSet<&'a str>,
     row: &Row,
 ) -> Option<&'a str>
-    requires { (f : List ℕ) → has_text features.now f ≡ (has_feature recipe.now f && not (is_in state.now.coenrolling f)) }
+    requires { (f : List ℕ) → has_text features.now f ≡ has_alone state.now.coenrolling recipe.now f }
     ensures { IsLeast (takes state.now recipe.now row.now) (option_map (λ f. f.now) result) }
 {
     match rival(state, recipe, row) {
@@ -66,7 +67,7 @@ fn rival<'a>(state: &'a State, recipe: &Recipe, row: &Row) -> Option<&'a Recipe>
     }
 }
 
-fn is_enrolled(status: &Status) -> bool
+pub(crate) fn is_enrolled(status: &Status) -> bool
     ensures { result ≡ is_enrolled status.now }
 {
     matches!(status, Status::Enrolled { .. })
@@ -79,13 +80,26 @@ fn exclusive_features<'a>(
     coenrolling: &Sequence<Text>,
 ) -> Result<BTreeSet<&'a str>, AllocError>
     requires { Rise coenrolling.now }
-    ensures { IfOk result (λ set. (f : List ℕ) → has_text set f ≡ (has_feature recipe.now f && not (is_in coenrolling.now f))) }
+    ensures { IfOk result (λ set. (f : List ℕ) → has_text set f ≡ has_alone coenrolling.now recipe.now f) }
 {
     let mut features = BTreeSet::new(alloc);
-    for branch in recipe.branches.as_slice() {
-        add_features(&mut features, branch, coenrolling)?;
-    }
+    add_all_features(&mut features, recipe, coenrolling)?;
     Ok(features)
+}
+
+/// Adds the recipe's features but for those that may be shared.
+pub(crate) fn add_all_features<'a>(
+    features: &mut BTreeSet<&'a str>,
+    recipe: &'a Recipe,
+    coenrolling: &Sequence<Text>,
+) -> Result<(), AllocError>
+    requires { Rise coenrolling.now }
+    ensures { OnOk result ((f : List ℕ) → has_text features.new f ≡ (has_text features.old f || has_alone coenrolling.now recipe.now f)) }
+{
+    for branch in recipe.branches.as_slice() {
+        add_features(features, branch, coenrolling)?;
+    }
+    Ok(())
 }
 
 fn add_features<'a>(
@@ -129,7 +143,7 @@ fn has(texts: &Sequence<Text>, text: &str) -> bool
 }
 
 /// The least of the features that the recipe has too.
-fn least_shared<'a>(features: &BTreeSet<&'a str>, recipe: &'a Recipe) -> Option<&'a str>
+pub(crate) fn least_shared<'a>(features: &BTreeSet<&'a str>, recipe: &'a Recipe) -> Option<&'a str>
     ensures { IsLeast (λ f. has_text features.now f && has_feature recipe.now f) (option_map (λ f. f.now) result) }
 {
     let mut least = None;

@@ -5,6 +5,7 @@ mod choices;
 mod copying;
 mod enrolling;
 mod equality;
+mod exclusive;
 mod features;
 mod joining;
 mod laws;
@@ -15,6 +16,7 @@ mod transitions;
 mod verdict;
 
 pub use choices::{OptInFault, OptOutFault, opt_in, opt_out, reset};
+pub use exclusive::is_exclusive;
 pub use laws::equal_states_are_one;
 pub use participation::participate;
 pub use state::{LAST_MOMENT, MAX_OPTED_OUT, MAX_RECIPES, Row, State};

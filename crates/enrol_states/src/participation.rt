@@ -1,7 +1,6 @@
 // Whether a client takes part at all.
 ghost use Rattle.std.specs.Prelude.{◌≡◌, IfOk};
 ghost use Rattle.enrol_states.specs.Consistent.{IsConsistent};
-ghost use Rattle.enrol_states.specs.Exclusive.{AreExclusive};
 ghost use Rattle.enrol_states.specs.Commands.{after_participate, rows_after_participate, opted_out, row_opted_out};
 
 use crate::copying::{copy_of_rows, copy_of_slugs};
@@ -16,7 +15,6 @@ pub fn participate(alloc: Global, state: &State, on: bool) -> Result<State, Allo
     requires { IsConsistent state.now }
     ensures state { IfOk result (λ s. s ≡ after_participate state.now on) }
     ensures consistent { IfOk result IsConsistent }
-    ensures exclusive { AreExclusive state.now → IfOk result AreExclusive }
 {
     let opted_out = copy_of_slugs(&state.opted_out)?;
     let rows = rows_after(alloc, &state.rows, on)?;

@@ -568,3 +568,21 @@ fn opted_out_limit(rt: HostRuntime) -> Result<(), Fail> {
     let again = without(alloc, &state, "slug-77")?;
     check(again.is_opted_out("slug-77") && again == state)
 }
+
+// Whether features are left to one recipe of a kind where the client is enrolled in the experiment
+// delta, which has the home screen, and in beta.
+fn leaves_alone(alloc: Global, kind: &str, features: &str) -> Result<bool, Fail> {
+    let mut state = run(alloc, rivals(alloc)?, "beta control\ndelta control")?;
+    let beta = record(alloc, "beta", kind, features)?;
+    let delta = record(alloc, "delta", "false", HOME)?;
+    state.live = recipes(alloc, format!(in alloc; "{beta},{delta}")?.as_str())?;
+    Ok(is_exclusive(alloc, &state)?)
+}
+
+#[test]
+fn features_of_one_recipe(rt: HostRuntime) -> Result<(), Fail> {
+    let alloc = rt.alloc();
+    check(leaves_alone(alloc, "false", MESSAGING)?)?;
+    check(leaves_alone(alloc, "true", HOME)?)?;
+    check(!leaves_alone(alloc, "false", HOME)?)
+}

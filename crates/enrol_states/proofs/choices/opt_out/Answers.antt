@@ -1,9 +1,7 @@
 use Rattle.std.proofs.Common.{rules, ◌≡◌, sym, subst}
 use Rattle.enrol_states.specs.Consistent.{IsConsistent}
-use Rattle.enrol_states.specs.Exclusive.{AreExclusive}
 use Rattle.enrol_states.specs.Commands.{after_opt_out}
 use Rattle.enrol_states.proofs.OptOuts.{consistent}
-use Rattle.enrol_states.proofs.Exclusion as exclusion
 use Rattle.enrol_states.proofs.choices.opt_out.Goals as goal
 
 is_after : (c : goal.In_ok-with_rows) → c.in_ok-with_rows.field-0 ≡ after_opt_out c.args.state.now c.args.slug.now
@@ -11,6 +9,3 @@ is_after c = search rules
 
 pub returns-clause-consistent : goal.returns-clause-consistent
 returns-clause-consistent c = subst IsConsistent (sym (is_after c)) (consistent c.args.state.now c.args.slug.now c.slug_fits.ensures c.in_ok-opted_out.ensures.0 c.requires)
-
-pub returns-clause-exclusive : goal.returns-clause-exclusive
-returns-clause-exclusive c = λ ex. subst AreExclusive (sym (is_after c)) (exclusion.opt_out c.args.state.now c.args.slug.now ex)

@@ -1,4 +1,4 @@
-use Rattle.std.proofs.Common.{rules, ◌≡◌, ◌<◌, IfOk, length, sym, subst}
+use Rattle.std.proofs.Common.{rules, ◌≡◌, IfOk, sym, subst}
 use Rattle.std.specs.Prelude.{slice_set}
 use Rattle.std.specs.List.{insert}
 use Rattle.std.proofs.lemmas.Fn.{always_returns_same}

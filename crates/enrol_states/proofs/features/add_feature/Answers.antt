@@ -1,4 +1,4 @@
-use Rattle.std.proofs.Common.{◌≡◌, false, ap, sym, ◌∙◌, ◌||◌}
+use Rattle.std.proofs.Common.{◌≡◌, false, ap, ◌∙◌, ◌||◌}
 use Rattle.enrol_states.specs.Order.{is_in}
 use Rattle.enrol_states.specs.Least.{has_text}
 use Rattle.enrol_states.proofs.Sets.{has_text-insert, apart_from}

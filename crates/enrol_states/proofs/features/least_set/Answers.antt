@@ -1,4 +1,4 @@
-use Rattle.std.proofs.Common.{◌≡◌, ◌&&◌, ◌≤◌, ℕ, List, length, option_map, bytes_eq, sym, ap, subst, arith}
+use Rattle.std.proofs.Common.{◌&&◌, ◌≤◌, length, option_map, bytes_eq, sym, subst, arith}
 use Rattle.recipe_reader.specs.declared.recipe.FeatureValue.{FeatureValue}
 use Rattle.enrol_states.specs.Least.{has_text, IsLeast}
 use Rattle.enrol_states.proofs.Leasts.{IsLeast-one, IsLeast-more, IsLeast-all}

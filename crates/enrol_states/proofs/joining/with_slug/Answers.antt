@@ -1,4 +1,4 @@
-use Rattle.std.proofs.Common.{◌≡◌, true, sym, ap, ◌∙◌, subst}
+use Rattle.std.proofs.Common.{◌≡◌, true, sym, ◌∙◌, subst}
 use Rattle.enrol_states.specs.Order.{Rise, IsPlace, is_in}
 use Rattle.enrol_states.proofs.Ordered.{is_in-searched, place_missed}
 use Rattle.enrol_states.proofs.OptOuts.{insert-again, free_there}

@@ -1,10 +1,8 @@
 use Rattle.std.proofs.Common.{rules, ◌≡◌, sym, subst}
 use Rattle.enrol_states.specs.Consistent.{IsConsistent}
-use Rattle.enrol_states.specs.Exclusive.{AreExclusive}
 use Rattle.enrol_states.specs.Commands.{after_participate}
 use Rattle.enrol_states.specs.declared.state.State.{State}
 use Rattle.enrol_states.proofs.Participations.{consistent}
-use Rattle.enrol_states.proofs.Exclusion as exclusion
 use Rattle.enrol_states.proofs.participation.participate.Goals as goal
 
 abbrev next : goal.In_ok-next → State
@@ -15,6 +13,3 @@ is_after c = search rules
 
 pub returns-clause-consistent : goal.returns-clause-consistent
 returns-clause-consistent c = subst IsConsistent (sym (is_after c)) (consistent c.args.state.now c.args.on c.requires)
-
-pub returns-clause-exclusive : goal.returns-clause-exclusive
-returns-clause-exclusive c = λ ex. subst AreExclusive (sym (is_after c)) (exclusion.participate c.args.state.now c.args.on ex)

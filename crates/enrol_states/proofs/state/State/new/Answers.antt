@@ -1,6 +1,5 @@
-use Rattle.std.proofs.Common.{◌≡◌, sym, subst}
+use Rattle.std.proofs.Common.{subst}
 use Rattle.enrol_states.specs.Consistent.{IsConsistent}
-use Rattle.enrol_states.specs.State.{fresh}
 use Rattle.enrol_states.proofs.Fresh.{fresh-consistent}
 use Rattle.enrol_states.proofs.state.State.new.Goals as goal
 
