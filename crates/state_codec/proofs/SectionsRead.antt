@@ -1,9 +1,10 @@
 -- What rows have under a tag, where they are the rows of a state.
-use Rattle.std.proofs.Common.{◌≡◌, ◌++◌, ◌∷◌, [], List, ℕ, false, Option, Some, None, map, All, refl, sym, ap, ◌∙◌, subst, append_assoc}
+use Rattle.std.proofs.Common.{◌≡◌, ◌<◌, ◌≤◌, ◌++◌, ◌∷◌, [], List, ℕ, length, arith, length-append, false, Option, Some, None, map, All, refl, sym, ap, ◌∙◌, subst, append_assoc}
 use Rattle.std.specs.Prelude.{◌==◌, ◌||◌, if◌then◌else◌}
 use Rattle.std.specs.Option.{is_some}
 use Rattle.std.specs.Ordering.{is_lt}
 use Rattle.std.specs.declared.cmp.Ordering.TheVariants.{Less}
+use Rattle.std.proofs.lemmas.Bool.{lt-leb}
 use Rattle.std.proofs.lemmas.List.{append-nil}
 use Rattle.std.proofs.lemmas.List.Elements.{All-head, All-tail}
 use Rattle.recipe_reader.specs.Records.{IsValid}
@@ -67,18 +68,20 @@ last_with r [] below = refl
 last_with r (q ∷ qs) below =
     ap (λ o. if is_lt o then r ∷ q ∷ qs else q ∷ with_recipe r qs) (turned_up q.slug r.slug below.0) ∙ ap (λ l. q ∷ l) (last_with r qs below.1)
 
-one_inserted : (front : List Recipe) (r : Recipe) → AreBelow r.slug front → inserted front (Some r) ≡ Some (front ++ r ∷ [])
-one_inserted front r below =
-    ap (λ b. if b then None else Some (with_recipe r front)) (none_below r.slug front below) ∙ ap (λ l. Some l) (last_with r front below)
+one_inserted : (front : List Recipe) (r : Recipe) → length front < 2000 → AreBelow r.slug front → inserted front (Some r) ≡ Some (front ++ r ∷ [])
+one_inserted front r fewer below =
+    ap (λ b. if b || has_slug r.slug front then None else Some (with_recipe r front)) (lt-leb 2000 (length front) fewer)
+    ∙ ap (λ b. if b then None else Some (with_recipe r front)) (none_below r.slug front below) ∙ ap (λ l. Some l) (last_with r front below)
 
-pub all_inserted : (tag : ℕ) (row_of : Recipe → StoreRow) (rs front : List Recipe) → ((r : Recipe) → IsValid r → AreRecords (r ∷ []) → reading.recipe_row tag (row_of r) ≡ Some (Some r)) → AreInOrder (front ++ rs) → AreValid rs → AreRecords rs
+pub all_inserted : (tag : ℕ) (row_of : Recipe → StoreRow) (rs front : List Recipe) → ((r : Recipe) → IsValid r → AreRecords (r ∷ []) → reading.recipe_row tag (row_of r) ≡ Some (Some r)) → AreInOrder (front ++ rs) → length (front ++ rs) ≤ 2000 → AreValid rs → AreRecords rs
     → folded (inserting tag) front (map row_of rs) ≡ Some (front ++ rs)
-all_inserted tag row_of [] front reads order valid records = ap (λ l. Some l) (sym (append-nil front))
-all_inserted tag row_of (r ∷ rs) front reads order valid records =
+all_inserted tag row_of [] front reads order most valid records = ap (λ l. Some l) (sym (append-nil front))
+all_inserted tag row_of (r ∷ rs) front reads order most valid records =
     let below = below_front front r rs order in
+    let fewer : length front < 2000 = omega (arith, most, length-append front (r ∷ rs)) in
     one_folded (inserting tag) front (front ++ r ∷ []) (front ++ r ∷ rs) (row_of r) (map row_of rs)
-    (ap (λ o. o >>= inserted front) (reads r valid.0 (records.0, tt)) ∙ one_inserted front r below)
-    (all_inserted tag row_of rs (front ++ r ∷ []) reads (subst AreInOrder (sym (append_assoc front (r ∷ []) rs)) order) valid.1 records.1 ∙ ap (λ l. Some l) (append_assoc front (r ∷ []) rs))
+    (ap (λ o. o >>= inserted front) (reads r valid.0 (records.0, tt)) ∙ one_inserted front r fewer below)
+    (all_inserted tag row_of rs (front ++ r ∷ []) reads (subst AreInOrder (sym (append_assoc front (r ∷ []) rs)) order) (subst (λ (l : List Recipe). length l ≤ 2000) (sym (append_assoc front (r ∷ []) rs)) most) valid.1 records.1 ∙ ap (λ l. Some l) (append_assoc front (r ∷ []) rs))
 
 -- ---- single values
 

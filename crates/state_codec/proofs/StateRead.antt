@@ -1,5 +1,5 @@
 -- The rows of a state are read as that state.
-use Rattle.std.proofs.Common.{◌≡◌, ◌∷◌, [], List, Option, Some, None, IsTrue, refl, ap, ◌∙◌}
+use Rattle.std.proofs.Common.{◌≡◌, ◌≤◌, ◌∷◌, [], List, length, arith, Option, Some, None, IsTrue, refl, ap, ◌∙◌}
 use Rattle.std.specs.Option.{is_some}
 use Rattle.plain_text.specs.Names.{is_name}
 use Rattle.recipe_reader.specs.Records.{IsValid}
@@ -87,7 +87,7 @@ live_read s is records =
     all_sections step s [] [] [] rs rs rs rs rs
     (skipped step (key_row (99 ∷ [])) s.coenrolling [] (λ f. refl))
     refl
-    (all_inserted 108 (recipe_row (108 ∷ [])) rs [] live_row_read is.live.in_order is.live.valid records.live)
+    (all_inserted 108 (recipe_row (108 ∷ [])) rs [] live_row_read is.live.in_order is.live.limit is.live.valid records.live)
     (skipped step (recipe_row (110 ∷ [])) (pending_recipes s.pending) rs (λ r. refl))
     (skipped step (key_row (111 ∷ [])) s.opted_out rs (λ slug. refl))
     (all_statuses step s rs rs rs rs refl refl (skipped step status_row s.rows rs (λ w. refl)))
@@ -96,6 +96,10 @@ live_read s is records =
 waiting_order : (p : Option (List Recipe)) → ArePending p → AreInOrder (pending_recipes p)
 waiting_order None are = tt
 waiting_order (Some rs) are = are.in_order
+
+waiting_limit : (p : Option (List Recipe)) → ArePending p → length (pending_recipes p) ≤ 2000
+waiting_limit None are = omega arith
+waiting_limit (Some rs) are = are.limit
 
 waiting_valid : (p : Option (List Recipe)) → ArePending p → AreValid (pending_recipes p)
 waiting_valid None are = tt
@@ -110,7 +114,7 @@ waiting_read s is records =
     (skipped step (key_row (99 ∷ [])) s.coenrolling [] (λ f. refl))
     refl
     (skipped step (recipe_row (108 ∷ [])) s.live [] (λ r. refl))
-    (all_inserted 110 (recipe_row (110 ∷ [])) rs [] pending_row_read (waiting_order s.pending is.pending) (waiting_valid s.pending is.pending) records.pending)
+    (all_inserted 110 (recipe_row (110 ∷ [])) rs [] pending_row_read (waiting_order s.pending is.pending) (waiting_limit s.pending is.pending) (waiting_valid s.pending is.pending) records.pending)
     (skipped step (key_row (111 ∷ [])) s.opted_out rs (λ slug. refl))
     (all_statuses step s rs rs rs rs refl refl (skipped step status_row s.rows rs (λ w. refl)))
     (all_last step s rs rs rs rs refl refl refl)

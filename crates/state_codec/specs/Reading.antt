@@ -1,5 +1,5 @@
 -- What rows of a store say of a state. Of rows that spell one it is the state; what it makes of other rows doesn't matter.
-use Rattle.std.specs.Prelude.{ℕ, ◌==◌, nat_le, Bool, true, false, List, [], ◌∷◌, length, take, drop, Option, Some, None, Result, Ok, Err, bytes_eq, if◌then◌else◌, ⊤}
+use Rattle.std.specs.Prelude.{ℕ, ◌==◌, ◌||◌, nat_le, Bool, true, false, List, [], ◌∷◌, length, take, drop, Option, Some, None, Result, Ok, Err, bytes_eq, if◌then◌else◌, ⊤}
 use Rattle.std.specs.Int.{w64, from_be_bytes}
 use Rattle.std.specs.Str.{is_utf8}
 use Rattle.uuid.specs.Text.{parsed}
@@ -178,10 +178,10 @@ texts_under tag rs = folded (keeping (text_row tag)) [] rs
 unfoldable pub client_rows_under : ℕ → List StoreRow → Option (List Row)
 client_rows_under tag rs = folded (keeping (client_row tag)) [] rs
 
--- the recipes with one more, which has none of their slugs
+-- the recipes with one more, which has none of their slugs; there are at most 2,000
 abbrev pub inserted : List Recipe → Option Recipe → Option (List Recipe)
 inserted rs None = Some rs
-inserted rs (Some r) = if has_slug r.slug rs then None else Some (with_recipe r rs)
+inserted rs (Some r) = if nat_le 2000 (length rs) || has_slug r.slug rs then None else Some (with_recipe r rs)
 
 abbrev pub inserting : ℕ → List Recipe → StoreRow → Option (List Recipe)
 inserting tag rs r = recipe_row tag r >>= inserted rs

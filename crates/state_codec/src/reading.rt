@@ -36,7 +36,7 @@ fn state_of(alloc: Global, rows: &[StoreRow]) -> Result<State, CodecFault>
     ensures { Finds rows.now result }
 {
     let state = state_in(alloc, rows)?;
-    if !is_consistent(&state) {
+    if !is_consistent(alloc, &state)? {
         return Err(CodecFault::NotAState);
     }
     let again = rows_of(alloc, &state)?;

@@ -8,7 +8,7 @@ use crate::fault::CodecFault;
 use crate::status_reading::status_in;
 use crate::store_row::StoreRow;
 use crate::values::{recipe_in, slug_in, text_in};
-use enrol_states::Row;
+use enrol_states::{MAX_RECIPES, Row};
 use plain_text::Slug;
 use recipe_reader::{Recipe, Recipes};
 use sequences::{Sequence, Text};
@@ -62,7 +62,7 @@ pub(crate) fn client_rows_under(
     Ok(client_rows)
 }
 
-/// The recipes in order by slug, where no two have one slug.
+/// The recipes in order by slug, where no two have one slug and they are at most 2,000.
 #[tactic(auto, unfolding(crate::specs::Reading::recipes_under))]
 pub(crate) fn recipes_under(
     alloc: Global,
@@ -162,7 +162,8 @@ fn keep<T: Drop>(items: &mut Sequence<T>, item: Option<T>) -> Result<(), AllocEr
     Ok(())
 }
 
-/// Puts a recipe at its place, where there is one. No recipe that is there may have its slug.
+/// Puts a recipe at its place, where there is one. No recipe that is there may have its slug, and
+/// fewer than 2,000 may be there.
 fn insert(recipes: &mut Recipes, recipe: Option<Recipe>) -> Result<(), CodecFault>
     ensures recipes { Gives (λ _. recipes.new) result (inserted recipes.old recipe) }
     ensures valid { OnOk result (IsValidIf recipe → AreValid recipes.old → AreValid recipes.new) }
@@ -170,6 +171,9 @@ fn insert(recipes: &mut Recipes, recipe: Option<Recipe>) -> Result<(), CodecFaul
     let Some(recipe) = recipe else {
         return Ok(());
     };
+    if recipes.as_slice().len() >= MAX_RECIPES {
+        return Err(CodecFault::NotAState);
+    }
     if recipes.insert(recipe)? {
         Ok(())
     } else {

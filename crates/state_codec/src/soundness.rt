@@ -1,5 +1,5 @@
 // Whether a state is one that a client can have, but for the length of its spelling.
-ghost use Rattle.std.specs.Prelude.{◌≡◌, ◌<◌, ◌↔◌, All, IsTrue, length};
+ghost use Rattle.std.specs.Prelude.{◌≡◌, ◌<◌, ◌↔◌, All, IfOk, IsTrue, length};
 ghost use Rattle.plain_text.specs.Names.{is_name};
 ghost use Rattle.recipe_reader.specs.Payloads.{AreValid, has_slug, recipe_with};
 ghost use Rattle.enrol_states.specs.Order.{Rise};
@@ -10,33 +10,37 @@ ghost use Rattle.enrol_states.specs.Consistent.{IsConsistent, IsId, AreKept, Are
 ghost use Rattle.state_codec.specs.Reading.{AreValidIf};
 ghost use Rattle.state_codec.specs.SoundParts.{HasMoments, HasOptOuts, HasFeatures, HasRecipes, IsRowOf, HasRows, MayBeEnrolled};
 
-use enrol_states::{LAST_MOMENT, MAX_OPTED_OUT, MAX_RECIPES, Row, State, Status};
+use enrol_states::{LAST_MOMENT, MAX_OPTED_OUT, MAX_RECIPES, Row, State, Status, is_exclusive};
 use plain_text::{Slug, is_name};
 use recipe_reader::{Recipe, Recipes};
 use sequences::Text;
+use std::alloc::{AllocError, Global};
 use uuid::Uuid;
 
-/// Whether the state, whose recipes are valid, is consistent.
-pub(crate) fn is_consistent(state: &State) -> bool
+/// Whether the state, whose recipes are valid, is consistent. The one error is want of memory.
+pub(crate) fn is_consistent(alloc: Global, state: &State) -> Result<bool, AllocError>
     requires live { AreValid state.now.live }
     requires pending { AreValidIf state.now.pending }
-    ensures { IsTrue result ↔ IsConsistent state.now }
+    ensures { IfOk result (λ b. IsTrue b ↔ IsConsistent state.now) }
 {
     id_fits(state.id);
     let _version = state.version.as_str();
     if !has_moments(state) {
-        return false;
+        return Ok(false);
     }
     if !has_opt_outs(state) {
-        return false;
+        return Ok(false);
     }
     if !has_features(state) {
-        return false;
+        return Ok(false);
     }
     if !has_recipes(state) {
-        return false;
+        return Ok(false);
     }
-    has_rows(state)
+    if !has_rows(state) {
+        return Ok(false);
+    }
+    is_exclusive(alloc, state)
 }
 
 fn has_moments(state: &State) -> bool

@@ -35,6 +35,22 @@ const ROWS: &str = "chomescreen \n\
     u @\n\
     v 110.1.0";
 
+// Two experiments with one feature, in both of which a client would be enrolled.
+const RIVALS: &str = "i 5a8f0b1e-7c3d-4e2a-9b6c-0123456789ab\n\
+    ldelta {\"appName\":null,\"branches\":[{\"features\":[{\"featureId\":\"cards\",\"value\":{}}],\"ratio\":1,\"slug\":\"blue\"}],\"bucketConfig\":{\"count\":1,\"namespace\":\"ns\",\"randomizationUnit\":\"nimbus_id\",\"start\":0,\"total\":1},\"channel\":null,\"isEnrollmentPaused\":false,\"isRollout\":false,\"publishedDate\":null,\"schemaVersion\":\"1\",\"slug\":\"delta\",\"targeting\":null}\n\
+    lgamma {\"appName\":null,\"branches\":[{\"features\":[{\"featureId\":\"cards\",\"value\":{}}],\"ratio\":1,\"slug\":\"blue\"}],\"bucketConfig\":{\"count\":1,\"namespace\":\"ns\",\"randomizationUnit\":\"nimbus_id\",\"start\":0,\"total\":1},\"channel\":null,\"isEnrollmentPaused\":false,\"isRollout\":false,\"publishedDate\":null,\"schemaVersion\":\"1\",\"slug\":\"gamma\",\"targeting\":null}\n\
+    p 1\n\
+    q 0\n\
+    rdelta EQblue\n\
+    rgamma EQblue\n\
+    t @\n\
+    u @\n\
+    v 1";
+
+// The second of them as a rollout.
+const ROLLOUT: &str =
+    "lgamma {\"appName\":null,\"branches\":[{\"features\":[{\"featureId\":\"cards\",\"value\":{}}],\"ratio\":1,\"slug\":\"blue\"}],\"bucketConfig\":{\"count\":1,\"namespace\":\"ns\",\"randomizationUnit\":\"nimbus_id\",\"start\":0,\"total\":1},\"channel\":null,\"isEnrollmentPaused\":false,\"isRollout\":true,\"publishedDate\":null,\"schemaVersion\":\"1\",\"slug\":\"gamma\",\"targeting\":null}";
+
 fn check(holds: bool) -> Result<(), Fail> {
     if holds {
         Ok(())
@@ -81,11 +97,11 @@ fn put_lines(alloc: Global, bytes: &mut Vec<u8>, lines: &str) -> Result<(), Fail
     Ok(())
 }
 
-// The batch of the lines of `ROWS`, where those that begin with `old` have become `new`.
-fn batch_with(alloc: Global, old: &str, new: &str) -> Result<Vec<u8>, Fail> {
+// The batch of the lines, where those that begin with `old` have become `new`.
+fn batch_with(alloc: Global, rows: &str, old: &str, new: &str) -> Result<Vec<u8>, Fail> {
     let mut bytes = Vec::new(alloc);
     bytes.push(0)?;
-    for line in ROWS.lines() {
+    for line in rows.lines() {
         let lines = if line.starts_with(old) { new } else { line };
         put_lines(alloc, &mut bytes, lines)?;
     }
@@ -116,14 +132,20 @@ fn is_refused(alloc: Global, bytes: &[u8]) -> Result<(), Fail> {
 
 // The state with other lines is one.
 fn reads(alloc: Global, old: &str, new: &str) -> Result<(), Fail> {
-    let bytes = batch_with(alloc, old, new)?;
+    let bytes = batch_with(alloc, ROWS, old, new)?;
     is_read(alloc, &bytes)
 }
 
 // The rows with other lines are no state's.
 fn refuses(alloc: Global, old: &str, new: &str) -> Result<(), Fail> {
-    let bytes = batch_with(alloc, old, new)?;
+    let bytes = batch_with(alloc, ROWS, old, new)?;
     is_refused(alloc, &bytes)
+}
+
+// The state with the rivals and other lines is one, or not.
+fn rivals(alloc: Global, old: &str, new: &str, is_one: bool) -> Result<(), Fail> {
+    let bytes = batch_with(alloc, RIVALS, old, new)?;
+    check(is_state(alloc, &bytes)? == is_one)
 }
 
 // The fresh state's bytes with another byte at a place are no state's.
@@ -243,4 +265,25 @@ fn states_that_no_client_has(rt: HostRuntime) -> Result<(), Fail> {
     refuses(alloc, "nbeta", "nbeta {}")?;
     refuses(alloc, "i ", "i 5A8F0B1E-7C3D-4E2A-9B6C-0123456789AB")?;
     refuses(alloc, "i ", "i 5a8f0b1e7c3d4e2a9b6c0123456789ab")
+}
+
+// A feature that two enrolled recipes of a kind share, unless it may be shared.
+#[test]
+fn features_of_two_recipes(rt: HostRuntime) -> Result<(), Fail> {
+    let alloc = rt.alloc();
+    rivals(alloc, "none", "", false)?;
+    rivals(
+        alloc,
+        "i ",
+        "chome \ni 5a8f0b1e-7c3d-4e2a-9b6c-0123456789ab",
+        false,
+    )?;
+    rivals(
+        alloc,
+        "i ",
+        "ccards \ni 5a8f0b1e-7c3d-4e2a-9b6c-0123456789ab",
+        true,
+    )?;
+    rivals(alloc, "rgamma", "rgamma DOblue", true)?;
+    rivals(alloc, "lgamma", ROLLOUT, true)
 }

@@ -14,9 +14,9 @@ returns-in_err-state c =
 apart : (b : Bool) → b ≡ false → b ≡ true → ⊥
 apart b is other = absurd cc
 
-pub returns-then-not-is_consistent : goal.returns-then-not-is_consistent
-returns-then-not-is_consistent c =
-    not_consistent c.args.rows.now c.in_ok-state.state c.in_ok-state.ensures.state (λ is. apart c.is_consistent.result c.if-not-is_consistent.true (c.is_consistent.ensures.1 is))
+pub returns-then-not-branch : goal.returns-then-not-branch
+returns-then-not-branch c =
+    not_consistent c.args.rows.now c.in_ok-state.state c.in_ok-state.ensures.state (λ is. apart c.in_ok-is_consistent.field-0 c.if-not-branch.true (c.in_ok-is_consistent.ensures.1 is))
 
 pub returns-else-same_rows : goal.returns-else-same_rows
 returns-else-same_rows c =
