@@ -58,7 +58,7 @@ length-object (m ∷ ms) some =
     let rest = members_text true (to_members (members_of ms)) in
     omega (arith, length-append (quoted m.0) (58 ∷ (text_of m.1 ++ rest)), length-append (text_of m.1) rest, members_after ms, sum_by-cons member_length m ms)
 
--- ---- the same of trees
+-- ---- the same of what has a value
 
 abbrev pub tree_item : Tree → ℕ
 tree_item t = item_length (json_of t)
@@ -70,8 +70,8 @@ length-map : {A B : Type 0} (f : A → B) (xs : List A) → length (map f xs) �
 length-map f [] = refl
 length-map f (x ∷ xs) = ap suc (length-map f xs)
 
-pub length-trees : (ts : List Tree) → 0 < length ts → length (text_of (list (items_of (map json_of ts)))) ≡ 1 + sum_by tree_item ts
-length-trees ts some = length-list (map json_of ts) (omega (arith, some, length-map json_of ts)) ∙ ap (λ n. 1 + n) (sum_by-map item_length json_of ts)
+pub length-items : {A : Type 0} (json : A → Json) (xs : List A) → 0 < length xs → length (text_of (list (items_of (map json xs)))) ≡ 1 + sum_by (λ x. item_length (json x)) xs
+length-items json xs some = length-list (map json xs) (omega (arith, some, length-map json xs)) ∙ ap (λ n. 1 + n) (sum_by-map item_length json xs)
 
 pub length-pairs : (ms : List (List ℕ × Tree)) → 0 < length ms → length (text_of (object (members_of (map member_of ms)))) ≡ 1 + sum_by tree_member ms
 length-pairs ms some = length-object (map member_of ms) (omega (arith, some, length-map member_of ms)) ∙ ap (λ n. 1 + n) (sum_by-map member_length member_of ms)

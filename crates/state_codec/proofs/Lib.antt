@@ -15,3 +15,5 @@ pub mod Alls
 pub mod Rising
 pub mod Enrolments
 pub mod Refusals
+pub mod Shorts
+pub mod RecordSums

@@ -9,3 +9,4 @@ pub mod Finds
 pub mod Laws
 pub mod Outcome
 pub mod Reading
+pub mod Lengths

@@ -4,6 +4,7 @@
 mod batches;
 mod fault;
 mod laws;
+mod lengths;
 mod reading;
 mod rows;
 mod sections;

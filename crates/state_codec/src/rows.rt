@@ -169,7 +169,7 @@ fn key_of(alloc: Global, tag: u8, rest: &str) -> Result<Sequence<u8>, AllocError
 
 /// The recipe's record, as compact JSON.
 #[tactic(auto, unfolding(crate::specs::Spelling::recipe_text))]
-pub(crate) fn recipe_text(alloc: Global, recipe: &Recipe) -> Result<Text, AllocError>
+fn recipe_text(alloc: Global, recipe: &Recipe) -> Result<Text, AllocError>
     ensures text { IfOk result (λ text. text ≡ recipe_text recipe.now) }
     ensures record { OnOk result (IsSound (record_json recipe.now)) }
 {

@@ -1,18 +1,18 @@
 // How many bytes a state is spelled in.
-ghost use Rattle.std.specs.Prelude.{◌≡◌, ◌≤◌, ◌<◌, ◌^◌, ◌*◌, ◌∷◌, [], ℕ, All, IsTrue, map, codes, length, IfOk, OnOk};
+ghost use Rattle.std.specs.Prelude.{◌≡◌, ◌≤◌, ◌<◌, ◌^◌, ◌*◌, ◌∷◌, [], ℕ, All, IsTrue, map, codes, length};
+ghost use Rattle.recipe_reader.specs.Payloads.{AreValid};
 ghost use Rattle.plain_text.specs.Names.{is_name};
 ghost use Rattle.enrol_states.specs.Consistent.{IsConsistent};
 ghost use Rattle.state_codec.specs.Batches.{puts};
 ghost use Rattle.state_codec.specs.Spelling.{spelling, key_row, recipe_row, status_row, pending_recipes};
 ghost use Rattle.state_codec.specs.Sound.{HaveRecords, AreRecords};
 
-use crate::rows::recipe_text;
+use crate::lengths::record_length;
 use crate::status::status_len;
 use enrol_states::{Row, State};
 use plain_text::Slug;
 use recipe_reader::{Recipe, Recipes};
 use sequences::Text;
-use std::alloc::{AllocError, Global};
 
 /// The bytes of a put beside its key and its value.
 const PUT: u128 = 7;
@@ -21,45 +21,45 @@ const PUT: u128 = 7;
 /// participates, whether recipes are pending, two moments, and the version without its value.
 const FRAME: u128 = 103;
 
-/// How many bytes the state's spelling has. It is counted: no more than one recipe's text is
-/// written at a time. The one error is want of memory.
-pub fn state_size(alloc: Global, state: &State) -> Result<u128, AllocError>
+/// How many bytes the state's spelling has. It is counted without a text, and takes no memory.
+pub fn state_size(state: &State) -> u128
     requires { IsConsistent state.now }
-    ensures size { IfOk result (λ size. size ≡ length (spelling state.now)) }
-    ensures records { OnOk result (HaveRecords state.now) }
+    ensures size { result ≡ length (spelling state.now) }
+    ensures records { HaveRecords state.now }
 {
-    let live = recipes_size(alloc, state.live.as_slice())?;
-    let pending = pending_size(alloc, &state.pending)?;
+    let live = recipes_size(state.live.as_slice());
+    let pending = pending_size(&state.pending);
     let features = features_size(state.coenrolling.as_slice());
     let slugs = slugs_size(state.opted_out.as_slice());
     let rows = client_rows_size(state.rows.as_slice());
     let version = state.version.as_str().len() as u128;
-    Ok(FRAME + live + pending + features + slugs + rows + version)
+    FRAME + live + pending + features + slugs + rows + version
 }
 
-fn recipes_size(alloc: Global, recipes: &[Recipe]) -> Result<u128, AllocError>
-    requires { length recipes.now ≤ 2000 }
-    ensures size { IfOk result (λ size. (tag : ℕ) → size ≡ length (puts (map (recipe_row (tag ∷ [])) recipes.now))) }
-    ensures bound { IfOk result (λ size. size ≤ 2000 * 2 ^ 66) }
-    ensures records { OnOk result (AreRecords recipes.now) }
+fn recipes_size(recipes: &[Recipe]) -> u128
+    requires count { length recipes.now ≤ 2000 }
+    requires valid { AreValid recipes.now }
+    ensures size { (tag : ℕ) → result ≡ length (puts (map (recipe_row (tag ∷ [])) recipes.now)) }
+    ensures bound { result ≤ 2000 * 2 ^ 79 }
+    ensures records { AreRecords recipes.now }
 {
     let mut size: u128 = 0;
     for recipe in recipes {
-        let text = recipe_text(alloc, recipe)?;
-        size += PUT + 1 + recipe.slug.text().len() as u128 + text.as_str().len() as u128;
+        size += PUT + 1 + recipe.slug.text().len() as u128 + record_length(recipe);
     }
-    Ok(size)
+    size
 }
 
-fn pending_size(alloc: Global, pending: &Option<Recipes>) -> Result<u128, AllocError>
-    requires { length (pending_recipes pending.now) ≤ 2000 }
-    ensures size { IfOk result (λ size. (tag : ℕ) → size ≡ length (puts (map (recipe_row (tag ∷ [])) (pending_recipes pending.now)))) }
-    ensures bound { IfOk result (λ size. size ≤ 2000 * 2 ^ 66) }
-    ensures records { OnOk result (AreRecords (pending_recipes pending.now)) }
+fn pending_size(pending: &Option<Recipes>) -> u128
+    requires count { length (pending_recipes pending.now) ≤ 2000 }
+    requires valid { AreValid (pending_recipes pending.now) }
+    ensures size { (tag : ℕ) → result ≡ length (puts (map (recipe_row (tag ∷ [])) (pending_recipes pending.now))) }
+    ensures bound { result ≤ 2000 * 2 ^ 79 }
+    ensures records { AreRecords (pending_recipes pending.now) }
 {
     match pending {
-        Some(recipes) => recipes_size(alloc, recipes.as_slice()),
-        None => Ok(0),
+        Some(recipes) => recipes_size(recipes.as_slice()),
+        None => 0,
     }
 }
 

@@ -114,7 +114,7 @@ fn is_state(alloc: Global, bytes: &[u8]) -> Result<bool, Fail> {
         Ok(state) => {
             let again = write_state(alloc, &state)?;
             check(again.as_slice() == bytes)?;
-            check(state_size(alloc, &state)? == bytes.len() as u128)?;
+            check(state_size(&state) == bytes.len() as u128)?;
             Ok(true)
         }
         Err(CodecFault::NotAState) => Ok(false),
@@ -168,7 +168,7 @@ fn id_of(text: &str) -> Result<Uuid, Fail> {
 #[tactic(auto, using(crate::proofs::Fresh::fresh_is_sound))]
 fn fresh_is_spelled(alloc: Global) -> Result<(), Fail> {
     let state = State::new(alloc, id_of(ID)?, NOW);
-    check(state_size(alloc, &state)? == 103)?;
+    check(state_size(&state) == 103)?;
     let bytes = write_state(alloc, &state)?;
     check(bytes.as_slice() == FRESH)
 }

@@ -8,7 +8,7 @@ use Rattle.json_tree.specs.Tree.{json_of, member_of}
 use Rattle.json_tree.specs.Bytes.{text_of}
 use Rattle.json_tree.specs.declared.tree.Tree.{Tree}
 use Rattle.json_tree.proofs.ToData.{depth_at, member_depth_at}
-use Rattle.json_length.proofs.Lengths.{tree_item, tree_member, length-trees, length-pairs, sum_within, length-odd}
+use Rattle.json_length.proofs.Lengths.{tree_item, tree_member, length-items, length-pairs, sum_within, length-odd}
 use Rattle.json_length.proofs.trees.+tree_length.Goals as goal
 
 nonzero : (n : ℕ) → (n == 0) ≡ false → 0 < n
@@ -18,7 +18,7 @@ nonzero (suc n) e = omega arith
 -- ---- lists
 
 list_total : (trees : List Tree) (xs : List Json) → map json_of trees ≡ xs → 0 < length trees → length (text_of (list (items_of xs))) ≡ 1 + sum_by tree_item trees
-list_total trees xs same some = sym (ap (λ ys. length (text_of (list (items_of ys)))) same) ∙ length-trees trees some
+list_total trees xs same some = sym (ap (λ ys. length (text_of (list (items_of ys)))) same) ∙ length-items json_of trees some
 
 pub items_length-tree_length-requires : goal.items_length-tree_length-requires
 items_length-tree_length-requires t c =

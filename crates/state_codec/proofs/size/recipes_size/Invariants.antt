@@ -7,6 +7,6 @@ use Rattle.state_codec.proofs.size.recipes_size.Given as goal
 abbrev pub invariant-loop-recipe : goal.invariant-loop-recipe
 invariant-loop-recipe l = record {
   size : (tag : ℕ) → l.size ≡ length (puts (map (recipe_row (tag ∷ [])) (take l.recipe-index l.recipes)));
-  bound : l.size ≤ l.recipe-index * 2 ^ 66;
+  bound : l.size ≤ l.recipe-index * 2 ^ 79;
   records : AreRecords (take l.recipe-index l.recipes);
 }

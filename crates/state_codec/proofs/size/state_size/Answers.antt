@@ -7,8 +7,8 @@ use Rattle.state_codec.proofs.size.state_size.Goals as goal
 
 pub returns-clause-size : goal.returns-clause-size
 returns-clause-size c =
-    let live = c.in_ok-live.ensures.size 108 ∙ ap (λ rs. length (puts (map (recipe_row (108 ∷ [])) rs))) c.as_slice.ensures.recipes in
-    let pending = c.in_ok-pending.ensures.size 110 in
+    let live = c.recipes_size-live.ensures.size 108 ∙ ap (λ rs. length (puts (map (recipe_row (108 ∷ [])) rs))) c.as_slice.ensures.recipes in
+    let pending = c.pending_size-pending.ensures.size 110 in
     let features = c.features_size-features.ensures.size ∙ ap (λ fs. length (puts (map (key_row (99 ∷ [])) fs))) c.as_slice-2.ensures in
     let slugs = c.slugs_size-slugs.ensures.size ∙ ap (λ ss. length (puts (map (key_row (111 ∷ [])) ss))) c.as_slice-3.ensures in
     let rows = c.client_rows_size-rows.ensures.size ∙ ap (λ rs. length (puts (map status_row rs))) c.as_slice-4.ensures in
