@@ -1,0 +1,8 @@
+// What holds of the definitions alone.
+ghost use Rattle.app_context.specs.Laws.{AreByTable};
+
+/// The attributes of a client are, name by name, those of the table, and the custom ones where the
+/// table lacks the name.
+pub fn attributes_are_by_table()
+    ensures { AreByTable }
+{}
