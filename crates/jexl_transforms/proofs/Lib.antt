@@ -1,0 +1,3 @@
+mod Named
+mod Kept
+pub mod Refusing

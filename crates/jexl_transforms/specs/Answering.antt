@@ -1,0 +1,42 @@
+-- What an answer says of a transform's meaning.
+use Rattle.std.specs.Prelude.{◌≡◌, ℕ, Bool, true, false, List, map, bytes_eq, Option, Some, None, Result, Ok, Err, ⊤}
+use Rattle.std.specs.List.{list_any}
+use Rattle.json_tree.specs.Json.{Json}
+use Rattle.jexl_value.specs.Value.{as_json}
+use Rattle.jexl_value.specs.declared.attributes.Attributes.{Attributes}
+use Rattle.jexl_value.specs.declared.value.Value.{Value}
+use denote.Ref.{Bor}
+use Rattle.jexl_transforms.specs.Meaning.{meaning}
+use Rattle.jexl_transforms.specs.declared.answer.CallFault.{CallFault}
+use Rattle.jexl_transforms.specs.declared.answer.CallFault.TheVariants as faults
+use Rattle.jexl_transforms.specs.declared.answer.TransformAnswer.{TransformAnswer}
+use Rattle.jexl_transforms.specs.declared.answer.TransformAnswer.TheVariants.{Gives, Refused, OutOfMemory}
+
+-- the answer is this value, or refuses where there is none; or memory is wanting
+abbrev pub Answers : Option Json → TransformAnswer → Type 0
+Answers value (Gives v) = value ≡ Some (as_json v)
+Answers value Refused = value ≡ None
+Answers value OutOfMemory = ⊤
+
+-- a call of this name that may end so answers what the name means
+abbrev pub AnswersAs : List ℕ → (Bor Attributes → Bor Value → Bor (List Value) → TransformAnswer → Type 0) → Type 0
+AnswersAs name post = (attributes : Bor Attributes) (subject : Bor Value) (arguments : Bor (List Value)) (answer : TransformAnswer)
+    → post attributes subject arguments answer → Answers (meaning name (as_json subject.now) (map as_json arguments.now)) answer
+
+-- the name is one of these
+abbrev pub has_name : List ℕ → List (List ℕ) → Bool
+has_name name names = list_any (bytes_eq name) names
+
+-- what a call answers where the table has these names. The lines exclude one another, but that memory
+-- may be wanting at any call
+abbrev pub Calls : List (List ℕ) → List ℕ → Json → List Json → Result Value CallFault → Type 0
+Calls names name subject arguments (Ok v) = (has_name name names ≡ true) × (meaning name subject arguments ≡ Some (as_json v))
+Calls names name subject arguments (Err faults.UnknownTransform) = has_name name names ≡ false
+Calls names name subject arguments (Err faults.BadArguments) = (has_name name names ≡ true) × (meaning name subject arguments ≡ None)
+Calls names name subject arguments (Err faults.OutOfMemory) = ⊤
+
+-- what a call says where its transform answers so
+abbrev pub result_of : TransformAnswer → Result Value CallFault
+result_of (Gives v) = Ok v
+result_of Refused = Err faults.BadArguments
+result_of OutOfMemory = Err faults.OutOfMemory

@@ -1,0 +1,63 @@
+-- What a transform of each standard name gives for a subject and arguments.
+use Rattle.std.specs.Prelude.{ℕ, ◌+◌, ◌-◌, ◌%◌, ℤ, pos, negsuc, neg_ℤ, Bool, nat_lt, nat_le, ◌&&◌, List, [], ◌∷◌, codes, Option, Some, None, option_map, option_and_then, bytes_eq, if◌then◌else◌}
+use Rattle.std.specs.declared.cmp.Ordering.{Ordering}
+use Rattle.std.specs.declared.cmp.Ordering.TheVariants.{Less, Equal, Greater}
+use Rattle.json_tree.specs.Json.{Json, truth, whole, text}
+use Rattle.json_tree.specs.Bytes.{text_of}
+use Rattle.plain_text.specs.Moments.{moment}
+use Rattle.jexl_transforms.specs.declared.range.Range.{Range}
+use Rattle.sampling.specs.Sampling.{point_of, bucket_of}
+use Rattle.version_compare.specs.Versions.{version_order}
+
+-- -1 for less, 0 for equal, 1 for greater
+abbrev pub order_number : Ordering → ℤ
+order_number Less = neg_ℤ (pos 1)
+order_number Equal = pos 0
+order_number Greater = pos 1
+
+-- `versionCompare`: the order of a version and another one
+abbrev pub version_value : Json → List Json → Option Json
+version_value (text version) (text other ∷ []) = Some (whole (order_number (version_order version other)))
+version_value subject arguments = None
+
+-- `date`: the seconds of a moment, with no arguments
+abbrev pub date_value : Json → List Json → Option Json
+date_value (text written) [] = option_map whole (moment written)
+date_value subject arguments = None
+
+-- the number, where it is from `low` to 2 ^ 32 - 1
+abbrev pub bound_within : ℕ → ℤ → Option ℕ
+bound_within low (pos n) = if nat_le low n && nat_le n 4294967295 then Some n else None
+bound_within low (negsuc n) = None
+
+abbrev pub bound_of : ℕ → Json → Option ℕ
+bound_of low (whole n) = bound_within low n
+bound_of low x = None
+
+abbrev pub range : ℕ → ℕ → ℕ → Range
+range start count total = record { start = start; count = count; total = total }
+
+-- the start of a range of buckets, how many it has, and how many there are in all
+abbrev pub range_of : List Json → Option Range
+range_of (start ∷ count ∷ total ∷ []) =
+    option_and_then (λ s. option_and_then (λ c. option_map (λ t. range s c t) (bound_of 1 total)) (bound_of 0 count)) (bound_of 0 start)
+range_of arguments = None
+
+-- the bucket of the point is less than `count` buckets after `start`, where bucket 0 comes after the last one
+abbrev pub is_in_range : ℕ → Range → Bool
+is_in_range point r = nat_lt ((bucket_of point r.total + r.total - r.start % r.total) % r.total) r.count
+
+-- `bucketSample`: whether the point of any value's compact text is in a range of buckets
+abbrev pub bucket_value : Json → List Json → Option Json
+bucket_value subject arguments = option_map (λ r. truth (is_in_range (point_of (text_of subject)) r)) (range_of arguments)
+
+-- the value that the transform of this name has, or none where it refuses the subject and the arguments
+abbrev pub meaning : List ℕ → Json → List Json → Option Json
+meaning name subject arguments =
+    if bytes_eq name (codes "versionCompare") then version_value subject arguments
+    else (if bytes_eq name (codes "date") then date_value subject arguments
+    else (if bytes_eq name (codes "bucketSample") then bucket_value subject arguments else None))
+
+-- the names that have a meaning
+abbrev pub standard_names : List (List ℕ)
+standard_names = codes "versionCompare" ∷ codes "date" ∷ codes "bucketSample" ∷ []
