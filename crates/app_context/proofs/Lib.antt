@@ -6,3 +6,4 @@ pub mod Loops
 pub mod Rows
 pub mod Wanted
 pub mod ByTable
+pub mod Rising

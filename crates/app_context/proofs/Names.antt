@@ -1,10 +1,10 @@
 -- Names in order, and the text of one.
-use Rattle.std.proofs.Common.{◌≡◌, ℕ, zero, suc, ◌<◌, false, List, [], ◌∷◌, ◌++◌, length, get_or, Less, Equal, Some, None, Err, refl, sym, ap, ◌∙◌, subst, arith}
+use Rattle.std.proofs.Common.{◌≡◌, ℕ, zero, suc, ◌<◌, false, List, [], ◌∷◌, ◌++◌, length, get_or, Less, Equal, Some, None, Err, refl, ap, ◌∙◌, subst, arith}
 use Rattle.std.specs.Prelude.{bytes_eq, if◌then◌else◌}
 use Rattle.std.specs.List.{AllByRecursion}
 use Rattle.std.specs.List.Sorted.{IsStrictlySortedBy, IsBinarySearchResult}
 use Rattle.recipe_reader.specs.Payloads.{slug_cmp}
-use Rattle.enrol_states.specs.Order.{Rise, AreAbove, AreBelow, IsPlace}
+use Rattle.enrol_states.specs.Order.{AreAbove, AreBelow, IsPlace}
 use Rattle.enrol_states.proofs.Ordered.{order_by, equal_texts, same_texts, lesser_texts, greater_texts, turned_up, text_at, place_searched}
 use Rattle.app_context.specs.Named.{names_of, AreInOrder, text_with}
 

@@ -1,8 +1,8 @@
 -- The targeting attributes of a client: which names have values, and which values.
-use Rattle.std.specs.Prelude.{◌≡◌, ℕ, ◌-◌, ◌/◌, ◌||◌, not, pos, Bool, List, [], ◌∷◌, ◌++◌, map, filter, Option, Some, None, option_map, option_and_then, codes, bytes_eq, if◌then◌else◌}
+use Rattle.std.specs.Prelude.{◌≡◌, ℕ, ◌-◌, ◌/◌, ◌||◌, not, pos, Bool, List, [], ◌∷◌, ◌++◌, map, filter, Option, Some, None, option_map, option_and_then, codes, bytes_eq}
 use Rattle.std.specs.List.{list_any}
 use Rattle.uuid.specs.Text.{hyphenated_text, lower}
-use Rattle.json_tree.specs.Json.{Json, truth, whole, text, list, object, items_of, members_of, get_member}
+use Rattle.json_tree.specs.Json.{Json, truth, whole, text, list, object, items_of, members_of}
 use Rattle.jexl_value.specs.Meaning.{without_odd}
 use Rattle.jexl_value.specs.Names.{with_member}
 use Rattle.enrol_states.specs.State.{status_of}

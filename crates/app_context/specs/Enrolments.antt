@@ -1,5 +1,5 @@
 -- The experiments that a client is in, and those that it is or was in, each with its branch.
-use Rattle.std.specs.Prelude.{ℕ, List, map, filter, Option, Some, None, option_map}
+use Rattle.std.specs.Prelude.{ℕ, List, filter, Option, Some, None, option_map}
 use Rattle.std.specs.List.{filter_map}
 use Rattle.json_tree.specs.Json.{Json, text}
 use Rattle.enrol_states.specs.Statuses.{is_enrolled}

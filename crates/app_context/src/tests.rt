@@ -10,7 +10,7 @@ use enrol_states::{
 use jexl_value::{Attributes, Value, tree_of};
 use json_tree::{read, write};
 use plain_text::{Slug, SlugFault, slug_of};
-use sequences::Sequence;
+use sequences::{Sequence, Text};
 use std::alloc::{AllocError, Global};
 use std::test::Fail;
 use uuid::Uuid;
@@ -101,9 +101,7 @@ fn refused_contexts(rt: HostRuntime) -> Result<(), Fail> {
     )
 }
 
-#[test]
-fn taken_contexts(rt: HostRuntime) -> Result<(), Fail> {
-    let alloc = rt.alloc();
+fn takes_texts(alloc: Global) -> Result<(), Fail> {
     let plain = context(
         alloc,
         "{\"app_name\":\"fenix\",\"channel\":\"release\",\"app_version\":\"110.1.0\",\"locale\":\"en-US\"}",
@@ -113,31 +111,55 @@ fn taken_contexts(rt: HostRuntime) -> Result<(), Fail> {
     text_is(&plain, ContextKey::AppVersion, Some("110.1.0"))?;
     text_is(&plain, ContextKey::Locale, Some("en-US"))?;
     text_is(&plain, ContextKey::Os, None)?;
-    unit_is(&plain, "group_id", None)?;
+    unit_is(&plain, "group_id", None)
+}
+
+fn is_full(full: &Context) -> Result<(), Fail> {
+    text_is(full, ContextKey::AppName, Some(""))?;
+    text_is(full, ContextKey::AppId, None)?;
+    text_is(full, ContextKey::AppBuild, Some(""))?;
+    text_is(full, ContextKey::Os, Some("Android"))?;
+    text_is(full, ContextKey::Units, None)?;
+    unit_is(full, "group_id", Some("g"))?;
+    unit_is(full, "user_id", Some("u"))?;
+    unit_is(full, "nimbus_id", None)?;
+    check(full.texts.as_slice().len() == 2 && full.custom.as_slice().len() == 2)
+}
+
+fn takes_all_keys(alloc: Global) -> Result<(), Fail> {
     let full = context(
         alloc,
         "{\"units\":{\"user_id\":\"u\",\"group_id\":\"g\"},\"app_name\":\"\",\"channel\":\"c\",\"app_id\":null,\"app_build\":\"\",\"os\":\"Android\",\"other\":5,\"custom_targeting_attributes\":{\"b\":[1.5],\"a\":null}}",
     )?;
-    text_is(&full, ContextKey::AppName, Some(""))?;
-    text_is(&full, ContextKey::AppId, None)?;
-    text_is(&full, ContextKey::AppBuild, Some(""))?;
-    text_is(&full, ContextKey::Os, Some("Android"))?;
-    text_is(&full, ContextKey::Units, None)?;
-    assert_eq!(rt; full.texts.as_slice().len(), 2);
-    unit_is(&full, "group_id", Some("g"))?;
-    unit_is(&full, "user_id", Some("u"))?;
-    unit_is(&full, "nimbus_id", None)?;
-    assert_eq!(rt; full.custom.as_slice().len(), 2);
-    let copy = full.clone()?;
-    unit_is(&copy, "group_id", Some("g"))?;
-    text_is(&copy, ContextKey::Os, Some("Android"))?;
+    is_full(&full)?;
+    is_full(&full.clone()?)
+}
+
+fn takes_nulls(alloc: Global) -> Result<(), Fail> {
     let none = context(
         alloc,
         "{\"app_name\":\"x\",\"channel\":\"c\",\"units\":null,\"custom_targeting_attributes\":null}",
     )?;
-    assert_eq!(rt; none.units.as_slice().len(), 0);
-    assert_eq!(rt; none.custom.as_slice().len(), 0);
-    Ok(())
+    check(none.units.as_slice().is_empty() && none.custom.as_slice().is_empty())
+}
+
+fn keeps_names(alloc: Global) -> Result<(), Fail> {
+    let mut named = NamedTexts::new(alloc);
+    named.push(Text::new(alloc, "a")?, Text::new(alloc, "one")?)?;
+    let copy = named.clone()?;
+    match copy.get("a") {
+        Some(text) => check(text.as_str() == "one"),
+        None => Err(Fail::from("no text")),
+    }
+}
+
+#[test]
+fn taken_contexts(rt: HostRuntime) -> Result<(), Fail> {
+    let alloc = rt.alloc();
+    takes_texts(alloc)?;
+    takes_all_keys(alloc)?;
+    takes_nulls(alloc)?;
+    keeps_names(alloc)
 }
 
 // ---- attributes
@@ -184,9 +206,14 @@ fn attributes_are(
     if !rise(state.rows.as_slice()) || now > enrol_states::LAST_MOMENT {
         return Err(Fail::from("rows out of order"));
     }
-    let slug = slug(alloc, about)?;
-    let found = attributes(alloc, context, state, &slug, now)?;
-    check(written(alloc, found)?.as_str() == want)
+    let recipe = slug(alloc, about)?;
+    let found = attributes(alloc, context, state, &recipe, now)?;
+    check(written(alloc, found)?.as_str() == want)?;
+    let mut shared = shared_attributes(alloc, context, state, now)?;
+    check(shared.get("is_already_enrolled").is_none())?;
+    set_already_enrolled(alloc, &mut shared, state, &slug(alloc, "another")?)?;
+    set_already_enrolled(alloc, &mut shared, state, &recipe)?;
+    check(written(alloc, shared)?.as_str() == want)
 }
 
 fn rows(alloc: Global) -> Result<Sequence<Row>, Fail> {

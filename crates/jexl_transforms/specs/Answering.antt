@@ -18,7 +18,7 @@ Answers value (Gives v) = value ≡ Some (as_json v)
 Answers value Refused = value ≡ None
 Answers value OutOfMemory = ⊤
 
--- a call of this name that may end so answers what the name means
+-- each answer that a closure may give (`post`) is what the name means, or want of memory
 abbrev pub AnswersAs : List ℕ → (Bor Attributes → Bor Value → Bor (List Value) → TransformAnswer → Type 0) → Type 0
 AnswersAs name post = (attributes : Bor Attributes) (subject : Bor Value) (arguments : Bor (List Value)) (answer : TransformAnswer)
     → post attributes subject arguments answer → Answers (meaning name (as_json subject.now) (map as_json arguments.now)) answer
@@ -27,15 +27,15 @@ AnswersAs name post = (attributes : Bor Attributes) (subject : Bor Value) (argum
 abbrev pub has_name : List ℕ → List (List ℕ) → Bool
 has_name name names = list_any (bytes_eq name) names
 
--- what a call answers where the table has these names. The lines exclude one another, but that memory
--- may be wanting at any call
+-- what a call says of a table with these names. The first three lines exclude one another, so each
+-- comes exactly where it says; memory may be wanting at any call
 abbrev pub Calls : List (List ℕ) → List ℕ → Json → List Json → Result Value CallFault → Type 0
 Calls names name subject arguments (Ok v) = (has_name name names ≡ true) × (meaning name subject arguments ≡ Some (as_json v))
 Calls names name subject arguments (Err faults.UnknownTransform) = has_name name names ≡ false
 Calls names name subject arguments (Err faults.BadArguments) = (has_name name names ≡ true) × (meaning name subject arguments ≡ None)
 Calls names name subject arguments (Err faults.OutOfMemory) = ⊤
 
--- what a call says where its transform answers so
+-- what a call says where its transform gives this answer
 abbrev pub result_of : TransformAnswer → Result Value CallFault
 result_of (Gives v) = Ok v
 result_of Refused = Err faults.BadArguments

@@ -1,5 +1,4 @@
 // What a transform answers, and what a table of them does.
-
 ghost use Rattle.std.specs.Prelude.{◌≡◌};
 ghost use Rattle.jexl_transforms.specs.Answering.{result_of};
 
@@ -13,7 +12,7 @@ pub type Transform = Box<dyn Fn(&Attributes, &Value, &[Value]) -> TransformAnswe
 pub enum TransformAnswer {
     /// Its value.
     Gives(Value),
-    /// None, since its subject or its arguments aren't such as it takes.
+    /// No value: it takes no such subject or arguments.
     Refused,
     /// Want of memory.
     OutOfMemory,
@@ -39,7 +38,7 @@ pub enum CallFault {
     OutOfMemory,
 }
 
-/// What a call of a table says where its transform answers so.
+/// What a call of a table says where its transform gives this answer.
 pub(crate) fn result_of(answer: TransformAnswer) -> Result<Value, CallFault>
     ensures { result ≡ result_of answer }
 {

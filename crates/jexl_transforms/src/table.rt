@@ -80,14 +80,14 @@ impl TransformTable {
         None
     }
 
-    /// The value of the transform of this name, for a subject and arguments. It is called as it was
-    /// stored.
+    /// The value of the transform of this name, for a subject and arguments, as the stored closure
+    /// gives it.
     ///
     /// # Errors
     ///
     /// `UnknownTransform` exactly where the table has no transform of the name. `BadArguments` exactly
-    /// where what the name means refuses the subject and the arguments. `OutOfMemory` where the
-    /// transform answers it.
+    /// where what the name means refuses the subject and the arguments. `OutOfMemory` only
+    /// where the closure answers it.
     pub fn call(
         &self,
         name: &str,

@@ -1,6 +1,5 @@
 use Rattle.std.proofs.Common.{map, ap, ◌∙◌, take_all}
 use Rattle.json_tree.specs.Json.{text}
-use Rattle.enrol_states.specs.declared.state.Row.{Row}
 use Rattle.app_context.specs.Enrolments.{active_slugs}
 use Rattle.app_context.proofs.Loops.{one_more}
 use Rattle.app_context.proofs.Rows.{active_join}

@@ -1,5 +1,4 @@
 use Rattle.std.proofs.Common.{map, ap, ◌∙◌, take_all}
-use Rattle.enrol_states.specs.declared.state.Row.{Row}
 use Rattle.app_context.specs.Enrolments.{enrolments_of, slug_json}
 use Rattle.app_context.proofs.Loops.{one_more}
 use Rattle.app_context.proofs.Rows.{slugs_join}
