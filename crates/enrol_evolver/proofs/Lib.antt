@@ -1,0 +1,12 @@
+pub mod Results
+pub mod Units
+pub mod Passing
+pub mod Validity
+pub mod Choosing
+pub mod Entries
+pub mod RowLists
+pub mod Wishing
+pub mod Evolved
+pub mod Fitness
+pub mod Granting
+pub mod Consistency

@@ -1,0 +1,23 @@
+use Rattle.std.proofs.Common.{◌≡◌, sym, ap₂, ◌∙◌, subst}
+use Rattle.enrol_conflicts.specs.Settlement.{Settled, SlugsRise}
+use Rattle.enrol_conflicts.proofs.OwnSlugs.{own_slugs}
+use Rattle.enrol_evolver.specs.Wishes.{wishes_of}
+use Rattle.enrol_evolver.specs.Plans.{rows_by}
+use Rattle.enrol_evolver.proofs.Results.{if_ok}
+use Rattle.enrol_evolver.proofs.Wishing.{wishes-joined, wishes-rise}
+use Rattle.enrol_evolver.proofs.Evolved.{made-is}
+use Rattle.enrol_evolver.proofs.evolution.evolved_rows.Goals as goal
+
+pub settle-requires : goal.settle-requires
+settle-requires c =
+    let s = c.args.state.now in
+    let wishes : c.as_slice.result.now ≡ wishes_of c.args.context.now s c.args.now = c.as_slice.ensures ∙ c.in_ok-plan.ensures.wishes ∙ wishes-joined c.args.context.now s c.args.now s.live s.rows c.requires.in_order c.requires.rows in
+    own_slugs c.as_slice.result.now (subst SlugsRise (sym wishes) (wishes-rise c.args.context.now s c.args.now c.requires.in_order))
+
+pub returns : goal.returns
+returns c =
+    let s = c.args.state.now in
+    let granted = c.in_ok-granted.granted in
+    let wishes : c.as_slice.result.now ≡ wishes_of c.args.context.now s c.args.now = c.as_slice.ensures ∙ c.in_ok-plan.ensures.wishes ∙ wishes-joined c.args.context.now s c.args.now s.live s.rows c.requires.in_order c.requires.rows in
+    let settled : Settled (wishes_of c.args.context.now s c.args.now) s.coenrolling granted = subst (λ ws. Settled ws s.coenrolling granted) wishes (subst (λ names. Settled c.as_slice.result.now names granted) c.as_slice-2.ensures c.in_ok-granted.ensures.settled) in
+    if_ok c.settled_rows.result _ _ (ap₂ rows_by c.in_ok-plan.ensures.entries c.as_slice-3.ensures ∙ made-is c.args.context.now s c.args.now granted c.requires.in_order c.requires.rows settled) c.settled_rows.ensures

@@ -1,0 +1,6 @@
+pub mod Verdicts
+pub mod Wishes
+pub mod Evolution
+pub mod Slots
+pub mod Plans
+pub mod Laws

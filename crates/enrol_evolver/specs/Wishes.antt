@@ -1,0 +1,54 @@
+-- The wishes of an apply, and what comes of them.
+use Rattle.std.specs.Prelude.{ℕ, Bool, true, false, List, map, filter, Option, option_and_then, bytes_eq, if◌then◌else◌}
+use Rattle.std.specs.List.{flat_map}
+use Rattle.plain_text.specs.Moments.{moment}
+use Rattle.recipe_reader.specs.declared.recipe.Recipe.{Recipe}
+use Rattle.app_context.specs.declared.context.Context.{Context}
+use Rattle.enrol_states.specs.State.{status_of}
+use Rattle.enrol_states.specs.Statuses.{is_enrolled_now}
+use Rattle.enrol_states.specs.Transitions as transitions
+use Rattle.enrol_states.specs.declared.state.State.{State}
+use Rattle.enrol_states.specs.declared.status.Status.{Status}
+use Rattle.enrol_states.specs.declared.verdict.Outcome.{Outcome}
+use Rattle.enrol_states.specs.declared.verdict.Outcome.TheVariants.{Keep, Wish}
+use Rattle.enrol_conflicts.specs.Settlement.{any_granted}
+use Rattle.enrol_conflicts.proofs.Uniqueness.{settleable}
+use Rattle.enrol_conflicts.specs.declared.candidate.Candidate.{Candidate}
+use Rattle.enrol_evolver.specs.Verdicts.{verdict_from, is_out}
+
+-- the features of all branches
+abbrev pub features_of : Recipe → List (List ℕ)
+features_of r = flat_map (λ b. map (λ v. v.feature) b.features) r.branches
+
+-- the wish to be enrolled in the recipe, of a client that is enrolled in it already or not
+abbrev pub candidate_of : Bool → Recipe → Candidate
+candidate_of was_enrolled r = record { slug = r.slug; rollout = r.rollout; features = features_of r; was_enrolled = was_enrolled; published = option_and_then moment r.published }
+
+-- what follows for a client with this old status or none, which is opted out or not
+abbrev pub outcome_from : Context → State → ℕ → Recipe → Option Status → Bool → Outcome
+outcome_from context s now r old out = transitions.outcome old (verdict_from context s now r old out) r
+
+-- what follows from the verdict on the recipe
+abbrev pub outcome_of : Context → State → ℕ → Recipe → Outcome
+outcome_of context s now r = outcome_from context s now r (status_of r.slug s.rows) (is_out s r.slug)
+
+abbrev pub is_wish : Outcome → Bool
+is_wish (Keep status) = false
+is_wish (Wish won lost) = true
+
+-- the wishes to be enrolled in live recipes
+abbrev pub wishes_of : Context → State → ℕ → List Candidate
+wishes_of context s now = map (λ r. candidate_of (is_enrolled_now (status_of r.slug s.rows)) r) (filter (λ r. is_wish (outcome_of context s now r)) s.live)
+
+-- the one settled list of grants
+unfoldable pub grants_of : List Candidate → List (List ℕ) → List Bool
+grants_of wishes coenrolling = (settleable wishes coenrolling).0
+
+-- whether the slug's wish is granted
+abbrev pub is_granted : List Candidate → List Bool → List ℕ → Bool
+is_granted wishes granted slug = any_granted (λ w. bytes_eq w.slug slug) wishes granted
+
+-- the new status, where a wish is granted or not
+abbrev pub status_by : Outcome → Bool → Status
+status_by (Keep status) granted = status
+status_by (Wish won lost) granted = if granted then won else lost

@@ -1,0 +1,22 @@
+//! What an apply makes of a client's state: its verdict on each live recipe, and the new rows.
+#![tactic(auto)]
+
+mod client;
+mod evolution;
+mod laws;
+mod plan;
+mod refreshing;
+mod samples;
+mod settling;
+mod slots;
+mod targeting;
+mod verdicts;
+mod wishes;
+
+pub use evolution::evolve;
+pub use laws::each_slug_by_itself;
+pub use targeting::Targeting;
+pub use verdicts::verdict;
+
+#[cfg(test)]
+mod tests;

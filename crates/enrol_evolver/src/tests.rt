@@ -1,0 +1,472 @@
+// Applies to the state of a client, row by row.
+ghost use Rattle.std.specs.Prelude.{◌≤◌, All, IfOk, IsTrue};
+ghost use Rattle.plain_text.specs.Names.{is_name};
+ghost use Rattle.recipe_reader.specs.Payloads.{AreValid};
+ghost use Rattle.enrol_states.specs.Order.{Rise};
+ghost use Rattle.enrol_states.specs.Statuses.{last_moment};
+ghost use Rattle.enrol_states.specs.Consistent.{IsConsistent};
+
+use super::*;
+use app_context::{Context, ContextFault, read_context};
+use enrol_states::{
+    DisqualifiedReason, EnrolledReason, ErrorCause, MAX_RECIPES, NotEnrolledReason, State, Status,
+    Verdict, opt_in, opt_out, participate,
+};
+use json_tree::read;
+use plain_text::{Slug, SlugFault, is_name, slug_of};
+use recipe_reader::{PayloadFault, Recipes, read_payload};
+use sequences::{Sequence, Text};
+use std::alloc::{AllocError, Global};
+use std::test::Fail;
+use uuid::Uuid;
+
+const NOW: u64 = 1_700_000_000;
+
+const ID: [u8; 16] = [
+    0x5a, 0x8f, 0x0b, 0x1e, 0x7c, 0x3d, 0x4e, 0x2a, 0x9b, 0x6c, 0x01, 0x23, 0x45, 0x67, 0x89, 0xab,
+];
+
+fn check(holds: bool) -> Result<(), Fail> {
+    if holds {
+        Ok(())
+    } else {
+        Err(Fail::from("a check doesn't hold"))
+    }
+}
+
+fn slug(alloc: Global, text: &str) -> Result<Slug, Fail> {
+    match slug_of(alloc, text.as_bytes()) {
+        Ok(slug) => Ok(slug),
+        Err(SlugFault::BadSlug(_)) => Err(Fail::from("no slug")),
+        Err(SlugFault::OutOfMemory) => Err(AllocError.into()),
+    }
+}
+
+// ---- recipes and contexts
+
+// A recipe's record, with members at its end. Of two members with one key the last counts.
+fn plain(alloc: Global, slug: &str, feature: &str, members: &str) -> Result<String, Fail> {
+    Ok(format!(in alloc;
+        "{{\"slug\":\"{slug}\",\"schemaVersion\":\"1.12.0\",\"appName\":\"fenix\",\"channel\":\"release\",\"bucketConfig\":{{\"randomizationUnit\":\"nimbus_id\",\"namespace\":\"ns\",\"start\":0,\"count\":10000,\"total\":10000}},\"branches\":[{{\"slug\":\"control\",\"ratio\":0,\"features\":[{{\"featureId\":\"{feature}\",\"value\":{{}}}}]}},{{\"slug\":\"treatment\",\"ratio\":1,\"features\":[{{\"featureId\":\"{feature}\",\"value\":{{}}}}]}}]{members}}}"
+    )?)
+}
+
+fn bucket(alloc: Global, unit: &str, start: &str, count: &str) -> Result<String, Fail> {
+    Ok(format!(in alloc;
+        ",\"bucketConfig\":{{\"randomizationUnit\":\"{unit}\",\"namespace\":\"ns\",\"start\":{start},\"count\":{count},\"total\":10000}}"
+    )?)
+}
+
+fn recipes(alloc: Global, records: &str) -> Result<Recipes, Fail>
+    ensures { IfOk result AreValid }
+{
+    let text = format!(in alloc; "{{\"data\":[{records}]}}")?;
+    let tree = read(alloc, text.as_bytes())?;
+    match read_payload(alloc, &tree) {
+        Ok(payload) => Ok(payload.recipes),
+        Err(PayloadFault::OutOfMemory) => Err(AllocError.into()),
+        Err(_) => Err(Fail::from("no payload")),
+    }
+}
+
+fn context(alloc: Global) -> Result<Context, Fail> {
+    let text =
+        "{\"app_name\":\"fenix\",\"channel\":\"release\",\"app_version\":\"110.1.0\",\"locale\":\"en-US\"}";
+    let tree = read(alloc, text.as_bytes())?;
+    match read_context(alloc, &tree) {
+        Ok(context) => Ok(context),
+        Err(ContextFault::BadContext(_)) => Err(Fail::from("no context")),
+        Err(ContextFault::OutOfMemory) => Err(AllocError.into()),
+    }
+}
+
+// ---- states
+
+// The state with these recipes pending.
+fn fetched(alloc: Global, state: &State, records: &str) -> Result<State, Fail>
+    requires { IsConsistent state.now }
+    ensures { IfOk result IsConsistent }
+{
+    let recipes = recipes(alloc, records)?;
+    if recipes.as_slice().len() > MAX_RECIPES {
+        return Err(Fail::from("too many recipes"));
+    }
+    let mut next = state.clone()?;
+    next.pending = Some(recipes);
+    Ok(next)
+}
+
+// The state after these recipes were fetched and applied, where no feature may be shared.
+fn applied(alloc: Global, state: &State, records: &str, now: u64) -> Result<State, Fail>
+    requires consistent { IsConsistent state.now }
+    requires moment { now ≤ last_moment }
+    ensures { IfOk result IsConsistent }
+{
+    let fetched = fetched(alloc, state, records)?;
+    let context = context(alloc)?;
+    Ok(evolve(alloc, &fetched, &context, Sequence::new(alloc), now)?)
+}
+
+fn fresh(alloc: Global, id: [u8; 16]) -> State
+    ensures { IsConsistent result }
+{
+    State::new(alloc, Uuid::from_bytes(id), NOW)
+}
+
+// ---- what a state shows
+
+fn status_text(alloc: Global, status: &Status) -> Result<String, Fail> {
+    Ok(match status {
+        Status::Enrolled { reason, branch } => {
+            format!(in alloc; "Enrolled {} {}", enrolled_text(*reason), branch.text())?
+        }
+        Status::NotEnrolled { reason } => {
+            format!(in alloc; "NotEnrolled {}", not_enrolled_text(*reason))?
+        }
+        Status::Disqualified { reason, branch } => {
+            format!(in alloc;
+                "Disqualified {} {}",
+                disqualified_text(*reason),
+                branch.text()
+            )?
+        }
+        Status::WasEnrolled { branch, ended } => {
+            format!(in alloc; "WasEnrolled {} {ended}", branch.text())?
+        }
+        Status::Error { cause } => format!(in alloc; "Error {}", cause_text(*cause))?,
+    })
+}
+
+fn enrolled_text(reason: EnrolledReason) -> &'static str {
+    match reason {
+        EnrolledReason::Qualified => "Qualified",
+        EnrolledReason::OptIn => "OptIn",
+    }
+}
+
+fn not_enrolled_text(reason: NotEnrolledReason) -> &'static str {
+    match reason {
+        NotEnrolledReason::DifferentAppName => "DifferentAppName",
+        NotEnrolledReason::DifferentChannel => "DifferentChannel",
+        NotEnrolledReason::EnrollmentsPaused => "EnrollmentsPaused",
+        NotEnrolledReason::FeatureConflict => "FeatureConflict",
+        NotEnrolledReason::NotSelected => "NotSelected",
+        NotEnrolledReason::NotTargeted => "NotTargeted",
+        NotEnrolledReason::OptOut => "OptOut",
+    }
+}
+
+fn disqualified_text(reason: DisqualifiedReason) -> &'static str {
+    match reason {
+        DisqualifiedReason::Error => "Error",
+        DisqualifiedReason::FeatureConflict => "FeatureConflict",
+        DisqualifiedReason::NotSelected => "NotSelected",
+        DisqualifiedReason::NotTargeted => "NotTargeted",
+        DisqualifiedReason::OptOut => "OptOut",
+    }
+}
+
+fn cause_text(cause: ErrorCause) -> &'static str {
+    match cause {
+        ErrorCause::Unparsed => "Unparsed",
+        ErrorCause::Faulted => "Faulted",
+        ErrorCause::NotTruth => "NotTruth",
+        ErrorCause::NoUnit => "NoUnit",
+    }
+}
+
+// The rows, a line each.
+fn shown(alloc: Global, state: &State) -> Result<String, Fail> {
+    let mut lines = String::new(alloc);
+    for row in state.rows.as_slice() {
+        lines.push_str(row.slug.text())?;
+        lines.push_str(" ")?;
+        lines.push_str(status_text(alloc, &row.status)?.as_str())?;
+        lines.push_str("\n")?;
+    }
+    Ok(lines)
+}
+
+fn shows(alloc: Global, state: &State, want: &str) -> Result<(), Fail> {
+    check(shown(alloc, state)?.as_str() == want)
+}
+
+// ---- rows
+
+// A new client's row for one recipe alpha with these members.
+fn first_row(alloc: Global, id: [u8; 16], members: &str, want: &str) -> Result<(), Fail> {
+    let record = plain(alloc, "alpha", "homescreen", members)?;
+    let state = applied(alloc, &fresh(alloc, id), record.as_str(), NOW)?;
+    shows(alloc, &state, want)
+}
+
+// The same for its bucket.
+fn first_row_of(
+    alloc: Global,
+    id: [u8; 16],
+    unit: &str,
+    start: &str,
+    count: &str,
+    want: &str,
+) -> Result<(), Fail> {
+    let members = bucket(alloc, unit, start, count)?;
+    first_row(alloc, id, members.as_str(), want)
+}
+
+// The SHA-256 of `["5a8f0b1e-7c3d-4e2a-9b6c-0123456789ab","ns"]` puts the client into bucket 9841.
+#[test]
+fn sampling_edges(rt: HostRuntime) -> Result<(), Fail> {
+    let alloc = rt.alloc();
+    let enrolled = "alpha Enrolled Qualified treatment\n";
+    let not_selected = "alpha NotEnrolled NotSelected\n";
+    first_row_of(alloc, ID, "nimbus_id", "0", "0", not_selected)?;
+    first_row_of(alloc, ID, "nimbus_id", "9999", "10000", enrolled)?;
+    first_row_of(alloc, [0; 16], "nimbus_id", "9999", "10000", enrolled)?;
+    first_row_of(alloc, ID, "nimbus_id", "9841", "1", enrolled)?;
+    first_row_of(alloc, ID, "nimbus_id", "9840", "1", not_selected)?;
+    first_row_of(alloc, ID, "nimbus_id", "9842", "1", not_selected)?;
+    first_row_of(alloc, ID, "group_id", "0", "10000", "alpha Error NoUnit\n")
+}
+
+// A new client's row for a recipe of this slug whose branches have equal shares.
+fn halves(alloc: Global, slug: &str, want: &str) -> Result<(), Fail> {
+    let branches =
+        ",\"branches\":[{\"slug\":\"control\",\"ratio\":1},{\"slug\":\"treatment\",\"ratio\":1}]";
+    let record = plain(alloc, slug, "homescreen", branches)?;
+    let state = applied(alloc, &fresh(alloc, ID), record.as_str(), NOW)?;
+    shows(alloc, &state, want)
+}
+
+// The SHA-256 of the JSON text `experimentmanager-5a8f0b1e-7c3d-4e2a-9b6c-0123456789ab-SLUG-branch`
+// begins with 0x030e for beta, and with 0xa1b6 for alpha.
+#[test]
+fn branches_and_first_lines(rt: HostRuntime) -> Result<(), Fail> {
+    let alloc = rt.alloc();
+    halves(alloc, "alpha", "alpha Enrolled Qualified treatment\n")?;
+    halves(alloc, "beta", "beta Enrolled Qualified control\n")?;
+    first_row(
+        alloc,
+        ID,
+        ",\"appName\":\"focus\",\"channel\":\"beta\"",
+        "alpha NotEnrolled DifferentAppName\n",
+    )?;
+    first_row(
+        alloc,
+        ID,
+        ",\"channel\":\"beta\",\"isEnrollmentPaused\":true",
+        "alpha NotEnrolled DifferentChannel\n",
+    )?;
+    first_row(
+        alloc,
+        ID,
+        ",\"appName\":\"\",\"channel\":null",
+        "alpha Enrolled Qualified treatment\n",
+    )?;
+    first_row(
+        alloc,
+        ID,
+        ",\"isEnrollmentPaused\":true,\"targeting\":\"true\"",
+        "alpha NotEnrolled EnrollmentsPaused\n",
+    )?;
+    first_row(
+        alloc,
+        ID,
+        ",\"targeting\":\"1 / 2\"",
+        "alpha Error Unparsed\n",
+    )
+}
+
+// The verdict on the recipe alpha for a new client.
+#[test]
+fn one_verdict(rt: HostRuntime) -> Result<(), Fail> {
+    let alloc = rt.alloc();
+    let record = plain(alloc, "alpha", "homescreen", "")?;
+    let state = fetched(alloc, &fresh(alloc, ID), record.as_str())?;
+    is_treatment(alloc, &state)
+}
+
+fn is_treatment(alloc: Global, state: &State) -> Result<(), Fail>
+    requires { IsConsistent state.now }
+{
+    let context = context(alloc)?;
+    let Some(recipes) = &state.pending else {
+        return Err(Fail::from("no recipes"));
+    };
+    let Some(recipe) = recipes.get("alpha") else {
+        return Err(Fail::from("no recipe"));
+    };
+    match verdict(alloc, recipe, state, &context, NOW)? {
+        Verdict::Qualified(branch) => check(branch.text() == "treatment"),
+        _ => Err(Fail::from("another verdict")),
+    }
+}
+
+// Alpha was published after beta, and both have one feature.
+fn conflict(alloc: Global) -> Result<State, Fail>
+    ensures { IfOk result IsConsistent }
+{
+    let alpha = plain(
+        alloc,
+        "alpha",
+        "homescreen",
+        ",\"publishedDate\":\"2023-02-01\"",
+    )?;
+    let beta = plain(
+        alloc,
+        "beta",
+        "homescreen",
+        ",\"publishedDate\":\"2023-01-01\"",
+    )?;
+    let both = format!(in alloc; "{alpha},{beta}")?;
+    applied(alloc, &fresh(alloc, ID), both.as_str(), NOW)
+}
+
+#[test]
+fn earlier_published_wins(rt: HostRuntime) -> Result<(), Fail> {
+    let alloc = rt.alloc();
+    let state = conflict(alloc)?;
+    check(state.version.as_str() == "110.1.0")?;
+    shows(
+        alloc,
+        &state,
+        "alpha NotEnrolled FeatureConflict\nbeta Enrolled Qualified treatment\n",
+    )
+}
+
+// The state of `conflict` after an apply of alpha alone.
+fn conflict_ended(alloc: Global) -> Result<State, Fail>
+    ensures { IfOk result IsConsistent }
+{
+    let state = conflict(alloc)?;
+    let alpha = plain(
+        alloc,
+        "alpha",
+        "homescreen",
+        ",\"publishedDate\":\"2023-02-01\"",
+    )?;
+    applied(alloc, &state, alpha.as_str(), NOW)
+}
+
+#[test]
+fn conflict_ends_with_the_recipe(rt: HostRuntime) -> Result<(), Fail> {
+    let alloc = rt.alloc();
+    let state = conflict_ended(alloc)?;
+    shows(
+        alloc,
+        &state,
+        "alpha Enrolled Qualified treatment\nbeta WasEnrolled treatment 1700000000\n",
+    )
+}
+
+#[test]
+fn ended_rows_kept_a_year(rt: HostRuntime) -> Result<(), Fail> {
+    let alloc = rt.alloc();
+    let state = conflict_ended(alloc)?;
+    let alpha = plain(alloc, "alpha", "homescreen", "")?;
+    let kept = applied(alloc, &state, alpha.as_str(), 1_731_535_999)?;
+    shows(
+        alloc,
+        &kept,
+        "alpha Enrolled Qualified treatment\nbeta WasEnrolled treatment 1700000000\n",
+    )?;
+    let gone = applied(alloc, &state, alpha.as_str(), 1_731_536_000)?;
+    shows(alloc, &gone, "alpha Enrolled Qualified treatment\n")?;
+    check(gone.updated == NOW)
+}
+
+#[test]
+fn paused_recipe(rt: HostRuntime) -> Result<(), Fail> {
+    let alloc = rt.alloc();
+    let alpha = plain(alloc, "alpha", "homescreen", "")?;
+    let state = applied(alloc, &fresh(alloc, ID), alpha.as_str(), NOW)?;
+    let paused = ",\"isEnrollmentPaused\":true";
+    let alpha = plain(alloc, "alpha", "homescreen", paused)?;
+    let beta = plain(alloc, "beta", "messaging", paused)?;
+    let both = format!(in alloc; "{alpha},{beta}")?;
+    let state = applied(alloc, &state, both.as_str(), NOW)?;
+    shows(
+        alloc,
+        &state,
+        "alpha Enrolled Qualified treatment\nbeta NotEnrolled EnrollmentsPaused\n",
+    )
+}
+
+#[test]
+fn participation_off_and_on(rt: HostRuntime) -> Result<(), Fail> {
+    let alloc = rt.alloc();
+    let alpha = plain(alloc, "alpha", "homescreen", "")?;
+    let state = applied(alloc, &fresh(alloc, ID), alpha.as_str(), NOW)?;
+    let state = participate(alloc, &state, false)?;
+    let state = participate(alloc, &state, true)?;
+    let beta = plain(alloc, "beta", "messaging", "")?;
+    let both = format!(in alloc; "{alpha},{beta}")?;
+    let state = applied(alloc, &state, both.as_str(), NOW)?;
+    shows(
+        alloc,
+        &state,
+        "alpha Disqualified OptOut treatment\nbeta Enrolled Qualified treatment\n",
+    )
+}
+
+// An opt-out stays while the recipe is gone, and an opt-in ends it.
+#[test]
+fn opt_out_outlives_the_recipe(rt: HostRuntime) -> Result<(), Fail> {
+    let alloc = rt.alloc();
+    let alpha = plain(alloc, "alpha", "homescreen", "")?;
+    let state = applied(alloc, &fresh(alloc, ID), alpha.as_str(), NOW)?;
+    let Ok(state) = opt_out(alloc, &state, &slug(alloc, "alpha")?) else {
+        return Err(Fail::from("the opt-out is refused"));
+    };
+    let state = applied(alloc, &state, "", NOW)?;
+    let state = applied(alloc, &state, alpha.as_str(), NOW)?;
+    shows(alloc, &state, "alpha WasEnrolled treatment 1700000000\n")?;
+    let Ok(state) = opt_in(
+        alloc,
+        &state,
+        &slug(alloc, "alpha")?,
+        &slug(alloc, "treatment")?,
+    ) else {
+        return Err(Fail::from("the opt-in is refused"));
+    };
+    let state = applied(alloc, &state, alpha.as_str(), NOW)?;
+    shows(alloc, &state, "alpha Enrolled OptIn treatment\n")
+}
+
+// The features that recipes of one kind may share: messaging or none.
+fn shared(alloc: Global, is_shared: bool) -> Result<Sequence<Text>, Fail>
+    ensures names { IfOk result (All (λ name. IsTrue (is_name name))) }
+    ensures order { IfOk result Rise }
+{
+    let mut names = Sequence::new(alloc);
+    if !is_shared {
+        return Ok(names);
+    }
+    let name = Text::new(alloc, "messaging")?;
+    if !is_name(name.as_str().as_bytes()) {
+        return Err(Fail::from("no name"));
+    }
+    names.push(name)?;
+    Ok(names)
+}
+
+#[test]
+fn coenrollment_withdrawn(rt: HostRuntime) -> Result<(), Fail> {
+    let alloc = rt.alloc();
+    let alpha = plain(alloc, "alpha", "messaging", "")?;
+    let beta = plain(alloc, "beta", "messaging", "")?;
+    let both = format!(in alloc; "{alpha},{beta}")?;
+    let context = context(alloc)?;
+    let state = fetched(alloc, &fresh(alloc, ID), both.as_str())?;
+    let state = evolve(alloc, &state, &context, shared(alloc, true)?, NOW)?;
+    shows(
+        alloc,
+        &state,
+        "alpha Enrolled Qualified treatment\nbeta Enrolled Qualified treatment\n",
+    )?;
+    let state = evolve(alloc, &state, &context, shared(alloc, false)?, NOW)?;
+    shows(
+        alloc,
+        &state,
+        "alpha Enrolled Qualified treatment\nbeta Disqualified FeatureConflict treatment\n",
+    )
+}

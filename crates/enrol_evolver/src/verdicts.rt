@@ -1,0 +1,141 @@
+// The verdict on a recipe.
+ghost use Rattle.std.specs.Prelude.{◌≡◌, IfOk, option_map};
+ghost use Rattle.recipe_reader.specs.Records.{IsValid};
+ghost use Rattle.enrol_states.specs.Order.{Rise};
+ghost use Rattle.enrol_states.specs.State.{slugs_of};
+ghost use Rattle.enrol_states.specs.Statuses.{is_enrolled_now};
+ghost use Rattle.enrol_evolver.specs.Verdicts.{verdict, verdict_from, is_out, chosen, judged, differs, opted_in_branch};
+
+use crate::client::Client;
+use crate::samples::sampled;
+use crate::targeting::{Targeting, targeting_of};
+use app_context::Context;
+use enrol_states::{EnrolledReason, State, Status, Verdict};
+use plain_text::Slug;
+use recipe_reader::Recipe;
+use sequences::Text;
+use std::alloc::{AllocError, Global};
+
+/// What is found of a client and a valid recipe, of which the client's row in the state is the old
+/// one: the first that applies of another application, another channel, an opt-out, a pause (unless
+/// the client is enrolled), targeting, and sampling. Where the user opted in, an opt-out alone
+/// counts. The one error is want of memory.
+pub fn verdict(
+    alloc: Global,
+    recipe: &Recipe,
+    state: &State,
+    context: &Context,
+    now: u64,
+) -> Result<Verdict, AllocError>
+    requires valid { IsValid recipe.now }
+    requires opted_out { Rise state.now.opted_out }
+    requires rows { Rise (slugs_of state.now.rows) }
+    ensures { IfOk result (λ v. v ≡ verdict context.now state.now now recipe.now) }
+{
+    let client = Client {
+        state,
+        context,
+        moment: now,
+    };
+    let old = state.status_of(recipe.slug.text());
+    let is_out = is_out(state, &recipe.slug);
+    verdict_from(alloc, &client, recipe, old, is_out)
+}
+
+/// Whether the user opted out of the slug, or of all.
+fn is_out(state: &State, slug: &Slug) -> bool
+    requires { Rise state.now.opted_out }
+    ensures { result ≡ is_out state.now slug.now }
+{
+    state.is_opted_out(slug.text()) || !state.participating
+}
+
+/// The verdict on a recipe of which the client has this old status or none, and is opted out or
+/// not.
+pub(crate) fn verdict_from(
+    alloc: Global,
+    client: &Client,
+    recipe: &Recipe,
+    old: Option<&Status>,
+    is_out: bool,
+) -> Result<Verdict, AllocError>
+    requires { IsValid recipe.now }
+    ensures { IfOk result (λ v. v ≡ verdict_from client.now.context.now client.now.state.now client.now.moment recipe.now (option_map (λ s. s.now) old.entry) is_out) }
+{
+    match opted_in_branch(old) {
+        Some(branch) => chosen(branch, is_out),
+        None => judged(alloc, client, recipe, is_enrolled(old), is_out),
+    }
+}
+
+/// The branch that the user opted in to.
+fn opted_in_branch<'a>(old: Option<&'a Status>) -> Option<&'a Slug>
+    ensures { option_map (λ b. b.now) result ≡ opted_in_branch (option_map (λ s. s.now) old.entry) }
+{
+    match old {
+        Some(
+            Status::Enrolled {
+                reason: EnrolledReason::OptIn,
+                branch,
+            },
+        ) => Some(branch),
+        _ => None,
+    }
+}
+
+/// Whether the client is enrolled.
+pub(crate) fn is_enrolled(old: Option<&Status>) -> bool
+    ensures { result ≡ is_enrolled_now (option_map (λ s. s.now) old.entry) }
+{
+    matches!(old, Some(Status::Enrolled { .. }))
+}
+
+/// The verdict on a recipe that the user opted in to.
+fn chosen(branch: &Slug, is_out: bool) -> Result<Verdict, AllocError>
+    ensures { IfOk result (λ v. v ≡ chosen branch.now is_out) }
+{
+    if is_out {
+        return Ok(Verdict::OptOut);
+    }
+    Ok(Verdict::Qualified(branch.clone()?))
+}
+
+/// The verdict on a recipe that the user didn't opt in to.
+fn judged(
+    alloc: Global,
+    client: &Client,
+    recipe: &Recipe,
+    is_enrolled: bool,
+    is_out: bool,
+) -> Result<Verdict, AllocError>
+    requires { IsValid recipe.now }
+    ensures { IfOk result (λ v. v ≡ judged client.now.context.now client.now.state.now client.now.moment recipe.now is_enrolled is_out) }
+{
+    if differs(&recipe.app_name, &client.context.app_name) {
+        return Ok(Verdict::DifferentAppName);
+    }
+    if differs(&recipe.channel, &client.context.channel) {
+        return Ok(Verdict::DifferentChannel);
+    }
+    if is_out {
+        return Ok(Verdict::OptOut);
+    }
+    if recipe.paused && !is_enrolled {
+        return Ok(Verdict::EnrollmentsPaused);
+    }
+    match targeting_of(client, recipe) {
+        Targeting::Passes => sampled(alloc, client, recipe),
+        Targeting::Misses => Ok(Verdict::NotTargeted),
+        Targeting::Fails(cause) => Ok(Verdict::Failed(cause)),
+    }
+}
+
+/// Whether a name is there, and isn't the client's own.
+fn differs(name: &Option<Text>, own: &Text) -> bool
+    ensures { result ≡ differs name.now own.now }
+{
+    match name {
+        Some(name) => name != own,
+        None => false,
+    }
+}
