@@ -1,0 +1,9 @@
+pub mod Places
+pub mod Spaces
+pub mod Ascii
+pub mod Coenrolled
+pub mod Greatest
+pub mod Tables
+pub mod Counting
+pub mod Rounds
+pub mod Capping

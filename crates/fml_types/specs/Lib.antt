@@ -1,0 +1,11 @@
+pub mod Shape
+pub mod Shapes
+pub mod Weights
+pub mod Named
+pub mod Coenrolling
+pub mod TypeTexts
+pub mod Graph
+pub mod Capped
+pub mod Ground
+pub mod CappedWeights
+pub mod Values
