@@ -1,5 +1,5 @@
 -- What a pair of sides stands for between two lines, and while one is written and answered.
-use Rattle.std.proofs.Common.{◌≡◌, inl, inr, ⊎_elim, ℕ, ◌<◌, List, [], ◌∷◌, ◌++◌, length, map, take, sym, ◌∙◌, ap, subst, Option, None, Some, Result, Ok, Err, OnOk, ◌+◌}
+use Rattle.std.proofs.Common.{◌≡◌, inl, inr, ⊎_elim, ℕ, ◌<◌, List, [], ◌∷◌, ◌++◌, length, map, sym, ◌∙◌, ap, subst, Option, None, Some}
 use Rattle.std.proofs.lemmas.List.{map-append}
 use Rattle.host_model.specs.declared.side.Side.{Side}
 use Rattle.host_model.specs.declared.side.Side.TheVariants.{Left, Right}
@@ -7,10 +7,10 @@ use Rattle.host_model.specs.declared.host.Host.{Ghosts}
 use Rattle.host_model.specs.Images.{Only}
 use Rattle.host_model.specs.Sides.{other}
 use Rattle.host_model.specs.Hosts.{MeetsAll, OnSideOf, KeepsAll}
-use Rattle.host_model.specs.Moments.{IsSaying, KeepsSide}
+use Rattle.host_model.specs.Moments.{KeepsSide}
 use Rattle.host_model.proofs.Meeting.{met_weaker}
 use Rattle.gate_journal.specs.OpenSide.{OpenSide}
-use Rattle.gate_journal.specs.Journal.{Stands, StandsWithGate, IsBeforeOrAfter}
+use Rattle.gate_journal.specs.Journal.{StandsWithGate, IsBeforeOrAfter}
 use Rattle.gate_journal.specs.Records.{IsOpen, IsKept}
 use Rattle.enrol_states.specs.declared.state.State.{State}
 use Rattle.state_codec.specs.Sound.{IsSound}

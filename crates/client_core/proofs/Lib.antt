@@ -1,6 +1,8 @@
+mod Takers
 mod Copies
 mod Payloads
 mod Stepping
+pub mod OptOuts
 pub mod Holding
 mod Judging
 pub mod Placing

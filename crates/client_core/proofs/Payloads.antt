@@ -1,12 +1,12 @@
 -- A payload keeps at most as many recipes as it has records, and these are at most 2,000.
-use Rattle.std.proofs.Common.{◌≡◌, ◌≤◌, ℕ, suc, ◌+◌, Bool, true, false, List, [], ◌∷◌, length, arith, Option, None, Some, Result, Ok, Err, subst, refl}
+use Rattle.std.proofs.Common.{◌≡◌, ◌≤◌, ℕ, ◌+◌, Bool, true, false, List, [], ◌∷◌, length, arith, Option, None, Some, Result, Ok, Err, subst, refl}
 use Rattle.std.specs.Prelude.{if◌then◌else◌, nat_le}
 use Rattle.std.specs.Ordering.{is_lt}
 use Rattle.std.proofs.lemmas.Bool.{leb-true}
 use Rattle.json_tree.specs.Json.{Json, Items, no_items, item}
 use Rattle.recipe_reader.specs.Branches.{items_len}
 use Rattle.recipe_reader.specs.Records.{recipe_of}
-use Rattle.recipe_reader.specs.Payloads.{slug_cmp, has_slug, with_recipe, keeping, taking, payload_from, no_records, records_in, counted, payload_of}
+use Rattle.recipe_reader.specs.Payloads.{slug_cmp, has_slug, with_recipe, taking, payload_from, no_records, records_in, counted, payload_of}
 use Rattle.recipe_reader.specs.declared.payload.Payload.{Payload}
 use Rattle.recipe_reader.specs.declared.payload.PayloadFault.{PayloadFault}
 use Rattle.recipe_reader.specs.declared.recipe.Recipe.{Recipe}

@@ -1,5 +1,5 @@
 -- Where the records end, and what is written, for a change of state.
-use Rattle.std.proofs.Common.{◌≡◌, ◌≢◌, ◌≤◌, ℕ, ◌+◌, ◌<◌, Bool, true, false, List, length, refl, sym, ◌∙◌, ap, subst, arith, Option, None, Some}
+use Rattle.std.proofs.Common.{◌≡◌, ◌≢◌, ℕ, ◌+◌, Bool, true, false, List, length, refl, ap, arith, Option, None, Some}
 use Rattle.std.specs.Prelude.{bytes_eq}
 use Rattle.std.specs.Bool.{Decides}
 use Rattle.std.proofs.lemmas.Slice.Eq.{bytes_eq-Decides}
@@ -8,7 +8,7 @@ use Rattle.state_codec.specs.Sound.{IsSound}
 use Rattle.state_codec.specs.Spelling.{spelling}
 use Rattle.state_codec.proofs.OneSpelling.{one_spelling}
 use Rattle.client_core.specs.declared.prepared.Change.{Change}
-use Rattle.client_core.specs.Places.{side_end, place_after, bytes_for, IsFullFor}
+use Rattle.client_core.specs.Places.{place_after, bytes_for, IsFullFor}
 use Rattle.client_core.specs.Prepared.{changed, IsChange}
 
 test_false : (b : Bool) (P : Type 0) → Decides b P → (P → ⊥) → b ≡ false

@@ -1,27 +1,25 @@
 -- The step of an outcome, and the state with recipes pending.
-use Rattle.std.proofs.Common.{◌≡◌, ◌≤◌, ◌<◌, ℕ, List, Bool, length, refl, sym, ap, ◌∙◌, Some, Result, Ok, Err, IfOk, OnOk}
+use Rattle.std.proofs.Common.{◌≡◌, ◌≤◌, ◌<◌, List, length, refl, sym, ap, ◌∙◌, subst, None, Some, Result, Ok, Err, IfOk, OnOk}
+use Rattle.std.specs.Prelude.{IsErrOf}
 use Rattle.std.proofs.lemmas.Bool.{le-ltb, lt-ltb}
-use Rattle.recipe_reader.specs.declared.payload.Payload.{Payload}
 use Rattle.recipe_reader.specs.declared.recipe.Recipe.{Recipe}
 use Rattle.enrol_states.specs.declared.state.State.{State}
-use Rattle.enrol_states.specs.Commands.{after_participate}
 use Rattle.enrol_states.specs.Consistent.{IsConsistent, AreKept}
 use Rattle.state_codec.specs.Sound.{max_size}
 use Rattle.state_codec.specs.Spelling.{spelling}
 use Rattle.client_core.specs.declared.answer.Answer.{Answer}
-use Rattle.client_core.specs.declared.answer.Answer.TheVariants.{Okay, StateTooLarge}
+use Rattle.client_core.specs.declared.answer.Answer.TheVariants.{StateTooLarge}
 use Rattle.client_core.specs.declared.client.Client.{Client}
 use Rattle.client_core.specs.declared.command.Command.{Command}
-use Rattle.client_core.specs.declared.command.Command.TheVariants.{Participate, Show, Fetch}
 use Rattle.client_core.specs.declared.faults.StepFault.{StepFault}
+use Rattle.client_core.specs.declared.faults.StepFault.TheVariants.{StoreFull, OutOfMemory}
 use Rattle.client_core.specs.declared.prepared.Prepared.{Prepared}
 use Rattle.client_core.specs.declared.session.Session.{Session}
-use Rattle.client_core.specs.Fetching.{file_tree}
-use Rattle.client_core.specs.Found.{outcome_of}
 use Rattle.client_core.specs.Places.{IsFullFor}
-use Rattle.client_core.specs.Prepared.{changed, IsMadeOn, Leads}
+use Rattle.client_core.specs.Prepared.{changed, IsMadeOn, Leads, Prepares}
+use Rattle.client_core.specs.Sessions.{with_context}
 use Rattle.client_core.specs.Settings.{Setting}
-use Rattle.client_core.specs.Steps.{Accepted, Refused, Step, showing, fetching, outcome, done, step}
+use Rattle.client_core.specs.Steps.{Outcome, Accepted, Refused, Step, outcome, done, step}
 use Rattle.client_core.proofs.Placing.{not_full}
 
 -- what is asked for is done where the new state isn't too large
@@ -53,22 +51,15 @@ pending_consistent s recipes was kept = record {
   row_branches = was.row_branches;
   row_choices = was.row_choices;
   row_participation = was.row_participation;
+  exclusive = was.exclusive;
 }
 
 -- ---- the step of each command
 
 module _ (at : Setting) (s : State) (session : Session) (command : Command) where
-  pub step-participate : (on : Bool) (next : State) → command ≡ Participate on → next ≡ after_participate s on → done s session (Accepted next session Okay) ≡ step at s session command
+  pub step-of : (asked : Outcome) → asked ≡ outcome at s session command → done s session asked ≡ step at s session command
   unfolding step
-  step-participate on next is next_is = ap (λ (t : State). done s session (Accepted t session Okay)) next_is ∙ ap (λ (c : Command). done s session (outcome at s session c)) (sym is)
-
-  pub step-show : command ≡ Show → done s session (showing s session) ≡ step at s session command
-  unfolding step
-  step-show is = ap (λ (c : Command). done s session (outcome at s session c)) (sym is)
-
-  pub step-fetch : (name : List ℕ) (found : Result Payload Answer) → command ≡ Fetch name → fetching s session (file_tree name (at.files name)) ≡ outcome_of s session found → done s session (outcome_of s session found) ≡ step at s session command
-  unfolding step
-  step-fetch name found is read = ap (done s session) (sym read) ∙ ap (λ (c : Command). done s session (outcome at s session c)) (sym is)
+  step-of asked same = ap (done s session) same
 
 -- what a prepared step leads to has room
 pub leads_fits : (client : Client) (result : Result Prepared StepFault) (to : Step) → IfOk result (λ p. IsMadeOn client p) → IfOk result (λ p. Leads client p to) → OnOk result (IsFullFor client.journal.place client.state to.state → ⊥)
@@ -76,5 +67,36 @@ leads_fits client (Ok p) to made leads = not_full client.journal.place client.st
 leads_fits client (Err fault) to made leads = tt
 
 -- a step that changes nothing is a refusal's
-pub leads_refusal : (client : Client) (p : Prepared) (refusal : Answer) → changed client.state p.change ≡ client.state → p.session ≡ client.session → p.answer ≡ refusal → Leads client p (done client.state client.session (Refused refusal))
-leads_refusal client p refusal state session answer = record { state = state; session = session; answer = answer }
+pub leads_refusal : (client : Client) (p : Prepared) (refusal : Answer) → changed client.state p.change ≡ client.state → p.context ≡ None → p.answer ≡ refusal → Leads client p (done client.state client.session (Refused refusal))
+leads_refusal client p refusal state context answer = record { state = state; session = ap (with_context client.session) context; answer = answer }
+
+-- ---- what the calls of one command give
+
+-- the step that is asked for is that of the command
+module _ (client : Client) (asked : Outcome) (result : Result Prepared StepFault) (prepares : Prepares client asked result) (at : Setting) (command : Command) (same : asked ≡ outcome at client.state client.session command) where
+  pub leads : IfOk result (λ p. Leads client p (step at client.state client.session command))
+  leads = subst (λ (to : Step). IfOk result (λ p. Leads client p to)) (step-of at client.state client.session command asked same) prepares.step
+
+  pub is_full : IsErrOf result StoreFull → IsFullFor client.journal.place client.state (step at client.state client.session command).state
+  is_full full = subst (λ (to : Step). IsFullFor client.journal.place client.state to.state) (step-of at client.state client.session command asked same) (prepares.full full)
+
+  pub fits : OnOk result (IsFullFor client.journal.place client.state (step at client.state client.session command).state → ⊥)
+  fits = leads_fits client result (step at client.state client.session command) prepares.made leads
+
+-- want of memory is the one free answer
+pub out_of_memory : (client : Client) (asked : Outcome) (result : Result Prepared StepFault) (fault : StepFault) → result ≡ Err fault → fault ≡ OutOfMemory → Prepares client asked result
+out_of_memory client asked result fault is free =
+    subst (Prepares client asked) (sym (is ∙ ap Err free)) (record { made = tt; step = tt; full = λ full. absurd cc })
+
+-- a refusal changes nothing
+pub refused : (client : Client) (asked : Outcome) (p : Prepared) (refusal : Answer) → IsMadeOn client p → changed client.state p.change ≡ client.state → p.context ≡ None → p.answer ≡ refusal → Refused refusal ≡ asked
+    → Prepares client asked (Ok p)
+refused client asked p refusal made state context answer same = record {
+  made = made;
+  step = subst (λ (o : Outcome). Leads client p (done client.state client.session o)) same (leads_refusal client p refusal state context answer);
+  full = λ full. absurd cc;
+}
+
+-- what is done for one state is done for the same
+pub accepts : (client : Client) (asked other : Outcome) (result : Result Prepared StepFault) → Prepares client asked result → asked ≡ other → Prepares client other result
+accepts client asked other result prepares same = subst (λ (o : Outcome). Prepares client o result) same prepares

@@ -1,5 +1,5 @@
 -- What contracts see of a client.
-use Rattle.std.specs.Prelude.{◌≡◌, ℕ}
+use Rattle.std.specs.Prelude.{ℕ}
 use Rattle.host_model.specs.declared.host.Host.{Ghosts}
 use Rattle.enrol_states.specs.declared.state.State.{State}
 use Rattle.client_core.specs.declared.client.Client.{Client}

@@ -1,14 +1,15 @@
 -- What was found where a command named a file.
-use Rattle.std.specs.Prelude.{◌≡◌, List, length, Option, Some, Result, Ok, Err}
+use Rattle.std.specs.Prelude.{◌≡◌, length, Some, Result, Ok, Err}
 use Rattle.json_tree.specs.Json.{Json}
 use Rattle.json_tree.specs.Tree.{json_of}
 use Rattle.json_tree.specs.declared.tree.Tree.{Tree}
 use Rattle.recipe_reader.specs.declared.payload.Payload.{Payload}
+use Rattle.app_context.specs.declared.context.Context.{Context}
 use Rattle.enrol_states.specs.declared.state.State.{State}
 use Rattle.client_core.specs.declared.answer.Answer.{Answer}
 use Rattle.client_core.specs.declared.answer.Answer.TheVariants.{Fetched}
 use Rattle.client_core.specs.declared.session.Session.{Session}
-use Rattle.client_core.specs.Steps.{Outcome, Accepted, Refused}
+use Rattle.client_core.specs.Steps.{Outcome, Accepted, Refused, context_read}
 
 -- it is the tree of this reading, or its refusal
 abbrev pub IsTree : Result Tree Answer → Result Json Answer → Type 0
@@ -23,3 +24,8 @@ accepted s session payload = Accepted (record s { pending = Some payload.recipes
 abbrev pub outcome_of : State → Session → Result Payload Answer → Outcome
 outcome_of s session (Ok payload) = accepted s session payload
 outcome_of s session (Err refusal) = Refused refusal
+
+-- what is asked for with this context, or this refusal
+abbrev pub context_outcome : State → Session → Result Context Answer → Outcome
+context_outcome s session (Ok context) = context_read s session (Ok context)
+context_outcome s session (Err refusal) = Refused refusal

@@ -1,3 +1,4 @@
+pub mod Choosing
 pub mod Clients
 pub mod Fetching
 pub mod Finds
@@ -5,8 +6,10 @@ pub mod Found
 pub mod Moments
 pub mod Opening
 pub mod OpenStore
+pub mod OptOuts
 pub mod Places
 pub mod Prepared
+pub mod Sessions
 pub mod Settings
 pub mod Steps
 pub mod Store

@@ -1,25 +1,32 @@
 -- One step of a client: what a command makes of the state and of the session, and its answer.
-use Rattle.std.specs.Prelude.{ℕ, Bool, nat_lt, List, length, is_some, Option, Some, Result, Ok, Err, if◌then◌else◌}
+use Rattle.std.specs.Prelude.{ℕ, Bool, nat_lt, List, [], length, count_by, is_some, Option, None, Some, Result, Ok, Err, if◌then◌else◌}
 use Rattle.json_tree.specs.Json.{Json}
 use Rattle.recipe_reader.specs.declared.payload.Payload.{Payload}
 use Rattle.recipe_reader.specs.declared.payload.PayloadFault.{PayloadFault}
 use Rattle.recipe_reader.specs.declared.payload.PayloadFault.TheVariants as payload
-use Rattle.recipe_reader.specs.Payloads.{payload_of}
 use Rattle.enrol_states.specs.declared.state.State.{State}
-use Rattle.enrol_states.specs.Commands.{after_participate}
+use Rattle.recipe_reader.specs.Payloads.{payload_of, recipe_with}
+use Rattle.recipe_reader.specs.declared.recipe.Recipe.{Recipe}
+use Rattle.app_context.specs.Contexts.{context_of}
+use Rattle.app_context.specs.declared.context.Context.{Context}
+use Rattle.app_context.specs.declared.key.ContextKey.{ContextKey}
+use Rattle.enrol_evolver.specs.Evolution.{evolution}
+use Rattle.enrol_states.specs.Choices.{has_no_room}
+use Rattle.enrol_states.specs.Commands.{after_participate, after_opt_out, after_opt_in, after_reset}
+use Rattle.enrol_states.specs.Recipes.{has_branch}
+use Rattle.enrol_states.specs.Statuses.{is_enrolled}
 use Rattle.state_codec.specs.Spelling.{spelling}
 use Rattle.state_codec.specs.Sound.{max_size}
 use Rattle.client_core.specs.declared.session.Session.{Session}
 use Rattle.client_core.specs.declared.command.Command.{Command}
-use Rattle.client_core.specs.declared.command.Command.TheVariants.{Participate, Show, Fetch}
+use Rattle.client_core.specs.declared.command.Command.TheVariants.{Apply, Participate, OptOut, OptIn, Reset, Show, Fetch}
+use Rattle.client_core.specs.declared.command.Command.TheVariants as commands
 use Rattle.client_core.specs.declared.answer.Answer.{Answer}
-use Rattle.client_core.specs.declared.answer.Answer.TheVariants.{Okay, Fetched, Shown, NoData, TooManyRecipes, StateTooLarge}
+use Rattle.client_core.specs.declared.answer.Answer.TheVariants.{Okay, Fetched, Applied, Shown, NoContext, BadContext, NoData, TooManyRecipes, OptedOutLimit, NotParticipating, NoSuchExperiment, NoSuchBranch, FeatureTaken, StateTooLarge}
+use Rattle.client_core.specs.Choosing.{first_taker}
 use Rattle.client_core.specs.Fetching.{file_tree}
+use Rattle.client_core.specs.Sessions.{with_context}
 use Rattle.client_core.specs.Settings.{Setting}
-
--- the session of a run that begins
-abbrev pub no_session : Session
-no_session = record {}
 
 -- what a command asks for: a new state and session with an answer, or a refusal
 pub data Outcome : Type 0 where
@@ -29,6 +36,28 @@ pub data Outcome : Type 0 where
 -- `participate`
 abbrev pub participation : State → Session → Bool → Outcome
 participation s session on = Accepted (after_participate s on) session Okay
+
+-- `opt-out`
+abbrev pub opting_out : State → Session → List ℕ → Outcome
+opting_out s session slug = if has_no_room s.opted_out slug then Refused OptedOutLimit else Accepted (after_opt_out s slug) session Okay
+
+-- `opt-in`, where the recipe has the branch: nobody else may hold a feature of it
+abbrev pub taking : State → Session → List ℕ → List ℕ → Option (List ℕ × List ℕ) → Outcome
+taking s session slug branch None = Accepted (after_opt_in s slug branch) session Okay
+taking s session slug branch (Some taker) = Refused (FeatureTaken taker.0 taker.1)
+
+-- `opt-in`, of the slug's live recipe
+abbrev pub choosing : State → Session → List ℕ → List ℕ → Option Recipe → Outcome
+choosing s session slug branch None = Refused NoSuchExperiment
+choosing s session slug branch (Some r) = if has_branch r branch then taking s session slug branch (first_taker s r s.rows) else Refused NoSuchBranch
+
+-- `opt-in`
+abbrev pub opting_in : State → Session → List ℕ → List ℕ → Outcome
+opting_in s session slug branch = if s.participating then choosing s session slug branch (recipe_with slug s.live) else Refused NotParticipating
+
+-- `reset`
+abbrev pub resetting : State → Session → List ℕ → Outcome
+resetting s session id = Accepted (after_reset s id) session Okay
 
 -- `show`
 abbrev pub shown_answer : State → Answer
@@ -49,9 +78,33 @@ abbrev pub fetching : State → Session → Result Json Answer → Outcome
 fetching s session (Ok tree) = fetched s session (payload_of tree)
 fetching s session (Err refusal) = Refused refusal
 
+-- `context`, where the file holds a value
+abbrev pub context_read : State → Session → Result Context ContextKey → Outcome
+context_read s session (Ok context) = Accepted s (with_context session (Some context)) Okay
+context_read s session (Err key) = Refused (BadContext key)
+
+-- `context`
+abbrev pub reading_context : State → Session → Result Json Answer → Outcome
+reading_context s session (Ok tree) = context_read s session (context_of tree)
+reading_context s session (Err refusal) = Refused refusal
+
+-- what `apply` says of the new state: in how many recipes the client is enrolled, and how many rows there are
+abbrev pub applied_answer : State → Answer
+applied_answer s = Applied (count_by (λ row. is_enrolled row.status) s.rows) (length s.rows)
+
+-- `apply`, of the context that was read last. No feature may be shared
+abbrev pub applying : ℕ → State → Session → Option Context → Outcome
+applying now s session None = Refused NoContext
+applying now s session (Some context) = Accepted (evolution s context [] now) session (applied_answer (evolution s context [] now))
+
 -- what each command asks for
 abbrev pub outcome : Setting → State → Session → Command → Outcome
+outcome at s session (commands.Context file) = reading_context s session (file_tree file (at.files file))
+outcome at s session Apply = applying at.now s session session.context
 outcome at s session (Participate on) = participation s session on
+outcome at s session (OptOut slug) = opting_out s session slug
+outcome at s session (OptIn slug branch) = opting_in s session slug branch
+outcome at s session (Reset id) = resetting s session id
 outcome at s session Show = showing s session
 outcome at s session (Fetch file) = fetching s session (file_tree file (at.files file))
 

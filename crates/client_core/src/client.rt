@@ -7,9 +7,11 @@ ghost use Rattle.state_codec.specs.Sound.{IsSound};
 ghost use Rattle.client_core.specs.Moments.{WhileWritten};
 ghost use Rattle.client_core.specs.OpenStore.{IsSettled, AllKept, AllKeptEither, AllStand};
 ghost use Rattle.client_core.specs.Places.{place_after, bytes_for};
+ghost use Rattle.client_core.specs.Sessions.{with_context};
 
 use crate::prepared::{Change, Prepared};
 use crate::session::Session;
+use app_context::Context;
 use enrol_states::State;
 use gate_journal::{AppendFault, Journal};
 use host_model::{DiskFailed, Host};
@@ -60,7 +62,7 @@ impl Client {
 
         ensures state { OnOk result (state_of self.new ≡ next_state self.old prepared) }
         ensures sound { OnOk result (IsSound (state_of self.old) → IsSound (state_of self.new)) }
-        ensures session { OnOk result (session_of self.new ≡ next_session prepared) }
+        ensures session { OnOk result (session_of self.new ≡ next_session self.old prepared) }
         ensures place { OnOk result (IsSound (state_of self.old)
             → end_of self.new ≡ place_after (end_of self.old) (state_of self.old) (next_state self.old prepared)) }
         ensures same { OnErr result (self.new ≡ self.old) }
@@ -73,24 +75,24 @@ impl Client {
     {
         let Prepared {
             change,
-            session,
+            context,
             answer: _,
         } = prepared;
         match change {
-            Some(change) => self.write(host, change, session),
+            Some(change) => self.write(host, change, context),
             None => {
-                self.session = session;
+                self.session.take_over(context);
                 Ok(())
             }
         }
     }
 
-    /// Writes the record of another state, and takes the state and the session over.
+    /// Writes the record of another state, and takes the state and the context over.
     fn write<H: Host>(
         &mut self,
         host: &mut H,
         change: Change,
-        session: Session,
+        context: Option<Context>,
     ) -> Result<(), DiskFailed>
         requires holds { H.tells → IsOpenOn H.Host self.old host.old }
         requires change { IsChange self.old.journal.place self.old.state (Some change) }
@@ -107,7 +109,7 @@ impl Client {
         ensures gate { OnOk result (H.tells → HasGateOn H.Host self.new host.new) }
 
         ensures state { OnOk result (self.new.state ≡ change.state) }
-        ensures session { OnOk result (self.new.session ≡ session) }
+        ensures session { OnOk result (self.new.session ≡ with_context self.old.session context) }
         ensures place { OnOk result (self.new.journal.place ≡ self.old.journal.place + length change.frame + 5) }
         ensures same { OnErr result (self.new ≡ self.old) }
 
@@ -118,7 +120,7 @@ impl Client {
         match self.journal.append(host, &change.frame) {
             Ok(()) => {
                 self.state = change.state;
-                self.session = session;
+                self.session.take_over(context);
                 Ok(())
             }
             Err(AppendFault::DiskFault) => Err(DiskFailed),

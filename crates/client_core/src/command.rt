@@ -1,13 +1,24 @@
 // What a client is asked for.
+use plain_text::Slug;
 use sequences::Text;
 
 /// What a client is asked for.
 #[derive(Drop)]
 pub enum Command {
-    /// Whether the client takes part at all.
-    Participate { on: bool },
-    /// The state, as an answer.
-    Show,
+    /// The value of this file becomes the context of the run.
+    Context { file: Text },
     /// The payload of this file becomes the pending recipes.
     Fetch { file: Text },
+    /// The pending recipes become the live ones, and enrolments follow them.
+    Apply,
+    /// Whether the client takes part at all.
+    Participate { on: bool },
+    /// The slug is opted out, whether or not it has a recipe.
+    OptOut { slug: Slug },
+    /// The client is enrolled in this branch of the slug's recipe.
+    OptIn { slug: Slug, branch: Slug },
+    /// The client begins anew under another id, whose sixteen bytes these are.
+    Reset { id: [u8; 16] },
+    /// The state, as an answer.
+    Show,
 }

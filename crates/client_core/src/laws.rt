@@ -1,10 +1,17 @@
 // The laws of stores. Each function does nothing: its contract is the law.
 ghost use Rattle.std.specs.Prelude.{◌≡◌, ℕ, List};
 ghost use Rattle.enrol_states.specs.declared.state.State.{State};
+ghost use Rattle.client_core.specs.OptOuts.{OptOutsHold};
 ghost use Rattle.client_core.specs.Store.{StandsFor, KeptFor};
 
 /// A pair of sides stands for one state at most, and so it is kept for one at most.
 pub fn one_state()
     ensures stands { (l r : List ℕ) (s t : State) → StandsFor l r s → StandsFor l r t → s ≡ t }
     ensures kept { (l r : List ℕ) (s t : State) → KeptFor l r s → KeptFor l r t → s ≡ t }
+{}
+
+/// A slug stays opted out, and so nothing of it is enrolled, until a command that is done brings it back: an opt-in of
+/// the slug, or a reset.
+pub fn opt_outs_hold()
+    ensures { OptOutsHold }
 {}

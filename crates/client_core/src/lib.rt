@@ -3,6 +3,7 @@
 #![tactic(auto)]
 
 mod answer;
+mod choosing;
 mod client;
 mod command;
 mod faults;
@@ -18,7 +19,7 @@ pub use answer::Answer;
 pub use client::Client;
 pub use command::Command;
 pub use faults::{ClientFault, MakeFault, StepFault};
-pub use laws::one_state;
+pub use laws::{one_state, opt_outs_hold};
 pub use prepared::Prepared;
 pub use session::Session;
 

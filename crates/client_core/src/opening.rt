@@ -10,7 +10,7 @@ ghost use Rattle.state_codec.specs.Sound.{IsSound};
 ghost use Rattle.client_core.specs.Finds.{OpenFinds, OpenFailed};
 ghost use Rattle.client_core.specs.Store.{IsHistory, StandsFor, KeptFor, IsAbsent, IsBad};
 ghost use Rattle.client_core.specs.OpenStore.{Holds, IsSettled};
-ghost use Rattle.client_core.specs.Steps.{no_session};
+ghost use Rattle.client_core.specs.Sessions.{no_session};
 ghost use Rattle.client_core.specs.Opening.{HasFirst, IsLast};
 
 use crate::client::Client;
@@ -60,7 +60,7 @@ impl Client {
             Ok((journal, state)) => Ok(Client {
                 journal,
                 state,
-                session: Session {},
+                session: Session::new(),
             }),
             Err(fault) => Err(fault),
         }

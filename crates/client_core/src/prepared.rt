@@ -2,7 +2,7 @@
 ghost use Rattle.std.specs.Prelude.{◌≡◌};
 
 use crate::answer::Answer;
-use crate::session::Session;
+use app_context::Context;
 use enrol_states::State;
 use gate_journal::Frame;
 
@@ -17,7 +17,8 @@ pub struct Change {
 #[derive(Drop)]
 pub struct Prepared {
     pub(crate) change: Option<Change>,
-    pub(crate) session: Session,
+    /// The new context of the session, where the command read one.
+    pub(crate) context: Option<Context>,
     pub(crate) answer: Answer,
 }
 

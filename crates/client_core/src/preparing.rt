@@ -1,26 +1,25 @@
 // A step is prepared: its new state, the record of it and its answer are built before the first write.
-ghost use Rattle.std.specs.Prelude.{◌≡◌, ◌≤◌, List, ℕ, Some, IfOk, OnOk, IsErrOf};
+ghost use Rattle.std.specs.Prelude.{◌≡◌, ◌≤◌, List, ℕ, None, Some, Ok, count_by, IfOk, OnOk, IsErrOf};
 ghost use Rattle.host_model.specs.Causes.{Rose};
-ghost use Rattle.enrol_states.specs.Consistent.{IsConsistent, AreKept};
+ghost use Rattle.enrol_states.specs.Consistent.{IsConsistent};
 ghost use Rattle.enrol_states.specs.State.{last_moment};
+ghost use Rattle.enrol_states.specs.Statuses.{is_enrolled};
 ghost use Rattle.state_codec.specs.Sound.{IsSound};
 ghost use Rattle.state_codec.specs.Spelling.{spelling};
-ghost use Rattle.client_core.specs.Found.{accepted};
 ghost use Rattle.client_core.specs.Places.{IsFullFor};
 ghost use Rattle.client_core.specs.Settings.{setting};
-ghost use Rattle.client_core.specs.Steps.{Accepted, shown_answer, showing, done};
+ghost use Rattle.client_core.specs.Steps.{Accepted, applying, applied_answer, shown_answer, showing};
 
 use crate::answer::Answer;
 use crate::client::Client;
 use crate::command::Command;
 use crate::faults::StepFault;
-use crate::fetching::fetch;
 use crate::prepared::{Change, Prepared};
-use enrol_states::{Row, State, participate};
+use enrol_evolver::evolve;
+use enrol_states::{Row, State, Status};
 use gate_journal::{Frame, SIDE_END};
 use host_model::Shelf;
 use plain_text::Slug;
-use recipe_reader::Payload;
 use sequences::Sequence;
 use state_codec::{state_size, write_state};
 use std::alloc::{AllocError, Global};
@@ -30,7 +29,7 @@ const MAX_STATE_BYTES: u128 = 16_777_216;
 
 impl Client {
     ghost use Rattle.client_core.specs.Clients.{state_of, session_of, end_of, step_of};
-    ghost use Rattle.client_core.specs.Prepared.{IsMadeOn, IsChange, Leads, changed};
+    ghost use Rattle.client_core.specs.Prepared.{IsMadeOn, IsChange, Leads, Prepares, changed};
 
     /// Prepares the step of a command at a moment, in whole seconds since 1970. It changes neither the state nor the
     /// session, and writes nothing. A command that is refused is `Ok` with its refusal as the answer.
@@ -58,75 +57,74 @@ impl Client {
         ensures faults { F.faults shelf.old ≤ F.faults shelf.new }
     {
         match command {
-            Command::Participate { on } => {
-                let next = participate(alloc, &self.state, *on)?;
-                self.accepted(alloc, next, Answer::Okay)
-            }
-            Command::Show => Ok(self.shown(alloc)?),
-            Command::Fetch { file } => match fetch(alloc, shelf, file)? {
-                Ok(payload) => self.with_pending(alloc, payload),
-                Err(refusal) => Ok(self.unchanged(refusal)),
-            },
+            Command::Context { file } => self.reading_context(alloc, shelf, file),
+            Command::Fetch { file } => self.fetching(alloc, shelf, file),
+            Command::Apply => self.applying(alloc, now),
+            Command::Participate { on } => self.participating(alloc, *on),
+            Command::OptOut { slug } => self.opting_out(alloc, slug),
+            Command::OptIn { slug, branch } => self.opting_in(alloc, slug, branch),
+            Command::Reset { id } => self.resetting(alloc, *id),
+            Command::Show => self.showing(alloc),
         }
     }
 
     /// The state is as before.
-    fn unchanged(&self, answer: Answer) -> Prepared
+    pub(crate) fn unchanged(&self, answer: Answer) -> Prepared
         ensures made { IsMadeOn self.now result }
         ensures answer { result.answer ≡ answer }
-        ensures session { result.session ≡ self.now.session }
+        ensures session { result.context ≡ None }
         ensures state { changed self.now.state result.change ≡ self.now.state }
     {
         Prepared {
             change: None,
-            session: self.session,
+            context: None,
             answer,
         }
     }
 
     /// The step of `show`.
-    fn shown(&self, alloc: Global) -> Result<Prepared, AllocError>
+    fn showing(&self, alloc: Global) -> Result<Prepared, StepFault>
         requires { IsSound self.now.state }
-        ensures made { IfOk result (λ prepared. IsMadeOn self.now prepared) }
-        ensures step { IfOk result (λ prepared. Leads self.now prepared (done self.now.state self.now.session (showing self.now.state self.now.session))) }
+        ensures prepares { Prepares self.now (showing self.now.state self.now.session) result }
+        ensures not_shelf { ¬ IsErrOf result StepFault.ShelfFault }
     {
         let answer = answer_of(alloc, &self.state)?;
         Ok(self.unchanged(answer))
     }
 
-    /// The step of `fetch` with the payload of its file.
-    fn with_pending(&self, alloc: Global, payload: Payload) -> Result<Prepared, StepFault>
+    /// The step of `apply`.
+    fn applying(&self, alloc: Global, now: u64) -> Result<Prepared, StepFault>
         requires consistent { IsConsistent self.now.state }
-        requires kept { AreKept payload.recipes }
-        ensures made { IfOk result (λ prepared. IsMadeOn self.now prepared) }
-        ensures step { IfOk result (λ prepared. Leads self.now prepared (done self.now.state self.now.session (accepted self.now.state self.now.session payload))) }
-        ensures full { IsErrOf result StepFault.StoreFull
-            → IsFullFor self.now.journal.place self.now.state (done self.now.state self.now.session (accepted self.now.state self.now.session payload)).state }
+        requires moment { now ≤ last_moment }
         ensures not_shelf { ¬ IsErrOf result StepFault.ShelfFault }
+        ensures prepares { Prepares self.now (applying now self.now.state self.now.session self.now.session.context) result }
     {
-        let Payload { recipes, skipped } = payload;
-        let kept = recipes.as_slice().len() as u32;
-        let mut next = self.state.clone()?;
-        next.pending = Some(recipes);
-        self.accepted(alloc, next, Answer::Fetched { kept, skipped })
+        let Some(context) = &self.session.context else {
+            return Ok(self.unchanged(Answer::NoContext));
+        };
+        let next = evolve(alloc, &self.state, context, Sequence::new(alloc), now)?;
+        let answer = applied_answer(&next);
+        self.accepted(alloc, next, answer)
     }
 
     /// The step of a command that asks for this state and has this answer, unless the state is too large.
-    fn accepted(&self, alloc: Global, next: State, answer: Answer) -> Result<Prepared, StepFault>
+    pub(crate) fn accepted(
+        &self,
+        alloc: Global,
+        next: State,
+        answer: Answer,
+    ) -> Result<Prepared, StepFault>
         requires { IsConsistent next }
-        ensures made { IfOk result (λ prepared. IsMadeOn self.now prepared) }
-        ensures step { IfOk result (λ prepared. Leads self.now prepared (done self.now.state self.now.session (Accepted next self.now.session answer))) }
-        ensures full { IsErrOf result StepFault.StoreFull
-            → IsFullFor self.now.journal.place self.now.state (done self.now.state self.now.session (Accepted next self.now.session answer)).state }
+        ensures prepares { Prepares self.now (Accepted next self.now.session answer) result }
         ensures not_shelf { ¬ IsErrOf result StepFault.ShelfFault }
     {
-        let size = state_size(alloc, &next)?;
+        let size = state_size(&next);
         if size > MAX_STATE_BYTES {
             return Ok(self.unchanged(Answer::StateTooLarge(size)));
         }
         Ok(Prepared {
             change: self.change_to(alloc, next)?,
-            session: self.session,
+            context: None,
             answer,
         })
     }
@@ -160,6 +158,26 @@ pub(crate) fn record_of(alloc: Global, state: &State) -> Result<Frame, AllocErro
         Ok(frame) => Ok(frame),
         Err(_) => Err(AllocError),
     }
+}
+
+/// The answer of `apply` that leaves this state.
+fn applied_answer(state: &State) -> Answer
+    ensures { result ≡ applied_answer state.now }
+{
+    let rows = state.rows.as_slice();
+    Answer::Applied {
+        enrolled: enrolled_rows(rows),
+        rows: rows.len(),
+    }
+}
+
+/// In how many recipes the client is enrolled.
+fn enrolled_rows(rows: &[Row]) -> usize
+    ensures { result ≡ count_by (λ row. is_enrolled row.status) rows.now }
+{
+    rows.iter()
+        .filter(|row| matches!(row.status, Status::Enrolled { .. }))
+        .count()
 }
 
 /// The answer that shows a state.

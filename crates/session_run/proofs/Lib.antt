@@ -12,3 +12,4 @@ mod Answering
 mod Stepping
 mod Within
 mod WordLists
+mod OptOuts

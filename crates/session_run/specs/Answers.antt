@@ -3,6 +3,7 @@ use Rattle.std.specs.Prelude.{ℕ, Bool, true, false, List, [], ◌∷◌, ◌++
 use Rattle.uuid.specs.Text.{hyphenated_text, lower}
 use Rattle.json_tree.specs.Json.{text}
 use Rattle.json_tree.specs.Bytes.{text_of}
+use Rattle.app_context.specs.Keys.{name_of}
 use Rattle.recipe_reader.specs.declared.recipe.SkipReason.{SkipReason}
 use Rattle.recipe_reader.specs.declared.recipe.SkipReason.TheVariants as skip
 use Rattle.enrol_states.specs.declared.state.Row.{Row}
@@ -17,15 +18,15 @@ use Rattle.enrol_states.specs.declared.status.DisqualifiedReason.TheVariants as 
 use Rattle.enrol_states.specs.declared.status.ErrorCause.{ErrorCause}
 use Rattle.enrol_states.specs.declared.status.ErrorCause.TheVariants as error
 use Rattle.client_core.specs.declared.answer.Answer.{Answer}
-use Rattle.client_core.specs.declared.answer.Answer.TheVariants.{Okay, Fetched, Shown, AbsentFile, FileTooLarge, NotJson, NoData, TooManyRecipes, StateTooLarge}
+use Rattle.client_core.specs.declared.answer.Answer.TheVariants.{Okay, Fetched, Applied, Shown, NoContext, AbsentFile, FileTooLarge, NotJson, BadContext, NoData, TooManyRecipes, OptedOutLimit, NotParticipating, NoSuchExperiment, NoSuchBranch, FeatureTaken, StateTooLarge}
 use Rattle.session_run.specs.declared.command.LineFault.{LineFault}
-use Rattle.session_run.specs.declared.command.LineFault.TheVariants.{LineTooLong, Blank, UnknownCommand, BadWords, OutOfMemory}
+use Rattle.session_run.specs.declared.command.LineFault.TheVariants.{LineTooLong, Blank, UnknownCommand, BadWords, BadSlug, BadId, OutOfMemory}
 
 -- the text of an id: in lower case, with hyphens
 unfoldable pub hyphenated : List ℕ → List ℕ
 hyphenated id = hyphenated_text lower id
 
--- a file's name, as canonical JSON
+-- a file's name or a key, as canonical JSON
 unfoldable pub quoted : List ℕ → List ℕ
 quoted name = text_of (text name)
 
@@ -103,12 +104,20 @@ fetched_lines kept skipped = codes "fetched " ++ decimal kept ++ codes " skipped
 unfoldable pub answer_lines : Answer → List ℕ
 answer_lines Okay = codes "ok\n"
 answer_lines (Fetched kept skipped) = fetched_lines kept skipped
+answer_lines (Applied enrolled rows) = codes "applied " ++ decimal enrolled ++ codes " of " ++ decimal rows ++ 10 ∷ []
 answer_lines (Shown id participating pending opted_out rows) = shown_lines id participating pending opted_out rows
+answer_lines NoContext = codes "refused NoContext\n"
 answer_lines (AbsentFile name) = codes "refused AbsentFile " ++ quoted name ++ 10 ∷ []
 answer_lines (FileTooLarge name len) = codes "refused FileTooLarge " ++ quoted name ++ codes " " ++ decimal len ++ 10 ∷ []
 answer_lines (NotJson name) = codes "refused NotJson " ++ quoted name ++ 10 ∷ []
+answer_lines (BadContext key) = codes "refused BadContext " ++ quoted (name_of key) ++ 10 ∷ []
 answer_lines NoData = codes "refused NoData\n"
 answer_lines (TooManyRecipes count) = codes "refused TooManyRecipes " ++ decimal count ++ 10 ∷ []
+answer_lines OptedOutLimit = codes "refused OptedOutLimit\n"
+answer_lines NotParticipating = codes "refused NotParticipating\n"
+answer_lines NoSuchExperiment = codes "refused NoSuchExperiment\n"
+answer_lines NoSuchBranch = codes "refused NoSuchBranch\n"
+answer_lines (FeatureTaken holder feature) = codes "refused FeatureTaken " ++ holder ++ codes " " ++ feature ++ 10 ∷ []
 answer_lines (StateTooLarge size) = codes "refused StateTooLarge " ++ decimal size ++ 10 ∷ []
 
 -- the answer to a line that has no command. A blank line has none, and want of memory ends the run without one
@@ -117,4 +126,6 @@ fault_answer LineTooLong = codes "refused LineTooLong\n"
 fault_answer Blank = []
 fault_answer UnknownCommand = codes "refused UnknownCommand\n"
 fault_answer BadWords = codes "refused BadWords\n"
+fault_answer (BadSlug place) = codes "refused BadSlug " ++ decimal place ++ 10 ∷ []
+fault_answer BadId = codes "refused BadId\n"
 fault_answer OutOfMemory = []

@@ -9,3 +9,4 @@ pub mod Places
 pub mod Statuses
 pub mod Steps
 pub mod Words
+pub mod OptOuts

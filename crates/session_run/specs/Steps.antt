@@ -5,7 +5,8 @@ use Rattle.client_core.specs.declared.client.Client.{Client}
 use Rattle.client_core.specs.declared.command.Command.{Command}
 use Rattle.client_core.specs.declared.session.Session.{Session}
 use Rattle.client_core.specs.Settings.{Setting}
-use Rattle.client_core.specs.Steps.{Step, step, no_session}
+use Rattle.client_core.specs.Sessions.{no_session}
+use Rattle.client_core.specs.Steps.{Step, step}
 use Rattle.session_run.specs.declared.command.LineFault.{LineFault}
 use Rattle.session_run.specs.Commands.{command_of}
 use Rattle.session_run.specs.Answers.{answer_lines, fault_answer}

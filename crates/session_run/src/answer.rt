@@ -24,6 +24,7 @@ pub fn answer_text(alloc: Global, answer: &Answer) -> Result<Text, AllocError>
     match answer {
         Answer::Okay => Text::new(alloc, "ok\n"),
         Answer::Fetched { kept, skipped } => fetched_text(alloc, *kept, skipped),
+        Answer::Applied { enrolled, rows } => applied_text(alloc, *enrolled, *rows),
         Answer::Shown {
             id,
             participating,
@@ -31,15 +32,22 @@ pub fn answer_text(alloc: Global, answer: &Answer) -> Result<Text, AllocError>
             opted_out,
             rows,
         } => shown_text(alloc, *id, *participating, *pending, opted_out, rows),
-        Answer::AbsentFile(name) => named(alloc, "refused AbsentFile ", name, "\n"),
+        Answer::NoContext => Text::new(alloc, "refused NoContext\n"),
+        Answer::AbsentFile(name) => named(alloc, "refused AbsentFile ", name.as_str(), "\n"),
         Answer::FileTooLarge(name, length) => too_large(alloc, name, *length),
-        Answer::NotJson(name) => named(alloc, "refused NotJson ", name, "\n"),
+        Answer::NotJson(name) => named(alloc, "refused NotJson ", name.as_str(), "\n"),
+        Answer::BadContext(key) => named(alloc, "refused BadContext ", key.name(), "\n"),
         Answer::NoData => Text::new(alloc, "refused NoData\n"),
         Answer::TooManyRecipes(count) => counted(
             alloc,
             "refused TooManyRecipes ",
             u128::from(*count),
         ),
+        Answer::OptedOutLimit => Text::new(alloc, "refused OptedOutLimit\n"),
+        Answer::NotParticipating => Text::new(alloc, "refused NotParticipating\n"),
+        Answer::NoSuchExperiment => Text::new(alloc, "refused NoSuchExperiment\n"),
+        Answer::NoSuchBranch => Text::new(alloc, "refused NoSuchBranch\n"),
+        Answer::FeatureTaken(holder, feature) => taken_text(alloc, holder, feature),
         Answer::StateTooLarge(size) => counted(alloc, "refused StateTooLarge ", *size),
     }
 }
@@ -54,6 +62,8 @@ pub fn line_text(alloc: Global, fault: &LineFault) -> Result<Text, AllocError>
         LineFault::Blank => Text::new(alloc, ""),
         LineFault::UnknownCommand => Text::new(alloc, "refused UnknownCommand\n"),
         LineFault::BadWords => Text::new(alloc, "refused BadWords\n"),
+        LineFault::BadSlug(place) => counted(alloc, "refused BadSlug ", *place as u128),
+        LineFault::BadId => Text::new(alloc, "refused BadId\n"),
         LineFault::OutOfMemory => unreachable!(),
     }
 }
@@ -67,17 +77,17 @@ pub(crate) fn hyphenated(alloc: Global, id: Uuid) -> Result<Text, AllocError>
     Text::new(alloc, id.hyphenated().encode_lower(&mut buffer))
 }
 
-/// A file's name, as canonical JSON.
+/// A file's name or a key, as canonical JSON.
 #[tactic(auto, unfolding(crate::specs::Answers::quoted))]
-fn quoted(alloc: Global, name: &Text) -> Result<Text, AllocError>
+fn quoted(alloc: Global, name: &str) -> Result<Text, AllocError>
     ensures { IfOk result (λ text. text ≡ spec.quoted name.now) }
 {
-    let tree = Tree::Text(name.clone()?);
+    let tree = Tree::Text(Text::new(alloc, name)?);
     write(alloc, &tree)
 }
 
-/// What is said of a file.
-fn named(alloc: Global, front: &str, name: &Text, end: &str) -> Result<Text, AllocError>
+/// What is said of a file or a key.
+fn named(alloc: Global, front: &str, name: &str, end: &str) -> Result<Text, AllocError>
     ensures { IfOk result (λ text. text ≡ front.now ++ quoted name.now ++ end.now) }
 {
     let mut text = String::from_str(alloc, front)?;
@@ -91,7 +101,7 @@ fn named(alloc: Global, front: &str, name: &Text, end: &str) -> Result<Text, All
 fn too_large(alloc: Global, name: &Text, length: u64) -> Result<Text, AllocError>
     ensures { IfOk result (λ text. text ≡ answer_lines (Answer.FileTooLarge name.now length)) }
 {
-    let mut text = named(alloc, "refused FileTooLarge ", name, " ")?.into_string();
+    let mut text = named(alloc, "refused FileTooLarge ", name.as_str(), " ")?.into_string();
     text.push_str(Buffer::new().format(length))?;
     text.push_str("\n")?;
     Ok(Text::from_string(text))
@@ -122,6 +132,32 @@ fn fetched_text(
     text.push_str(Buffer::new().format(skipped.len()))?;
     text.push_str("\n")?;
     push_skipped_lines(&mut text, skipped.as_slice())?;
+    Ok(Text::from_string(text))
+}
+
+/// What `apply` says.
+#[tactic(auto, unfolding(crate::specs::Answers::answer_lines))]
+fn applied_text(alloc: Global, enrolled: usize, rows: usize) -> Result<Text, AllocError>
+    ensures { IfOk result (λ text. text ≡ answer_lines (Answer.Applied enrolled rows)) }
+{
+    let mut text = String::from_str(alloc, "applied ")?;
+    text.push_str(Buffer::new().format(enrolled))?;
+    text.push_str(" of ")?;
+    text.push_str(Buffer::new().format(rows))?;
+    text.push_str("\n")?;
+    Ok(Text::from_string(text))
+}
+
+/// What is said of a feature that another recipe holds.
+#[tactic(auto, unfolding(crate::specs::Answers::answer_lines))]
+fn taken_text(alloc: Global, holder: &Slug, feature: &Text) -> Result<Text, AllocError>
+    ensures { IfOk result (λ text. text ≡ answer_lines (Answer.FeatureTaken holder.now feature.now)) }
+{
+    let mut text = String::from_str(alloc, "refused FeatureTaken ")?;
+    text.push_str(holder.text())?;
+    text.push_str(" ")?;
+    text.push_str(feature.as_str())?;
+    text.push_str("\n")?;
     Ok(Text::from_string(text))
 }
 

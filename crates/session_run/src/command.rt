@@ -1,13 +1,14 @@
 // A line of a script, and its command.
-ghost use Rattle.std.specs.Prelude.{◌≡◌, ◌≢◌, ◌≤◌, ◌⊎◌, ◌∷◌, List, ℕ, Err, All, map, length};
+ghost use Rattle.std.specs.Prelude.{◌≡◌, ◌⊎◌, ◌∷◌, Err, All, map, length};
 ghost use Rattle.plain_text.specs.Spans.{words};
-ghost use Rattle.session_run.specs.Commands.{command_of, command_of_words, participation, showing, file_named, fetching, words_of, part_at, IsWithin};
+ghost use Rattle.session_run.specs.Commands.{command_of, command_of_words, words_of, part_at, IsWithin};
 
+use crate::arguments::{
+    alone, context_file, fetching, opting_in, opting_out, participation, resetting,
+};
 use client_core::Command;
 use plain_text::words;
-use sequences::Text;
 use std::alloc::{AllocError, Global};
-use std::str;
 
 /// The most bytes of a line, without its end.
 pub const LINE_LIMIT: usize = 4096;
@@ -21,8 +22,13 @@ pub enum LineFault {
     Blank,
     /// The first word is no command.
     UnknownCommand,
-    /// The words behind the first are not those of the command.
+    /// The words behind the first are not those of the command: there are more or fewer, one that tells yes or no
+    /// does neither, or a file's name isn't in UTF-8.
     BadWords,
+    /// A word that stands for a slug fails to be one at this place: the first such word.
+    BadSlug(usize),
+    /// The word that stands for an id is none (RFC 9562).
+    BadId,
     /// Want of memory.
     OutOfMemory,
 }
@@ -71,65 +77,24 @@ fn named(
     requires { All (IsWithin (length line.now)) arguments.now }
     ensures { (result ≡ command_of_words (name.now ∷ map (part_at line.now) arguments.now)) ⊎ (result ≡ Err LineFault.OutOfMemory) }
 {
-    if name == b"participate".as_slice() {
-        participation(line, arguments)
-    } else if name == b"show".as_slice() {
-        showing(arguments)
+    if name == b"context".as_slice() {
+        context_file(alloc, line, arguments)
     } else if name == b"fetch".as_slice() {
         fetching(alloc, line, arguments)
+    } else if name == b"apply".as_slice() {
+        alone(Command::Apply, arguments)
+    } else if name == b"participate".as_slice() {
+        participation(line, arguments)
+    } else if name == b"opt-out".as_slice() {
+        opting_out(alloc, line, arguments)
+    } else if name == b"opt-in".as_slice() {
+        opting_in(alloc, line, arguments)
+    } else if name == b"reset".as_slice() {
+        resetting(line, arguments)
+    } else if name == b"show".as_slice() {
+        alone(Command::Show, arguments)
     } else {
         Err(LineFault::UnknownCommand)
-    }
-}
-
-/// The words behind `participate`: the one word `yes` or `no`.
-fn participation(line: &[u8], arguments: &[(usize, usize)]) -> Result<Command, LineFault>
-    requires { All (IsWithin (length line.now)) arguments.now }
-    ensures { result ≡ participation (map (part_at line.now) arguments.now) }
-{
-    let [word] = arguments else {
-        return Err(LineFault::BadWords);
-    };
-    let word = part(line, *word);
-    if word == b"yes".as_slice() {
-        Ok(Command::Participate { on: true })
-    } else if word == b"no".as_slice() {
-        Ok(Command::Participate { on: false })
-    } else {
-        Err(LineFault::BadWords)
-    }
-}
-
-/// The words behind `show`: none.
-fn showing(arguments: &[(usize, usize)]) -> Result<Command, LineFault>
-    ensures { (line : List ℕ) → result ≡ showing (map (part_at line) arguments.now) }
-{
-    match arguments {
-        [] => Ok(Command::Show),
-        _ => Err(LineFault::BadWords),
-    }
-}
-
-/// The words behind `fetch`: the one name of a file, in UTF-8.
-fn fetching(alloc: Global, line: &[u8], arguments: &[(usize, usize)]) -> Result<Command, LineFault>
-    requires { All (IsWithin (length line.now)) arguments.now }
-    ensures { (result ≡ fetching (map (part_at line.now) arguments.now)) ⊎ (result ≡ Err LineFault.OutOfMemory) }
-{
-    let [word] = arguments else {
-        return Err(LineFault::BadWords);
-    };
-    file_named(alloc, part(line, *word))
-}
-
-/// The command to fetch the file of this name, where it is in UTF-8.
-fn file_named(alloc: Global, name: &[u8]) -> Result<Command, LineFault>
-    ensures { (result ≡ file_named name.now) ⊎ (result ≡ Err LineFault.OutOfMemory) }
-{
-    match str::from_utf8(name) {
-        Ok(name) => Ok(Command::Fetch {
-            file: Text::new(alloc, name)?,
-        }),
-        Err(_) => Err(LineFault::BadWords),
     }
 }
 

@@ -13,6 +13,7 @@ ghost use Rattle.session_run.specs.Commands.{lines_of};
 ghost use Rattle.session_run.specs.Steps.{after, out};
 ghost use Rattle.session_run.specs.Moments.{AfterPrefix, AmongThenAfter};
 ghost use Rattle.session_run.specs.Making.{ready, DuringMaking};
+ghost use Rattle.session_run.specs.OptOuts.{IsHeldOut, IsOut};
 ghost use Rattle.session_run.specs.Places.{IsFullAtLine};
 ghost use Rattle.session_run.specs.Ends.{RunEnds};
 ghost use Rattle.session_run.specs.Finds.{RunFinds, InitFinds, RunJudges, InitJudges};
@@ -54,6 +55,13 @@ pub fn nimbus<S: Source, F: Shelf, H: Host>(
     // What stands when it has ended, status by status.
     ensures ends { IsRun (map string_bytes words.now) → S.tells → F.tells → H.tells → (s : State) → AllKept H.Host host.old s
         → RunEnds H.Host (s ∷ []) (setting F.Shelf shelf.old now) s (lines_of (S.left source.old)) (H.said host.old) host.new result }
+
+    // A slug that a user opts out of stays out, until a line that is done brings it back: in the state of each pair that
+    // is kept for the first k lines it is opted out, and the client isn't enrolled in its recipe.
+    ensures opted_out { (s : State) (k : ℕ) (slug l r : List ℕ) → k ≤ length (lines_of (S.left source.old))
+        → KeptFor l r (after (setting F.Shelf shelf.old now) s (lines_of (S.left source.old)) k)
+        → IsHeldOut (setting F.Shelf shelf.old now) s (lines_of (S.left source.old)) k slug
+        → IsOut (after (setting F.Shelf shelf.old now) s (lines_of (S.left source.old)) k) slug }
 
     // The same after a run that the disk has ended, whose images are each kept for one of some states: so it is until
     // both sides are synced, and from then on the state is the one for which reads are kept.

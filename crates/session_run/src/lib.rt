@@ -2,6 +2,7 @@
 #![tactic(auto)]
 
 mod answer;
+mod arguments;
 mod command;
 mod entry;
 mod faults;

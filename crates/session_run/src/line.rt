@@ -45,7 +45,7 @@ fn commit<H: Host>(
 
     ensures state { OnOk result (state_of client.new ≡ next_state client.old prepared) }
     ensures sound { OnOk result (IsSound (state_of client.old) → IsSound (state_of client.new)) }
-    ensures session { OnOk result (session_of client.new ≡ next_session prepared) }
+    ensures session { OnOk result (session_of client.new ≡ next_session client.old prepared) }
     ensures place { OnOk result (IsSound (state_of client.old)
         → end_of client.new ≡ place_after (end_of client.old) (state_of client.old) (next_state client.old prepared)) }
     ensures only { (IsErrOf result RunFault.ShelfFault → ⊥) × (IsErrOf result RunFault.StoreFull → ⊥) × (IsErrOf result RunFault.OutOfMemory → ⊥) }

@@ -7,7 +7,7 @@ ghost use Rattle.state_codec.specs.Sound.{IsSound};
 ghost use Rattle.client_core.specs.Clients.{state_of, session_of, end_of, IsOpenOn, HasGateOn};
 ghost use Rattle.client_core.specs.OpenStore.{AllKept, AllStand};
 ghost use Rattle.client_core.specs.Settings.{setting};
-ghost use Rattle.client_core.specs.Steps.{no_session};
+ghost use Rattle.client_core.specs.Sessions.{no_session};
 ghost use Rattle.session_run.specs.Commands.{part_at, IsWithin};
 ghost use Rattle.session_run.specs.Steps.{after, out};
 ghost use Rattle.session_run.specs.Moments.{AfterPrefix};

@@ -1,5 +1,5 @@
 -- A payload more.
-use Rattle.std.proofs.Common.{◌≡◌, ◌+◌, ◌++◌, [], ◌∷◌, List, ℕ, Vec, length, map, take, refl, sym, ◌∙◌, ap, subst, arith, Err}
+use Rattle.std.proofs.Common.{◌≡◌, ◌+◌, ◌++◌, [], ◌∷◌, List, ℕ, Vec, map, take, sym, ◌∙◌, ap, subst, arith, Err}
 use Rattle.std.proofs.lemmas.List.{map-append, take_more, take_all}
 use Rattle.std.specs.declared.alloc.Global.{Global}
 use Rattle.client_core.specs.Store.{IsHistory}

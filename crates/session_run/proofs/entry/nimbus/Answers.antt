@@ -1,5 +1,6 @@
 -- What the words ask for is done.
 use Rattle.std.proofs.Common.{inl, inr, ap, arith, refl, Some}
+use Rattle.session_run.proofs.OptOuts.{is_out}
 use Rattle.session_run.proofs.Judging.{run_judges, init_judges, run_complete, init_complete}
 use Rattle.session_run.proofs.entry.nimbus.Goals as goal
 
@@ -32,3 +33,12 @@ returns-in-Some-Run-clause-complete g c is_run source_tells tells short found so
 
 pub returns-in-None-clause-making : goal.returns-in-None-clause-making
 returns-in-None-clause-making g c id is_init = absurd (c.in-None.ensures.none refl (inr (id, is_init)))
+
+pub returns-in-Some-Init-clause-opted_out : goal.returns-in-Some-Init-clause-opted_out
+returns-in-Some-Init-clause-opted_out g c s k slug l r within kept held = is_out _ s _ k slug l r within kept held
+
+pub returns-in-Some-Run-clause-opted_out : goal.returns-in-Some-Run-clause-opted_out
+returns-in-Some-Run-clause-opted_out g c s k slug l r within kept held = is_out _ s _ k slug l r within kept held
+
+pub returns-in-None-clause-opted_out : goal.returns-in-None-clause-opted_out
+returns-in-None-clause-opted_out g c s k slug l r within kept held = is_out _ s _ k slug l r within kept held

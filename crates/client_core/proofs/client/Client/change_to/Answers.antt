@@ -1,5 +1,5 @@
 -- Where the state is another one, it has a record.
-use Rattle.std.proofs.Common.{◌≢◌, ◌∙◌, sym, ap, arith, length}
+use Rattle.std.proofs.Common.{◌∙◌, sym, ap, arith, length}
 use Rattle.enrol_states.specs.Equals.{state_Decides}
 use Rattle.client_core.proofs.client.Client.change_to.Goals as goal
 

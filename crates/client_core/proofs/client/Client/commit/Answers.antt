@@ -1,11 +1,9 @@
 -- A change is written, or there is none.
-use Rattle.std.proofs.Common.{◌≡◌, ◌≢◌, ◌+◌, ℕ, List, Option, Some, length, sym, ◌∙◌, ap, refl, subst, inl, arith, Result, Ok, Err, OnOk}
+use Rattle.std.proofs.Common.{◌≡◌, ◌+◌, ℕ, List, Option, length, sym, ◌∙◌, ap, subst, inl, arith, Result, Ok, Err, OnOk}
 use Rattle.host_model.specs.Hosts.{MeetsAll}
 use Rattle.host_model.proofs.Meeting.{started}
 use Rattle.gate_journal.specs.Costs.{HasCost}
-use Rattle.enrol_states.specs.declared.state.State.{State}
 use Rattle.state_codec.specs.Sound.{IsSound}
-use Rattle.state_codec.specs.Spelling.{spelling}
 use Rattle.client_core.specs.declared.prepared.Change.{Change}
 use Rattle.client_core.specs.Clients.{HasGateOn}
 use Rattle.client_core.specs.Moments.{WhileWritten}

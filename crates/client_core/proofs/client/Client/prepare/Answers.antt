@@ -1,75 +1,127 @@
 -- Each command's step is the defined one.
-use Rattle.std.proofs.Common.{ap, subst, sym, ◌∙◌, Ok, Err, Result, IfOk}
-use Rattle.recipe_reader.specs.declared.payload.Payload.{Payload}
-use Rattle.client_core.specs.declared.answer.Answer.{Answer}
-use Rattle.client_core.specs.declared.prepared.Prepared.{Prepared}
-use Rattle.client_core.specs.Found.{outcome_of}
-use Rattle.client_core.specs.Places.{IsFullFor}
-use Rattle.client_core.specs.Prepared.{Leads}
+use Rattle.std.proofs.Common.{ap, sym}
+use Rattle.client_core.specs.Fetching.{file_tree}
 use Rattle.client_core.specs.Settings.{setting}
-use Rattle.client_core.specs.Steps.{Step, done}
-use Rattle.client_core.proofs.Placing.{not_full}
-use Rattle.client_core.proofs.Stepping.{step-participate, step-show, step-fetch, leads_fits, leads_refusal}
+use Rattle.client_core.specs.Steps.{reading_context, fetching, applying, participation, opting_out, opting_in, resetting, showing, outcome}
+use Rattle.client_core.proofs.Stepping.{leads, is_full, fits}
 use Rattle.client_core.proofs.client.Client.prepare.Goals as goal
 
-pub returns-in_ok-next-in-Participate-clause-step : goal.returns-in_ok-next-in-Participate-clause-step
-returns-in_ok-next-in-Participate-clause-step g c tells =
-    let self = c.args.self.now in
-    let is = step-participate (setting g.F.Shelf c.args.shelf.now c.args.now) self.state self.session c.args.command.now c.in-Participate.on c.in_ok-next-in-Participate.next c.in-Participate.is c.in_ok-next-in-Participate.ensures.state in
-    subst (λ (to : Step). IfOk c.accepted.result (λ (p : Prepared). Leads self p to)) is c.accepted.ensures.step
+pub returns-in-Context-clause-step : goal.returns-in-Context-clause-step
+returns-in-Context-clause-step g c tells =
+    leads c.args.self.now (reading_context c.args.self.now.state c.args.self.now.session (file_tree c.in-Context.file (g.F.Shelf.file c.args.shelf.now c.in-Context.file))) c.reading_context.result (c.reading_context.ensures.prepares tells) (setting g.F.Shelf c.args.shelf.now c.args.now) c.args.command.now
+    (ap (outcome (setting g.F.Shelf c.args.shelf.now c.args.now) c.args.self.now.state c.args.self.now.session) (sym c.in-Context.is))
 
-pub returns-in_ok-next-in-Participate-clause-full : goal.returns-in_ok-next-in-Participate-clause-full
-returns-in_ok-next-in-Participate-clause-full g c full tells =
-    let self = c.args.self.now in
-    let is = step-participate (setting g.F.Shelf c.args.shelf.now c.args.now) self.state self.session c.args.command.now c.in-Participate.on c.in_ok-next-in-Participate.next c.in-Participate.is c.in_ok-next-in-Participate.ensures.state in
-    subst (λ (to : Step). IsFullFor self.journal.place self.state to.state) is (c.accepted.ensures.full full)
+pub returns-in-Context-clause-full : goal.returns-in-Context-clause-full
+returns-in-Context-clause-full g c full tells =
+    is_full c.args.self.now (reading_context c.args.self.now.state c.args.self.now.session (file_tree c.in-Context.file (g.F.Shelf.file c.args.shelf.now c.in-Context.file))) c.reading_context.result (c.reading_context.ensures.prepares tells) (setting g.F.Shelf c.args.shelf.now c.args.now) c.args.command.now
+    (ap (outcome (setting g.F.Shelf c.args.shelf.now c.args.now) c.args.self.now.state c.args.self.now.session) (sym c.in-Context.is)) full
 
-pub returns-in_ok-next-in-Participate-clause-fits : goal.returns-in_ok-next-in-Participate-clause-fits
-returns-in_ok-next-in-Participate-clause-fits g c tells =
-    leads_fits c.args.self.now c.accepted.result _ c.accepted.ensures.made (returns-in_ok-next-in-Participate-clause-step g c tells)
+pub returns-in-Context-clause-fits : goal.returns-in-Context-clause-fits
+returns-in-Context-clause-fits g c tells =
+    fits c.args.self.now (reading_context c.args.self.now.state c.args.self.now.session (file_tree c.in-Context.file (g.F.Shelf.file c.args.shelf.now c.in-Context.file))) c.reading_context.result (c.reading_context.ensures.prepares tells) (setting g.F.Shelf c.args.shelf.now c.args.now) c.args.command.now
+    (ap (outcome (setting g.F.Shelf c.args.shelf.now c.args.now) c.args.self.now.state c.args.self.now.session) (sym c.in-Context.is))
 
-pub returns-in_ok-shown-in-Show-clause-step : goal.returns-in_ok-shown-in-Show-clause-step
-returns-in_ok-shown-in-Show-clause-step g c tells =
-    let self = c.args.self.now in
-    let is = step-show (setting g.F.Shelf c.args.shelf.now c.args.now) self.state self.session c.args.command.now c.in-Show.is in
-    subst (λ (to : Step). Leads self c.in_ok-shown-in-Show.field-0 to) is c.in_ok-shown-in-Show.ensures.step
+pub returns-in-Fetch-clause-step : goal.returns-in-Fetch-clause-step
+returns-in-Fetch-clause-step g c tells =
+    leads c.args.self.now (fetching c.args.self.now.state c.args.self.now.session (file_tree c.in-Fetch.file (g.F.Shelf.file c.args.shelf.now c.in-Fetch.file))) c.fetching.result (c.fetching.ensures.prepares tells) (setting g.F.Shelf c.args.shelf.now c.args.now) c.args.command.now
+    (ap (outcome (setting g.F.Shelf c.args.shelf.now c.args.now) c.args.self.now.state c.args.self.now.session) (sym c.in-Fetch.is))
 
-pub returns-in_ok-shown-in-Show-clause-fits : goal.returns-in_ok-shown-in-Show-clause-fits
-returns-in_ok-shown-in-Show-clause-fits g c tells =
-    let self = c.args.self.now in
-    let p = c.in_ok-shown-in-Show.field-0 in
-    not_full self.journal.place self.state _ p.change c.in_ok-shown-in-Show.ensures.made (returns-in_ok-shown-in-Show-clause-step g c tells).state
+pub returns-in-Fetch-clause-full : goal.returns-in-Fetch-clause-full
+returns-in-Fetch-clause-full g c full tells =
+    is_full c.args.self.now (fetching c.args.self.now.state c.args.self.now.session (file_tree c.in-Fetch.file (g.F.Shelf.file c.args.shelf.now c.in-Fetch.file))) c.fetching.result (c.fetching.ensures.prepares tells) (setting g.F.Shelf c.args.shelf.now c.args.now) c.args.command.now
+    (ap (outcome (setting g.F.Shelf c.args.shelf.now c.args.now) c.args.self.now.state c.args.self.now.session) (sym c.in-Fetch.is)) full
 
-pub returns-in-Ok-clause-step : goal.returns-in-Ok-clause-step
-returns-in-Ok-clause-step g c tells =
-    let self = c.args.self.now in
-    let found = c.in_ok-payload-in-Fetch.field-0 in
-    let is = step-fetch (setting g.F.Shelf c.args.shelf.now c.args.now) self.state self.session c.args.command.now c.in-Fetch.file found c.in-Fetch.is (c.in_ok-payload-in-Fetch.ensures.found tells self.state self.session) in
-    subst (λ (to : Step). IfOk c.with_pending.result (λ (p : Prepared). Leads self p to))
-    (ap (λ (x : Result Payload Answer). done self.state self.session (outcome_of self.state self.session x)) (sym c.in-Ok.is) ∙ is) c.with_pending.ensures.step
+pub returns-in-Fetch-clause-fits : goal.returns-in-Fetch-clause-fits
+returns-in-Fetch-clause-fits g c tells =
+    fits c.args.self.now (fetching c.args.self.now.state c.args.self.now.session (file_tree c.in-Fetch.file (g.F.Shelf.file c.args.shelf.now c.in-Fetch.file))) c.fetching.result (c.fetching.ensures.prepares tells) (setting g.F.Shelf c.args.shelf.now c.args.now) c.args.command.now
+    (ap (outcome (setting g.F.Shelf c.args.shelf.now c.args.now) c.args.self.now.state c.args.self.now.session) (sym c.in-Fetch.is))
 
-pub returns-in-Ok-clause-full : goal.returns-in-Ok-clause-full
-returns-in-Ok-clause-full g c full tells =
-    let self = c.args.self.now in
-    let found = c.in_ok-payload-in-Fetch.field-0 in
-    let is = step-fetch (setting g.F.Shelf c.args.shelf.now c.args.now) self.state self.session c.args.command.now c.in-Fetch.file found c.in-Fetch.is (c.in_ok-payload-in-Fetch.ensures.found tells self.state self.session) in
-    subst (λ (to : Step). IsFullFor self.journal.place self.state to.state)
-    (ap (λ (x : Result Payload Answer). done self.state self.session (outcome_of self.state self.session x)) (sym c.in-Ok.is) ∙ is) (c.with_pending.ensures.full full)
+pub returns-in-Apply-clause-step : goal.returns-in-Apply-clause-step
+returns-in-Apply-clause-step g c tells =
+    leads c.args.self.now (applying c.args.now c.args.self.now.state c.args.self.now.session c.args.self.now.session.context) c.applying.result (c.applying.ensures.prepares) (setting g.F.Shelf c.args.shelf.now c.args.now) c.args.command.now
+    (ap (outcome (setting g.F.Shelf c.args.shelf.now c.args.now) c.args.self.now.state c.args.self.now.session) (sym c.in-Apply.is))
 
-pub returns-in-Ok-clause-fits : goal.returns-in-Ok-clause-fits
-returns-in-Ok-clause-fits g c tells =
-    leads_fits c.args.self.now c.with_pending.result _ c.with_pending.ensures.made (returns-in-Ok-clause-step g c tells)
+pub returns-in-Apply-clause-full : goal.returns-in-Apply-clause-full
+returns-in-Apply-clause-full g c full tells =
+    is_full c.args.self.now (applying c.args.now c.args.self.now.state c.args.self.now.session c.args.self.now.session.context) c.applying.result (c.applying.ensures.prepares) (setting g.F.Shelf c.args.shelf.now c.args.now) c.args.command.now
+    (ap (outcome (setting g.F.Shelf c.args.shelf.now c.args.now) c.args.self.now.state c.args.self.now.session) (sym c.in-Apply.is)) full
 
-pub returns-in-Err-clause-step : goal.returns-in-Err-clause-step
-returns-in-Err-clause-step g c tells =
-    let self = c.args.self.now in
-    let found = c.in_ok-payload-in-Fetch.field-0 in
-    let is = step-fetch (setting g.F.Shelf c.args.shelf.now c.args.now) self.state self.session c.args.command.now c.in-Fetch.file found c.in-Fetch.is (c.in_ok-payload-in-Fetch.ensures.found tells self.state self.session) in
-    subst (λ (to : Step). Leads self c.unchanged.result to)
-    (ap (λ (x : Result Payload Answer). done self.state self.session (outcome_of self.state self.session x)) (sym c.in-Err.is) ∙ is)
-    (leads_refusal self c.unchanged.result c.in-Err.refusal c.unchanged.ensures.state c.unchanged.ensures.session c.unchanged.ensures.answer)
+pub returns-in-Apply-clause-fits : goal.returns-in-Apply-clause-fits
+returns-in-Apply-clause-fits g c tells =
+    fits c.args.self.now (applying c.args.now c.args.self.now.state c.args.self.now.session c.args.self.now.session.context) c.applying.result (c.applying.ensures.prepares) (setting g.F.Shelf c.args.shelf.now c.args.now) c.args.command.now
+    (ap (outcome (setting g.F.Shelf c.args.shelf.now c.args.now) c.args.self.now.state c.args.self.now.session) (sym c.in-Apply.is))
 
-pub returns-in-Err-clause-fits : goal.returns-in-Err-clause-fits
-returns-in-Err-clause-fits g c tells =
-    let self = c.args.self.now in
-    not_full self.journal.place self.state _ c.unchanged.result.change c.unchanged.ensures.made (returns-in-Err-clause-step g c tells).state
+pub returns-in-Participate-clause-step : goal.returns-in-Participate-clause-step
+returns-in-Participate-clause-step g c tells =
+    leads c.args.self.now (participation c.args.self.now.state c.args.self.now.session c.in-Participate.on) c.participating.result (c.participating.ensures.prepares) (setting g.F.Shelf c.args.shelf.now c.args.now) c.args.command.now
+    (ap (outcome (setting g.F.Shelf c.args.shelf.now c.args.now) c.args.self.now.state c.args.self.now.session) (sym c.in-Participate.is))
+
+pub returns-in-Participate-clause-full : goal.returns-in-Participate-clause-full
+returns-in-Participate-clause-full g c full tells =
+    is_full c.args.self.now (participation c.args.self.now.state c.args.self.now.session c.in-Participate.on) c.participating.result (c.participating.ensures.prepares) (setting g.F.Shelf c.args.shelf.now c.args.now) c.args.command.now
+    (ap (outcome (setting g.F.Shelf c.args.shelf.now c.args.now) c.args.self.now.state c.args.self.now.session) (sym c.in-Participate.is)) full
+
+pub returns-in-Participate-clause-fits : goal.returns-in-Participate-clause-fits
+returns-in-Participate-clause-fits g c tells =
+    fits c.args.self.now (participation c.args.self.now.state c.args.self.now.session c.in-Participate.on) c.participating.result (c.participating.ensures.prepares) (setting g.F.Shelf c.args.shelf.now c.args.now) c.args.command.now
+    (ap (outcome (setting g.F.Shelf c.args.shelf.now c.args.now) c.args.self.now.state c.args.self.now.session) (sym c.in-Participate.is))
+
+pub returns-in-OptOut-clause-step : goal.returns-in-OptOut-clause-step
+returns-in-OptOut-clause-step g c tells =
+    leads c.args.self.now (opting_out c.args.self.now.state c.args.self.now.session c.in-OptOut.slug) c.opting_out.result (c.opting_out.ensures.prepares) (setting g.F.Shelf c.args.shelf.now c.args.now) c.args.command.now
+    (ap (outcome (setting g.F.Shelf c.args.shelf.now c.args.now) c.args.self.now.state c.args.self.now.session) (sym c.in-OptOut.is))
+
+pub returns-in-OptOut-clause-full : goal.returns-in-OptOut-clause-full
+returns-in-OptOut-clause-full g c full tells =
+    is_full c.args.self.now (opting_out c.args.self.now.state c.args.self.now.session c.in-OptOut.slug) c.opting_out.result (c.opting_out.ensures.prepares) (setting g.F.Shelf c.args.shelf.now c.args.now) c.args.command.now
+    (ap (outcome (setting g.F.Shelf c.args.shelf.now c.args.now) c.args.self.now.state c.args.self.now.session) (sym c.in-OptOut.is)) full
+
+pub returns-in-OptOut-clause-fits : goal.returns-in-OptOut-clause-fits
+returns-in-OptOut-clause-fits g c tells =
+    fits c.args.self.now (opting_out c.args.self.now.state c.args.self.now.session c.in-OptOut.slug) c.opting_out.result (c.opting_out.ensures.prepares) (setting g.F.Shelf c.args.shelf.now c.args.now) c.args.command.now
+    (ap (outcome (setting g.F.Shelf c.args.shelf.now c.args.now) c.args.self.now.state c.args.self.now.session) (sym c.in-OptOut.is))
+
+pub returns-in-OptIn-clause-step : goal.returns-in-OptIn-clause-step
+returns-in-OptIn-clause-step g c tells =
+    leads c.args.self.now (opting_in c.args.self.now.state c.args.self.now.session c.in-OptIn.slug c.in-OptIn.branch) c.opting_in.result (c.opting_in.ensures.prepares) (setting g.F.Shelf c.args.shelf.now c.args.now) c.args.command.now
+    (ap (outcome (setting g.F.Shelf c.args.shelf.now c.args.now) c.args.self.now.state c.args.self.now.session) (sym c.in-OptIn.is))
+
+pub returns-in-OptIn-clause-full : goal.returns-in-OptIn-clause-full
+returns-in-OptIn-clause-full g c full tells =
+    is_full c.args.self.now (opting_in c.args.self.now.state c.args.self.now.session c.in-OptIn.slug c.in-OptIn.branch) c.opting_in.result (c.opting_in.ensures.prepares) (setting g.F.Shelf c.args.shelf.now c.args.now) c.args.command.now
+    (ap (outcome (setting g.F.Shelf c.args.shelf.now c.args.now) c.args.self.now.state c.args.self.now.session) (sym c.in-OptIn.is)) full
+
+pub returns-in-OptIn-clause-fits : goal.returns-in-OptIn-clause-fits
+returns-in-OptIn-clause-fits g c tells =
+    fits c.args.self.now (opting_in c.args.self.now.state c.args.self.now.session c.in-OptIn.slug c.in-OptIn.branch) c.opting_in.result (c.opting_in.ensures.prepares) (setting g.F.Shelf c.args.shelf.now c.args.now) c.args.command.now
+    (ap (outcome (setting g.F.Shelf c.args.shelf.now c.args.now) c.args.self.now.state c.args.self.now.session) (sym c.in-OptIn.is))
+
+pub returns-in-Reset-clause-step : goal.returns-in-Reset-clause-step
+returns-in-Reset-clause-step g c tells =
+    leads c.args.self.now (resetting c.args.self.now.state c.args.self.now.session c.in-Reset.id) c.resetting.result (c.resetting.ensures.prepares) (setting g.F.Shelf c.args.shelf.now c.args.now) c.args.command.now
+    (ap (outcome (setting g.F.Shelf c.args.shelf.now c.args.now) c.args.self.now.state c.args.self.now.session) (sym c.in-Reset.is))
+
+pub returns-in-Reset-clause-full : goal.returns-in-Reset-clause-full
+returns-in-Reset-clause-full g c full tells =
+    is_full c.args.self.now (resetting c.args.self.now.state c.args.self.now.session c.in-Reset.id) c.resetting.result (c.resetting.ensures.prepares) (setting g.F.Shelf c.args.shelf.now c.args.now) c.args.command.now
+    (ap (outcome (setting g.F.Shelf c.args.shelf.now c.args.now) c.args.self.now.state c.args.self.now.session) (sym c.in-Reset.is)) full
+
+pub returns-in-Reset-clause-fits : goal.returns-in-Reset-clause-fits
+returns-in-Reset-clause-fits g c tells =
+    fits c.args.self.now (resetting c.args.self.now.state c.args.self.now.session c.in-Reset.id) c.resetting.result (c.resetting.ensures.prepares) (setting g.F.Shelf c.args.shelf.now c.args.now) c.args.command.now
+    (ap (outcome (setting g.F.Shelf c.args.shelf.now c.args.now) c.args.self.now.state c.args.self.now.session) (sym c.in-Reset.is))
+
+pub returns-in-Show-clause-step : goal.returns-in-Show-clause-step
+returns-in-Show-clause-step g c tells =
+    leads c.args.self.now (showing c.args.self.now.state c.args.self.now.session) c.showing.result (c.showing.ensures.prepares) (setting g.F.Shelf c.args.shelf.now c.args.now) c.args.command.now
+    (ap (outcome (setting g.F.Shelf c.args.shelf.now c.args.now) c.args.self.now.state c.args.self.now.session) (sym c.in-Show.is))
+
+pub returns-in-Show-clause-full : goal.returns-in-Show-clause-full
+returns-in-Show-clause-full g c full tells =
+    is_full c.args.self.now (showing c.args.self.now.state c.args.self.now.session) c.showing.result (c.showing.ensures.prepares) (setting g.F.Shelf c.args.shelf.now c.args.now) c.args.command.now
+    (ap (outcome (setting g.F.Shelf c.args.shelf.now c.args.now) c.args.self.now.state c.args.self.now.session) (sym c.in-Show.is)) full
+
+pub returns-in-Show-clause-fits : goal.returns-in-Show-clause-fits
+returns-in-Show-clause-fits g c tells =
+    fits c.args.self.now (showing c.args.self.now.state c.args.self.now.session) c.showing.result (c.showing.ensures.prepares) (setting g.F.Shelf c.args.shelf.now c.args.now) c.args.command.now
+    (ap (outcome (setting g.F.Shelf c.args.shelf.now c.args.now) c.args.self.now.state c.args.self.now.session) (sym c.in-Show.is))

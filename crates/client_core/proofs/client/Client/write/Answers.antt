@@ -1,7 +1,5 @@
 -- A record is appended.
-use Rattle.std.proofs.Common.{◌≡◌, ◌<◌, ℕ, List, length, refl, ap, subst, ◌∙◌, sym}
-use Rattle.host_model.specs.declared.side.Side.{Side}
-use Rattle.host_model.specs.declared.side.Side.TheVariants.{Left}
+use Rattle.std.proofs.Common.{refl, ap, ◌∙◌}
 use Rattle.gate_journal.specs.OpenSide.{OpenSide}
 use Rattle.client_core.proofs.Holding.{appending_met, holds_appended, keeps_left, gate_appended, all_kept, all_stand, settled}
 use Rattle.client_core.proofs.client.Client.write.Goals as goal

@@ -1,0 +1,179 @@
+-- A slug that is opted out stays so, until its user brings it back.
+use Rattle.std.proofs.Common.{Ordering, ◌≡◌, ℕ, Bool, true, false, List, [], ◌∷◌, length, Option, Some, None, Result, Ok, Err, Less, Equal, Greater, ◌||◌, refl, sym, ap, ◌∙◌, subst}
+use Rattle.std.specs.Prelude.{not, nat_lt, bytes_eq, if◌then◌else◌}
+use Rattle.std.specs.BTreeSet.{insert_key}
+use Rattle.std.specs.Cmp.Lexicographic.{bytes_decides}
+use Rattle.std.specs.Ordering.{match_ordering}
+use Rattle.json_tree.specs.Json.{Json}
+use Rattle.recipe_reader.specs.Payloads.{slug_cmp, payload_of, recipe_with}
+use Rattle.recipe_reader.specs.declared.payload.Payload.{Payload}
+use Rattle.recipe_reader.specs.declared.payload.PayloadFault.{PayloadFault}
+use Rattle.recipe_reader.specs.declared.payload.PayloadFault.TheVariants as payload
+use Rattle.recipe_reader.specs.declared.recipe.Recipe.{Recipe}
+use Rattle.enrol_states.specs.Choices.{has_no_room}
+use Rattle.enrol_states.specs.Commands.{after_opt_out, after_opt_in, after_reset, without_text}
+use Rattle.enrol_states.specs.Order.{is_in}
+use Rattle.enrol_states.specs.Recipes.{has_branch}
+use Rattle.enrol_states.specs.declared.state.State.{State}
+use Rattle.enrol_states.proofs.OptOuts.{is_in-insert}
+use Rattle.enrol_states.proofs.Ordered.{same_texts}
+use Rattle.state_codec.specs.Sound.{max_size}
+use Rattle.state_codec.specs.Spelling.{spelling}
+use Rattle.app_context.specs.Contexts.{context_of}
+use Rattle.enrol_evolver.specs.Evolution.{evolution}
+use Rattle.app_context.specs.declared.context.Context.{Context}
+use Rattle.app_context.specs.declared.key.ContextKey.{ContextKey}
+use Rattle.client_core.specs.declared.answer.Answer.{Answer}
+use Rattle.client_core.specs.declared.answer.Answer.TheVariants.{Okay, OptedOutLimit, NotParticipating, NoSuchBranch, StateTooLarge}
+use Rattle.client_core.specs.declared.command.Command.{Command}
+use Rattle.client_core.specs.declared.command.Command.TheVariants.{Fetch, Apply, Participate, OptOut, OptIn, Reset, Show}
+use Rattle.client_core.specs.declared.command.Command.TheVariants as commands
+use Rattle.client_core.specs.declared.session.Session.{Session}
+use Rattle.client_core.specs.Choosing.{first_taker}
+use Rattle.client_core.specs.Fetching.{file_tree}
+use Rattle.client_core.specs.OptOuts.{BringsBack, OptOutsHold}
+use Rattle.client_core.specs.Settings.{Setting}
+use Rattle.client_core.specs.Steps.{Outcome, Accepted, Refused, Step, participation, opting_out, taking, choosing, fetched, fetching, context_read, reading_context, applying, done, step}
+
+-- ---- one slug more or less
+
+inserted_at : (s t : List ℕ) (ts : List (List ℕ)) (o : Ordering) → slug_cmp s t ≡ o → is_in (insert_key slug_cmp ts s) s ≡ true → is_in (match_ordering o (s ∷ t ∷ ts) (t ∷ ts) (t ∷ insert_key slug_cmp ts s)) s ≡ true
+inserted_at s t ts Less e rest = ap (λ b. b || is_in (t ∷ ts) s) ((bytes_decides s s).1 refl)
+inserted_at s t ts Equal e rest = ap (λ b. b || is_in ts s) ((bytes_decides t s).1 (sym (same_texts s t e)))
+inserted_at s t ts Greater e rest = or_right (bytes_eq t s) (is_in (insert_key slug_cmp ts s) s) rest
+  where
+    or_right : (a b : Bool) → b ≡ true → (a || b) ≡ true
+    or_right true b h = refl
+    or_right false b h = h
+
+is_in-inserted : (s : List ℕ) (ts : List (List ℕ)) → is_in (insert_key slug_cmp ts s) s ≡ true
+is_in-inserted s [] = ap (λ b. b || false) ((bytes_decides s s).1 refl)
+is_in-inserted s (t ∷ ts) = inserted_at s t ts (slug_cmp s t) refl (is_in-inserted s ts)
+
+kept_at : (s u : List ℕ) (ts : List (List ℕ)) (b : Bool) → bytes_eq s u ≡ b → is_in ts u ≡ true → is_in (insert_key slug_cmp ts s) u ≡ true
+kept_at s u ts true e there = subst (λ v. is_in (insert_key slug_cmp ts s) v ≡ true) ((bytes_decides s u).0 e) (is_in-inserted s ts)
+kept_at s u ts false e there = is_in-insert s u ts e ∙ there
+
+kept-insert : (s u : List ℕ) (ts : List (List ℕ)) → is_in ts u ≡ true → is_in (insert_key slug_cmp ts s) u ≡ true
+kept-insert s u ts there = kept_at s u ts (bytes_eq s u) refl there
+
+first_kept : (t s u : List ℕ) (ts : List (List ℕ)) (b : Bool) → bytes_eq t s ≡ b → bytes_eq s u ≡ false → (is_in ts u ≡ true → is_in (without_text s ts) u ≡ true) → is_in (t ∷ ts) u ≡ true → is_in (if not b then t ∷ without_text s ts else without_text s ts) u ≡ true
+first_kept t s u ts true e other rest there = rest (sym (ap (λ c. c || is_in ts u) (ap (λ v. bytes_eq v u) ((bytes_decides t s).0 e) ∙ other)) ∙ there)
+first_kept t s u ts false e other rest there = either (bytes_eq t u) (is_in ts u) (is_in (without_text s ts) u) there rest
+  where
+    either : (a b c : Bool) → (a || b) ≡ true → (b ≡ true → c ≡ true) → (a || c) ≡ true
+    either true b c h f = refl
+    either false b c h f = f h
+
+kept-without : (s u : List ℕ) (ts : List (List ℕ)) → bytes_eq s u ≡ false → is_in ts u ≡ true → is_in (without_text s ts) u ≡ true
+kept-without s u [] other there = there
+kept-without s u (t ∷ ts) other there = first_kept t s u ts (bytes_eq t s) refl other (kept-without s u ts other) there
+
+-- ---- what is done
+
+either_step : (P : Step → Type 0) (b : Bool) (x y : Step) → P x → P y → P (if b then x else y)
+either_step P true x y here there = here
+either_step P false x y here there = there
+
+module _ (at : Setting) (s : State) (session : Session) (slug : List ℕ) (there : is_in s.opted_out slug ≡ true) where
+  -- an accepted state has the slug
+  abbrev Keeps : Outcome → Type 0
+  Keeps (Accepted t next answer) = is_in t.opted_out slug ≡ true
+  Keeps (Refused answer) = Unit {0}
+
+  done-keeps : (asked : Outcome) → Keeps asked → is_in (done s session asked).state.opted_out slug ≡ true
+  done-keeps (Accepted t next answer) keeps = either_step (λ to. is_in to.state.opted_out slug ≡ true) (nat_lt max_size (length (spelling t))) _ _ there keeps
+  done-keeps (Refused answer) keeps = there
+
+  context-keeps : (read : Result Context ContextKey) → Keeps (context_read s session read)
+  context-keeps (Ok context) = there
+  context-keeps (Err key) = tt
+
+  file-keeps : (read : Result Json Answer) → Keeps (reading_context s session read)
+  file-keeps (Ok tree) = context-keeps (context_of tree)
+  file-keeps (Err refusal) = tt
+
+  payload-keeps : (read : Result Payload PayloadFault) → Keeps (fetched s session read)
+  payload-keeps (Ok found) = there
+  payload-keeps (Err payload.NoData) = tt
+  payload-keeps (Err (payload.TooManyRecipes count)) = tt
+  payload-keeps (Err payload.OutOfMemory) = tt
+
+  fetch-keeps : (read : Result Json Answer) → Keeps (fetching s session read)
+  fetch-keeps (Ok tree) = payload-keeps (payload_of tree)
+  fetch-keeps (Err refusal) = tt
+
+  apply-keeps : (context : Option Context) → Keeps (applying at.now s session context)
+  unfolding evolution
+  apply-keeps None = tt
+  apply-keeps (Some context) = there
+
+  participation-keeps : (on : Bool) → Keeps (participation s session on)
+  participation-keeps true = there
+  participation-keeps false = there
+
+  out-keeps : (other : List ℕ) (full : Bool) → Keeps (if full then Refused OptedOutLimit else Accepted (after_opt_out s other) session Okay)
+  out-keeps other true = tt
+  out-keeps other false = kept-insert other slug s.opted_out there
+
+  -- it is kept where the command isn't done
+  abbrev KeepsUnless : Bool → Outcome → Type 0
+  KeepsUnless back asked = (back ≡ true → (done s session asked).answer ≡ Okay → ⊥) → is_in (done s session asked).state.opted_out slug ≡ true
+
+  unless_at : (t : State) (next : Session) (back large : Bool) → (back ≡ false → is_in t.opted_out slug ≡ true)
+      → let to : Step = if large then record { state = s; session = session; answer = StateTooLarge (length (spelling t)) } else record { state = t; session = next; answer = Okay } in
+      (back ≡ true → to.answer ≡ Okay → ⊥) → is_in to.state.opted_out slug ≡ true
+  unless_at t next back true keeps never = there
+  unless_at t next true false keeps never = absurd (never refl refl)
+  unless_at t next false false keeps never = keeps refl
+
+  accepted-unless : (t : State) (next : Session) (back : Bool) → (back ≡ false → is_in t.opted_out slug ≡ true) → KeepsUnless back (Accepted t next Okay)
+  accepted-unless t next back keeps = unless_at t next back (nat_lt max_size (length (spelling t))) keeps
+
+  module _ (other branch : List ℕ) where
+    taking-unless : (taker : Option (List ℕ × List ℕ)) → KeepsUnless (bytes_eq other slug) (taking s session other branch taker)
+    taking-unless None = accepted-unless (after_opt_in s other branch) session (bytes_eq other slug) (λ apart. kept-without other slug s.opted_out apart there)
+    taking-unless (Some taker) = λ never. there
+
+    branch-unless : (r : Recipe) (has : Bool) → KeepsUnless (bytes_eq other slug) (if has then taking s session other branch (first_taker s r s.rows) else Refused NoSuchBranch)
+    branch-unless r true = taking-unless (first_taker s r s.rows)
+    branch-unless r false = λ never. there
+
+    choosing-unless : (found : Option Recipe) → KeepsUnless (bytes_eq other slug) (choosing s session other branch found)
+    choosing-unless None = λ never. there
+    choosing-unless (Some r) = branch-unless r (has_branch r branch)
+
+    in-unless : (on : Bool) → KeepsUnless (bytes_eq other slug) (if on then choosing s session other branch (recipe_with other s.live) else Refused NotParticipating)
+    in-unless true = choosing-unless (recipe_with other s.live)
+    in-unless false = λ never. there
+
+  kept : (command : Command) → (BringsBack at s session slug command → ⊥) → is_in (step at s session command).state.opted_out slug ≡ true
+  unfolding step
+  kept (commands.Context file) never = done-keeps (reading_context s session (file_tree file (at.files file))) (file-keeps (file_tree file (at.files file)))
+  kept (Fetch file) never = done-keeps (fetching s session (file_tree file (at.files file))) (fetch-keeps (file_tree file (at.files file)))
+  kept Apply never = done-keeps (applying at.now s session session.context) (apply-keeps session.context)
+  kept (Participate on) never = done-keeps (participation s session on) (participation-keeps on)
+  kept (OptOut other) never = done-keeps (opting_out s session other) (out-keeps other (has_no_room s.opted_out other))
+  kept (OptIn other branch) never = in-unless other branch s.participating (λ back is_done. never (back, is_done))
+  kept (Reset id) never = accepted-unless (after_reset s id) session true (λ apart. absurd cc) (λ back is_done. never (back, is_done))
+  kept Show never = done-keeps (Accepted s session _) there
+
+-- ---- an opt-out
+
+taken_at : (s t : State) (session next : Session) (slug : List ℕ) (large : Bool) → is_in t.opted_out slug ≡ true
+    → let to : Step = if large then record { state = s; session = session; answer = StateTooLarge (length (spelling t)) } else record { state = t; session = next; answer = Okay } in
+    to.answer ≡ Okay → is_in to.state.opted_out slug ≡ true
+taken_at s t session next slug true has is_done = absurd cc
+taken_at s t session next slug false has is_done = has
+
+room_at : (s : State) (session : Session) (slug : List ℕ) (full : Bool) → (done s session (if full then Refused OptedOutLimit else Accepted (after_opt_out s slug) session Okay)).answer ≡ Okay
+    → is_in (done s session (if full then Refused OptedOutLimit else Accepted (after_opt_out s slug) session Okay)).state.opted_out slug ≡ true
+room_at s session slug true is_done = absurd cc
+room_at s session slug false is_done = taken_at s (after_opt_out s slug) session session slug (nat_lt max_size (length (spelling (after_opt_out s slug)))) (is_in-inserted slug s.opted_out) is_done
+
+taken : (at : Setting) (s : State) (session : Session) (slug : List ℕ) → (step at s session (OptOut slug)).answer ≡ Okay → is_in (step at s session (OptOut slug)).state.opted_out slug ≡ true
+unfolding step
+taken at s session slug is_done = room_at s session slug (has_no_room s.opted_out slug) is_done
+
+pub opt_outs_hold : OptOutsHold
+opt_outs_hold = record { taken = taken; kept = λ at s session slug command there never. kept at s session slug there command never }
