@@ -18,7 +18,10 @@ pub enum Answer {
         skipped: Sequence<(u32, SkipReason)>,
     },
     /// Enrolments have followed the recipes: in how many the client is enrolled, and how many rows there are.
-    Applied { enrolled: usize, rows: usize },
+    Applied {
+        enrolled: usize,
+        rows: usize,
+    },
     /// The state.
     Shown {
         id: Uuid,

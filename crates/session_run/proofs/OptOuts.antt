@@ -48,7 +48,7 @@ module _ (at : Setting) (s : State) (lines : List (List ℕ)) (slug : List ℕ) 
 
   out_from : (i : ℕ) → i ≤ length lines → IsOutFrom at s lines i slug → IsTrue (is_in (after at s lines i).opted_out slug)
   out_from i within (inl (start, there)) = subst (λ (n : ℕ). IsTrue (is_in (after at s lines n).opted_out slug)) (sym start) there
-  out_from i within (inr (j, (next, (line, (is, out))))) =
+  out_from i within (inr (j, next, (line, is, out))) =
       let inside : j < length lines = omega (arith, within, next) in
       let same : get_or lines j [] ≡ line = the_same (sym (slice_get-get_or lines j [] inside) ∙ is) in
       subst (λ (n : ℕ). IsTrue (is_in (after at s lines n).opted_out slug)) (sym next)

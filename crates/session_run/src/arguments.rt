@@ -54,10 +54,7 @@ pub(crate) fn alone(command: Command, arguments: &[(usize, usize)]) -> Result<Co
 }
 
 /// The words behind `participate`: the one word `yes` or `no`.
-pub(crate) fn participation(
-    line: &[u8],
-    arguments: &[(usize, usize)],
-) -> Result<Command, LineFault>
+pub(crate) fn participation(line: &[u8], arguments: &[(usize, usize)]) -> Result<Command, LineFault>
     requires { All (IsWithin (length line.now)) arguments.now }
     ensures { result ≡ participation (map (part_at line.now) arguments.now) }
 {
