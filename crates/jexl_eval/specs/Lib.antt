@@ -1,0 +1,6 @@
+pub mod Faults
+pub mod Numbers
+pub mod Elements
+pub mod Operations
+pub mod Meaning
+pub mod Gives

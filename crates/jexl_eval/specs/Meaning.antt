@@ -1,0 +1,71 @@
+-- What an expression means: a value, or the first fault from the left.
+use Rattle.std.specs.Prelude.{ℕ, Bool, not, List, [], ◌∷◌, Option, Some, None, Result, Ok, Err, if◌then◌else◌}
+use Rattle.json_tree.specs.Json.{Json, null, truth, whole, text, list, object, Items, no_items, item, Members, items_of, members_of, get_member}
+use Rattle.jexl_parser.specs.Tree as trees
+use Rattle.jexl_parser.specs.Tree.{Constant, Tree, Trees, Pairs, Literal, Named, Relative, Member, Index, Filter, Transform, Not, Binary, Choose, OrElse, none, one_more, no_pair, pair}
+use Rattle.jexl_value.specs.Meaning.{is_truthy}
+use Rattle.jexl_value.specs.Names.{with_member}
+use Rattle.jexl_transforms.specs.Answering.{has_name}
+use Rattle.jexl_transforms.specs.Meaning as transforms
+use Rattle.jexl_eval.specs.Faults.{Fault, UnknownTransform, BadArguments, ◌>>=◌}
+use Rattle.jexl_eval.specs.Elements.{or_null, member, index}
+use Rattle.jexl_eval.specs.Operations.{decided, operate, filter_items}
+
+abbrev pub constant : Constant → Json
+constant trees.Null = null
+constant (trees.Truth b) = truth b
+constant (trees.Whole n) = whole n
+constant (trees.Quote s) = text s
+
+abbrev pub answered : Option Json → Result Json Fault
+answered (Some x) = Ok x
+answered None = Err BadArguments
+
+-- the answer of a transform, where the table has these names
+abbrev pub transformed : List (List ℕ) → List ℕ → Json → List Json → Result Json Fault
+transformed names name subject arguments =
+    if has_name name names then answered (transforms.meaning name subject arguments) else Err UnknownTransform
+
+-- the truth that is decided, else what comes of the right side
+abbrev pub unless_decided : Option Bool → Result Json Fault → Result Json Fault
+unless_decided (Some b) right = Ok (truth b)
+unless_decided None right = right
+
+-- the items that are kept, each for the value that a condition has of it
+abbrev pub kept : (Json → Result Json Fault) → Items → Result (List Json) Fault
+kept condition no_items = Ok []
+kept condition (item x xs) = condition x >>= λ t. kept condition xs >>= λ ys. Ok (if is_truthy t then x ∷ ys else ys)
+
+-- members that get values, one after another
+abbrev pub with_members : List (List ℕ × Json) → List (List ℕ × Json) → List (List ℕ × Json)
+with_members so_far [] = so_far
+with_members so_far (m ∷ ms) = with_members (with_member m.0 m.1 so_far) ms
+
+-- for the names in the table, the attributes and the current item
+abbrev mutual
+  pub meaning : List (List ℕ) → Members → Json → Tree → Result Json Fault
+  meaning names attributes current (Literal c) = Ok (constant c)
+  meaning names attributes current (Named name) = Ok (or_null (get_member name attributes))
+  meaning names attributes current (Relative name) = Ok (member name current)
+  meaning names attributes current (trees.Items ts) = meanings names attributes current ts >>= λ xs. Ok (list (items_of xs))
+  meaning names attributes current (trees.Members ps) = pair_meanings names attributes current ps >>= λ ms. Ok (object (members_of (with_members [] ms)))
+  meaning names attributes current (Member a name) = meaning names attributes current a >>= λ x. Ok (member name x)
+  meaning names attributes current (Index a b) = meaning names attributes current a >>= λ x. meaning names attributes current b >>= λ key. Ok (index x key)
+  meaning names attributes current (Filter a b) =
+      meaning names attributes current a >>= λ x. filter_items x >>= λ xs. kept (λ y. meaning names attributes y b) xs >>= λ ys. Ok (list (items_of ys))
+  meaning names attributes current (Transform a name ts) =
+      meaning names attributes current a >>= λ x. meanings names attributes current ts >>= λ xs. transformed names name x xs
+  meaning names attributes current (Not a) = meaning names attributes current a >>= λ x. Ok (truth (not (is_truthy x)))
+  meaning names attributes current (Binary o a b) =
+      meaning names attributes current a >>= λ x. unless_decided (decided o x) (meaning names attributes current b >>= λ y. operate o x y)
+  meaning names attributes current (Choose a b c) =
+      meaning names attributes current a >>= λ x. if is_truthy x then meaning names attributes current b else meaning names attributes current c
+  meaning names attributes current (OrElse a c) = meaning names attributes current a >>= λ x. if is_truthy x then Ok x else meaning names attributes current c
+
+  pub meanings : List (List ℕ) → Members → Json → Trees → Result (List Json) Fault
+  meanings names attributes current none = Ok []
+  meanings names attributes current (one_more t ts) = meaning names attributes current t >>= λ x. meanings names attributes current ts >>= λ xs. Ok (x ∷ xs)
+
+  pub pair_meanings : List (List ℕ) → Members → Json → Pairs → Result (List (List ℕ × Json)) Fault
+  pair_meanings names attributes current no_pair = Ok []
+  pair_meanings names attributes current (pair name t ps) = meaning names attributes current t >>= λ x. pair_meanings names attributes current ps >>= λ ms. Ok ((name, x) ∷ ms)
