@@ -1,0 +1,7 @@
+pub mod Outcome
+pub mod Trees
+pub mod Values
+pub mod Walks
+pub mod Fields
+pub mod Features
+pub mod Modules

@@ -1,0 +1,19 @@
+//! One file of a feature manifest, read from its JSON tree.
+//!
+//! The keys and shapes are those of the Feature Manifest Language (FML). Keys that aren't named
+//! here are read past, descriptions among them.
+#![tactic(auto)]
+
+mod fault;
+mod features;
+mod fields;
+mod module;
+mod names;
+mod values;
+
+pub use fault::ModuleFault;
+pub use module::{Module, read_module};
+pub use sequences::Text;
+
+#[cfg(test)]
+mod tests;

@@ -1,0 +1,57 @@
+// Names that commas divide.
+ghost use Rattle.std.specs.Prelude.{◌≡◌, ◌++◌, position, IfOk, OnOk};
+ghost use Rattle.fml_types.specs.TypeTexts.{without_front, without_end};
+ghost use Rattle.fml_reader.specs.Features.{is_comma, kept_name, names_in};
+
+use fml_types::without_spaces;
+use memchr::memchr;
+use sequences::{Sequence, Text};
+use std::alloc::{AllocError, Global};
+use std::str;
+
+/// The names that commas divide, each without the spaces around it. Empty names are dropped.
+pub(crate) fn names_in(alloc: Global, text: &str) -> Result<Sequence<Text>, AllocError>
+    ensures { IfOk result (λ names. names ≡ names_in text.now) }
+{
+    pieces(alloc, text.as_bytes())
+}
+
+fn pieces(alloc: Global, bytes: &[u8]) -> Result<Sequence<Text>, AllocError>
+    ensures { IfOk result (λ names. names ≡ names_in bytes.now) }
+{
+    let mut names = Sequence::new(alloc);
+    let mut start = 0;
+    while let Some(len) = first_comma(&bytes[start..]) {
+        push_name(alloc, &mut names, &bytes[start..start + len])?;
+        start += len + 1;
+    }
+    push_name(alloc, &mut names, &bytes[start..])?;
+    Ok(names)
+}
+
+fn first_comma(bytes: &[u8]) -> Option<usize>
+    ensures { result ≡ position is_comma bytes.now }
+{
+    memchr(b',', bytes)
+}
+
+fn push_name(alloc: Global, names: &mut Sequence<Text>, piece: &[u8]) -> Result<(), AllocError>
+    ensures { OnOk result (names.new ≡ names.old ++ kept_name (without_front (without_end piece.now))) }
+{
+    push_kept(alloc, names, without_spaces(piece))
+}
+
+fn push_kept(alloc: Global, names: &mut Sequence<Text>, name: &[u8]) -> Result<(), AllocError>
+    ensures { OnOk result (names.new ≡ names.old ++ kept_name name.now) }
+{
+    if name.len() == 0 {
+        return Ok(());
+    }
+    match str::from_utf8(name) {
+        Ok(text) => {
+            names.push(Text::new(alloc, text)?)?;
+            Ok(())
+        }
+        Err(_) => Ok(()),
+    }
+}
