@@ -1,4 +1,5 @@
 pub mod Results
+pub mod Orders
 pub mod Units
 pub mod Passing
 pub mod Validity

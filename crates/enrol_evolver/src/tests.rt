@@ -1,8 +1,6 @@
 // Applies to the state of a client, row by row.
-ghost use Rattle.std.specs.Prelude.{◌≤◌, All, IfOk, IsTrue};
-ghost use Rattle.plain_text.specs.Names.{is_name};
+ghost use Rattle.std.specs.Prelude.{◌≤◌, IfOk};
 ghost use Rattle.recipe_reader.specs.Payloads.{AreValid};
-ghost use Rattle.enrol_states.specs.Order.{Rise};
 ghost use Rattle.enrol_states.specs.Statuses.{last_moment};
 ghost use Rattle.enrol_states.specs.Consistent.{IsConsistent};
 
@@ -13,9 +11,9 @@ use enrol_states::{
     Verdict, opt_in, opt_out, participate,
 };
 use json_tree::read;
-use plain_text::{Slug, SlugFault, is_name, slug_of};
-use recipe_reader::{PayloadFault, Recipes, read_payload};
-use sequences::{Sequence, Text};
+use plain_text::{Slug, SlugFault, slug_of};
+use recipe_reader::{PayloadFault, Recipes, read_payload, read_record};
+use sequences::Sequence;
 use std::alloc::{AllocError, Global};
 use std::test::Fail;
 use uuid::Uuid;
@@ -83,22 +81,22 @@ fn context(alloc: Global) -> Result<Context, Fail> {
 // ---- states
 
 // The state with these recipes pending.
-fn fetched(alloc: Global, state: &State, records: &str) -> Result<State, Fail>
-    requires { IsConsistent state.now }
+fn fetched(alloc: Global, state: State, records: &str) -> Result<State, Fail>
+    requires { IsConsistent state }
     ensures { IfOk result IsConsistent }
 {
     let recipes = recipes(alloc, records)?;
     if recipes.as_slice().len() > MAX_RECIPES {
         return Err(Fail::from("too many recipes"));
     }
-    let mut next = state.clone()?;
+    let mut next = state;
     next.pending = Some(recipes);
     Ok(next)
 }
 
 // The state after these recipes were fetched and applied, where no feature may be shared.
-fn applied(alloc: Global, state: &State, records: &str, now: u64) -> Result<State, Fail>
-    requires consistent { IsConsistent state.now }
+fn applied(alloc: Global, state: State, records: &str, now: u64) -> Result<State, Fail>
+    requires consistent { IsConsistent state }
     requires moment { now ≤ last_moment }
     ensures { IfOk result IsConsistent }
 {
@@ -196,7 +194,7 @@ fn shows(alloc: Global, state: &State, want: &str) -> Result<(), Fail> {
 // A new client's row for one recipe alpha with these members.
 fn first_row(alloc: Global, id: [u8; 16], members: &str, want: &str) -> Result<(), Fail> {
     let record = plain(alloc, "alpha", "homescreen", members)?;
-    let state = applied(alloc, &fresh(alloc, id), record.as_str(), NOW)?;
+    let state = applied(alloc, fresh(alloc, id), record.as_str(), NOW)?;
     shows(alloc, &state, want)
 }
 
@@ -233,7 +231,7 @@ fn halves(alloc: Global, slug: &str, want: &str) -> Result<(), Fail> {
     let branches =
         ",\"branches\":[{\"slug\":\"control\",\"ratio\":1},{\"slug\":\"treatment\",\"ratio\":1}]";
     let record = plain(alloc, slug, "homescreen", branches)?;
-    let state = applied(alloc, &fresh(alloc, ID), record.as_str(), NOW)?;
+    let state = applied(alloc, fresh(alloc, ID), record.as_str(), NOW)?;
     shows(alloc, &state, want)
 }
 
@@ -280,22 +278,12 @@ fn branches_and_first_lines(rt: HostRuntime) -> Result<(), Fail> {
 #[test]
 fn one_verdict(rt: HostRuntime) -> Result<(), Fail> {
     let alloc = rt.alloc();
-    let record = plain(alloc, "alpha", "homescreen", "")?;
-    let state = fetched(alloc, &fresh(alloc, ID), record.as_str())?;
-    is_treatment(alloc, &state)
-}
-
-fn is_treatment(alloc: Global, state: &State) -> Result<(), Fail>
-    requires { IsConsistent state.now }
-{
-    let context = context(alloc)?;
-    let Some(recipes) = &state.pending else {
-        return Err(Fail::from("no recipes"));
-    };
-    let Some(recipe) = recipes.get("alpha") else {
+    let text = plain(alloc, "alpha", "homescreen", "")?;
+    let tree = read(alloc, text.as_bytes())?;
+    let Ok(recipe) = read_record(alloc, &tree) else {
         return Err(Fail::from("no recipe"));
     };
-    match verdict(alloc, recipe, state, &context, NOW)? {
+    match verdict(alloc, &recipe, &fresh(alloc, ID), &context(alloc)?, NOW)? {
         Verdict::Qualified(branch) => check(branch.text() == "treatment"),
         _ => Err(Fail::from("another verdict")),
     }
@@ -318,7 +306,7 @@ fn conflict(alloc: Global) -> Result<State, Fail>
         ",\"publishedDate\":\"2023-01-01\"",
     )?;
     let both = format!(in alloc; "{alpha},{beta}")?;
-    applied(alloc, &fresh(alloc, ID), both.as_str(), NOW)
+    applied(alloc, fresh(alloc, ID), both.as_str(), NOW)
 }
 
 #[test]
@@ -344,7 +332,7 @@ fn conflict_ended(alloc: Global) -> Result<State, Fail>
         "homescreen",
         ",\"publishedDate\":\"2023-02-01\"",
     )?;
-    applied(alloc, &state, alpha.as_str(), NOW)
+    applied(alloc, state, alpha.as_str(), NOW)
 }
 
 #[test]
@@ -358,32 +346,38 @@ fn conflict_ends_with_the_recipe(rt: HostRuntime) -> Result<(), Fail> {
     )
 }
 
+// The rows after a later apply of alpha alone.
+fn later_rows(alloc: Global, now: u64, want: &str) -> Result<(), Fail>
+    requires { now ≤ last_moment }
+{
+    let state = conflict_ended(alloc)?;
+    let alpha = plain(alloc, "alpha", "homescreen", "")?;
+    let later = applied(alloc, state, alpha.as_str(), now)?;
+    check(later.updated == NOW)?;
+    shows(alloc, &later, want)
+}
+
 #[test]
 fn ended_rows_kept_a_year(rt: HostRuntime) -> Result<(), Fail> {
     let alloc = rt.alloc();
-    let state = conflict_ended(alloc)?;
-    let alpha = plain(alloc, "alpha", "homescreen", "")?;
-    let kept = applied(alloc, &state, alpha.as_str(), 1_731_535_999)?;
-    shows(
+    later_rows(
         alloc,
-        &kept,
+        1_731_535_999,
         "alpha Enrolled Qualified treatment\nbeta WasEnrolled treatment 1700000000\n",
     )?;
-    let gone = applied(alloc, &state, alpha.as_str(), 1_731_536_000)?;
-    shows(alloc, &gone, "alpha Enrolled Qualified treatment\n")?;
-    check(gone.updated == NOW)
+    later_rows(alloc, 1_731_536_000, "alpha Enrolled Qualified treatment\n")
 }
 
 #[test]
 fn paused_recipe(rt: HostRuntime) -> Result<(), Fail> {
     let alloc = rt.alloc();
     let alpha = plain(alloc, "alpha", "homescreen", "")?;
-    let state = applied(alloc, &fresh(alloc, ID), alpha.as_str(), NOW)?;
+    let state = applied(alloc, fresh(alloc, ID), alpha.as_str(), NOW)?;
     let paused = ",\"isEnrollmentPaused\":true";
     let alpha = plain(alloc, "alpha", "homescreen", paused)?;
     let beta = plain(alloc, "beta", "messaging", paused)?;
     let both = format!(in alloc; "{alpha},{beta}")?;
-    let state = applied(alloc, &state, both.as_str(), NOW)?;
+    let state = applied(alloc, state, both.as_str(), NOW)?;
     shows(
         alloc,
         &state,
@@ -395,12 +389,12 @@ fn paused_recipe(rt: HostRuntime) -> Result<(), Fail> {
 fn participation_off_and_on(rt: HostRuntime) -> Result<(), Fail> {
     let alloc = rt.alloc();
     let alpha = plain(alloc, "alpha", "homescreen", "")?;
-    let state = applied(alloc, &fresh(alloc, ID), alpha.as_str(), NOW)?;
+    let state = applied(alloc, fresh(alloc, ID), alpha.as_str(), NOW)?;
     let state = participate(alloc, &state, false)?;
     let state = participate(alloc, &state, true)?;
     let beta = plain(alloc, "beta", "messaging", "")?;
     let both = format!(in alloc; "{alpha},{beta}")?;
-    let state = applied(alloc, &state, both.as_str(), NOW)?;
+    let state = applied(alloc, state, both.as_str(), NOW)?;
     shows(
         alloc,
         &state,
@@ -413,12 +407,12 @@ fn participation_off_and_on(rt: HostRuntime) -> Result<(), Fail> {
 fn opt_out_outlives_the_recipe(rt: HostRuntime) -> Result<(), Fail> {
     let alloc = rt.alloc();
     let alpha = plain(alloc, "alpha", "homescreen", "")?;
-    let state = applied(alloc, &fresh(alloc, ID), alpha.as_str(), NOW)?;
+    let state = applied(alloc, fresh(alloc, ID), alpha.as_str(), NOW)?;
     let Ok(state) = opt_out(alloc, &state, &slug(alloc, "alpha")?) else {
         return Err(Fail::from("the opt-out is refused"));
     };
-    let state = applied(alloc, &state, "", NOW)?;
-    let state = applied(alloc, &state, alpha.as_str(), NOW)?;
+    let state = applied(alloc, state, "", NOW)?;
+    let state = applied(alloc, state, alpha.as_str(), NOW)?;
     shows(alloc, &state, "alpha WasEnrolled treatment 1700000000\n")?;
     let Ok(state) = opt_in(
         alloc,
@@ -428,45 +422,6 @@ fn opt_out_outlives_the_recipe(rt: HostRuntime) -> Result<(), Fail> {
     ) else {
         return Err(Fail::from("the opt-in is refused"));
     };
-    let state = applied(alloc, &state, alpha.as_str(), NOW)?;
+    let state = applied(alloc, state, alpha.as_str(), NOW)?;
     shows(alloc, &state, "alpha Enrolled OptIn treatment\n")
-}
-
-// The features that recipes of one kind may share: messaging or none.
-fn shared(alloc: Global, is_shared: bool) -> Result<Sequence<Text>, Fail>
-    ensures names { IfOk result (All (λ name. IsTrue (is_name name))) }
-    ensures order { IfOk result Rise }
-{
-    let mut names = Sequence::new(alloc);
-    if !is_shared {
-        return Ok(names);
-    }
-    let name = Text::new(alloc, "messaging")?;
-    if !is_name(name.as_str().as_bytes()) {
-        return Err(Fail::from("no name"));
-    }
-    names.push(name)?;
-    Ok(names)
-}
-
-#[test]
-fn coenrollment_withdrawn(rt: HostRuntime) -> Result<(), Fail> {
-    let alloc = rt.alloc();
-    let alpha = plain(alloc, "alpha", "messaging", "")?;
-    let beta = plain(alloc, "beta", "messaging", "")?;
-    let both = format!(in alloc; "{alpha},{beta}")?;
-    let context = context(alloc)?;
-    let state = fetched(alloc, &fresh(alloc, ID), both.as_str())?;
-    let state = evolve(alloc, &state, &context, shared(alloc, true)?, NOW)?;
-    shows(
-        alloc,
-        &state,
-        "alpha Enrolled Qualified treatment\nbeta Enrolled Qualified treatment\n",
-    )?;
-    let state = evolve(alloc, &state, &context, shared(alloc, false)?, NOW)?;
-    shows(
-        alloc,
-        &state,
-        "alpha Enrolled Qualified treatment\nbeta Disqualified FeatureConflict treatment\n",
-    )
 }
