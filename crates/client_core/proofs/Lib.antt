@@ -8,3 +8,4 @@ mod Judging
 pub mod Placing
 pub mod Refusing
 pub mod Uniqueness
+mod Soundness

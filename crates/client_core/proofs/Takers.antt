@@ -6,7 +6,7 @@ use Rattle.std.specs.Cmp.{first_so, second_so}
 use Rattle.std.specs.List.{list_any}
 use Rattle.std.specs.Ordering.{is_le}
 use Rattle.std.proofs.lemmas.List.{get_or_default}
-use Rattle.std.proofs.lemmas.List.Elements.{All-head, All-tail}
+use Rattle.std.proofs.lemmas.List.Elements.{All-nil, All-cons, All-head, All-tail}
 use Rattle.recipe_reader.specs.Payloads.{slug_cmp, recipe_with}
 use Rattle.recipe_reader.specs.declared.recipe.Recipe.{Recipe}
 use Rattle.recipe_reader.specs.declared.recipe.Branch.{Branch}
@@ -147,6 +147,26 @@ taker_is s r holder feature rise taken =
         let up = turned_up (get_or s.rows k d).slug (get_or s.rows i d).slug (rises_by slug_of s.rows k i d less within rise) in
         let above : slug_cmp holder (get_or s.rows k d).slug ≡ Greater = subst (λ t. slug_cmp t (get_or s.rows k d).slug ≡ Greater) here_slug up in
         never (slug_cmp holder (get_or s.rows k d).slug) above (taken.least_slug k d (omega (arith, less, within)) f takes_it))
+
+-- where there is no taker, the recipe is free
+none_least : (test : List ℕ → Bool) (ts : List (List ℕ)) (o : Option (List ℕ)) → least_of test ts ≡ o → IsLeast test o → o ≡ None → (f : List ℕ) → test f ≡ false
+none_least test ts None is least none = least
+none_least test ts (Some f) is least none = absurd cc
+
+later_none : (slug : List ℕ) (o : Option (List ℕ)) (rest : Option (List ℕ × List ℕ)) → taker_or slug o rest ≡ None → (o ≡ None) × (rest ≡ None)
+later_none slug None rest e = (refl, e)
+later_none slug (Some f) rest e = absurd cc
+
+free_of_none : (s : State) (r : Recipe) (rows : List Row) → first_taker s r rows ≡ None → All (λ row. (f : List ℕ) → takes s r row f ≡ false) rows
+free_of_none s r [] e = All-nil (λ row. (f : List ℕ) → takes s r row f ≡ false)
+free_of_none s r (row ∷ rows) e =
+    let parts = later_none row.slug (least_of (takes s r row) (features_in r.branches)) (first_taker s r rows) e in
+    All-cons (λ p. (f : List ℕ) → takes s r p f ≡ false) row rows
+    (none_least (takes s r row) (features_in r.branches) (least_of (takes s r row) (features_in r.branches)) refl (least-taken s r row) parts.0)
+    (free_of_none s r rows parts.1)
+
+pub free_where : (s : State) (r : Recipe) → first_taker s r s.rows ≡ None → IsFree s r
+free_where s r none = free_of_none s r s.rows none
 
 -- ---- the step
 

@@ -11,5 +11,6 @@ pub mod Places
 pub mod Prepared
 pub mod Sessions
 pub mod Settings
+pub mod Soundness
 pub mod Steps
 pub mod Store

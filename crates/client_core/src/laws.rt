@@ -2,6 +2,7 @@
 ghost use Rattle.std.specs.Prelude.{◌≡◌, ℕ, List};
 ghost use Rattle.enrol_states.specs.declared.state.State.{State};
 ghost use Rattle.client_core.specs.OptOuts.{OptOutsHold};
+ghost use Rattle.client_core.specs.Soundness.{StepsStaySound};
 ghost use Rattle.client_core.specs.Store.{StandsFor, KeptFor};
 
 /// A pair of sides stands for one state at most, and so it is kept for one at most.
@@ -14,4 +15,11 @@ pub fn one_state()
 /// the slug, or a reset.
 pub fn opt_outs_hold()
     ensures { OptOutsHold }
+{}
+
+/// A step from a consistent state and a lawful session gives such a state and such a session, for every command, files
+/// and moment; so features stay with one recipe of a kind, also where an apply changes recipes, their kinds or features.
+/// A state doesn't grow past the size that a state may have.
+pub fn steps_stay_sound()
+    ensures { StepsStaySound }
 {}

@@ -19,7 +19,7 @@ pub use answer::Answer;
 pub use client::Client;
 pub use command::Command;
 pub use faults::{ClientFault, MakeFault, StepFault};
-pub use laws::{one_state, opt_outs_hold};
+pub use laws::{one_state, opt_outs_hold, steps_stay_sound};
 pub use prepared::Prepared;
 pub use session::Session;
 
