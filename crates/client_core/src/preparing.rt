@@ -4,6 +4,8 @@ ghost use Rattle.host_model.specs.Causes.{Rose};
 ghost use Rattle.enrol_states.specs.Consistent.{IsConsistent};
 ghost use Rattle.enrol_states.specs.State.{last_moment};
 ghost use Rattle.enrol_states.specs.Statuses.{is_enrolled};
+ghost use Rattle.jexl_transforms.specs.Meaning.{standard_names};
+ghost use Rattle.jexl_transforms.specs.Table.{names_of};
 ghost use Rattle.state_codec.specs.Sound.{IsSound};
 ghost use Rattle.state_codec.specs.Spelling.{spelling};
 ghost use Rattle.client_core.specs.Places.{IsFullFor};
@@ -19,6 +21,7 @@ use enrol_evolver::evolve;
 use enrol_states::{Row, State, Status};
 use gate_journal::{Frame, SIDE_END};
 use host_model::Shelf;
+use jexl_transforms::TransformTable;
 use plain_text::Slug;
 use sequences::Sequence;
 use state_codec::{state_size, write_state};
@@ -32,16 +35,19 @@ impl Client {
     ghost use Rattle.client_core.specs.Prepared.{IsMadeOn, IsChange, Leads, Prepares, changed};
 
     /// Prepares the step of a command at a moment, in whole seconds since 1970. It changes neither the state nor the
-    /// session, and writes nothing. A command that is refused is `Ok` with its refusal as the answer.
+    /// session, and writes nothing. A command that is refused is `Ok` with its refusal as the answer. The table has the
+    /// transforms that targeting may name.
     pub fn prepare<F: Shelf>(
         &self,
         alloc: Global,
         command: &Command,
         now: u64,
+        table: &TransformTable,
         shelf: &mut F,
     ) -> Result<Prepared, StepFault>
         requires sound { IsSound (state_of self.now) }
         requires moment { now ≤ last_moment }
+        requires table { names_of table.now ≡ standard_names }
 
         ensures made { IfOk result (λ prepared. IsMadeOn self.now prepared) }
         ensures step { F.tells → IfOk result (λ prepared. Leads self.now prepared (step_of self.now (setting F.Shelf shelf.old now) command.now)) }
@@ -59,7 +65,7 @@ impl Client {
         match command {
             Command::Context { file } => self.reading_context(alloc, shelf, file),
             Command::Fetch { file } => self.fetching(alloc, shelf, file),
-            Command::Apply => self.applying(alloc, now),
+            Command::Apply => self.applying(alloc, table, now),
             Command::Participate { on } => self.participating(alloc, *on),
             Command::OptOut { slug } => self.opting_out(alloc, slug),
             Command::OptIn { slug, branch } => self.opting_in(alloc, slug, branch),
@@ -93,16 +99,29 @@ impl Client {
     }
 
     /// The step of `apply`.
-    fn applying(&self, alloc: Global, now: u64) -> Result<Prepared, StepFault>
+    fn applying(
+        &self,
+        alloc: Global,
+        table: &TransformTable,
+        now: u64,
+    ) -> Result<Prepared, StepFault>
         requires consistent { IsConsistent self.now.state }
         requires moment { now ≤ last_moment }
+        requires table { names_of table.now ≡ standard_names }
         ensures not_shelf { ¬ IsErrOf result StepFault.ShelfFault }
         ensures prepares { Prepares self.now (applying now self.now.state self.now.session self.now.session.context) result }
     {
         let Some(context) = &self.session.context else {
             return Ok(self.unchanged(Answer::NoContext));
         };
-        let next = evolve(alloc, &self.state, context, Sequence::new(alloc), now)?;
+        let next = evolve(
+            alloc,
+            &self.state,
+            context,
+            Sequence::new(alloc),
+            table,
+            now,
+        )?;
         let answer = applied_answer(&next);
         self.accepted(alloc, next, answer)
     }

@@ -1,6 +1,10 @@
 // Clients over sides and files in memory. Each check is a small function of its own.
 use super::*;
 use host_model::{Choice, MemHost, MemShelf, Side};
+use jexl_transforms::{
+    Transform, TransformTable, bucket_transform, date_transform, version_transform,
+};
+use jexl_value::{Attributes, Value};
 use std::alloc::Global;
 use std::test::Fail;
 use uuid::Uuid;
@@ -74,10 +78,36 @@ fn does(
     command: &Command,
     wanted: Wanted,
 ) -> Result<(), Fail> {
+    let version: Transform = Box::new(
+        alloc,
+        |attributes: &Attributes, subject: &Value, arguments: &[Value]| {
+            version_transform(attributes, subject, arguments)
+        },
+    )?;
+    let date: Transform = Box::new(
+        alloc,
+        |attributes: &Attributes, subject: &Value, arguments: &[Value]| {
+            date_transform(attributes, subject, arguments)
+        },
+    )?;
+    let bucket: Transform = Box::new(
+        alloc,
+        move |attributes: &Attributes, subject: &Value, arguments: &[Value]| {
+            bucket_transform(alloc, attributes, subject, arguments)
+        },
+    )?;
+    let mut table = TransformTable::new(alloc);
+    let (Ok(()), Ok(()), Ok(())) = (
+        table.push(alloc, "versionCompare", version),
+        table.push(alloc, "date", date),
+        table.push(alloc, "bucketSample", bucket),
+    ) else {
+        return Err(Fail::from("the table has no room"));
+    };
     let Ok(mut client) = Client::open(alloc, host) else {
         return Err(Fail::from("the store isn't opened"));
     };
-    let Ok(prepared) = client.prepare(alloc, command, NOW, shelf) else {
+    let Ok(prepared) = client.prepare(alloc, command, NOW, &table, shelf) else {
         return Err(Fail::from("the step isn't prepared"));
     };
     let is_answered = is_wanted(prepared.answer(), wanted);

@@ -5,6 +5,8 @@ ghost use Rattle.host_model.specs.Hosts.{MeetsAll};
 ghost use Rattle.gate_journal.specs.Records.{place_of};
 ghost use Rattle.enrol_states.specs.declared.state.State.{State};
 ghost use Rattle.enrol_states.specs.State.{fresh, last_moment};
+ghost use Rattle.jexl_transforms.specs.Meaning.{standard_names};
+ghost use Rattle.jexl_transforms.specs.Table.{names_of};
 ghost use Rattle.client_core.specs.Moments.{IsLeftAs};
 ghost use Rattle.client_core.specs.OpenStore.{AllKept, AllKeptAmong, AllStand};
 ghost use Rattle.client_core.specs.Settings.{setting};
@@ -24,10 +26,13 @@ use crate::run::run;
 use crate::status::RunStatus;
 use crate::words::{Request, read_words};
 use host_model::{Host, Shelf, Side, Source};
+use jexl_transforms::TransformTable;
 use std::alloc::Global;
 
 /// Does what the words ask for: `init ID` makes a store with that id and the moment `now`, in whole seconds since
 /// 1970, and says `ready ID`. `run` reads the source to its end, opens the store, and does and answers each line.
+///
+/// The table has the standard transforms of targeting (`versionCompare`, `date`, `bucketSample`), in this order.
 ///
 /// Clauses on content hold where the source, the shelf and the host tell what they hold. What reads give is one of the
 /// images. With the shelf's files and this moment as the setting, `after setting s lines k` is the state after the first
@@ -36,11 +41,13 @@ pub fn nimbus<S: Source, F: Shelf, H: Host>(
     alloc: Global,
     words: &[String],
     now: u64,
+    table: &TransformTable,
     source: &mut S,
     shelf: &mut F,
     host: &mut H,
 ) -> RunStatus
     requires moment { now ≤ last_moment }
+    requires table { names_of table.now ≡ standard_names }
 
     // Words without a form are refused, and only these. Nothing is touched then.
     ensures usage { (result ≡ RunStatus.Usage) ↔ (¬ HasForm (map string_bytes words.now)) }
@@ -145,6 +152,6 @@ pub fn nimbus<S: Source, F: Shelf, H: Host>(
     match read_words(words) {
         None => RunStatus::Usage,
         Some(Request::Init(id)) => init(alloc, id, now, host),
-        Some(Request::Run) => run(alloc, source, shelf, host, now),
+        Some(Request::Run) => run(alloc, source, shelf, host, now, table),
     }
 }

@@ -4,6 +4,8 @@ ghost use Rattle.host_model.specs.Causes.{Rose};
 ghost use Rattle.host_model.specs.Hosts.{MeetsAll};
 ghost use Rattle.enrol_states.specs.State.{last_moment};
 ghost use Rattle.state_codec.specs.Sound.{IsSound};
+ghost use Rattle.jexl_transforms.specs.Meaning.{standard_names};
+ghost use Rattle.jexl_transforms.specs.Table.{names_of};
 ghost use Rattle.client_core.specs.Clients.{state_of, session_of, end_of, IsOpenOn, HasGateOn, step_of};
 ghost use Rattle.client_core.specs.Places.{place_after, IsFullFor};
 ghost use Rattle.client_core.specs.Prepared.{IsMadeOn, next_state, next_session};
@@ -20,6 +22,7 @@ use crate::faults::RunFault;
 use crate::saying::say_answer;
 use client_core::{Client, Command, Prepared};
 use host_model::{Host, Shelf};
+use jexl_transforms::TransformTable;
 use std::alloc::Global;
 
 /// Writes what a prepared step leaves, and then says its answer. It takes no memory.
@@ -66,10 +69,12 @@ fn run_command<F: Shelf, H: Host>(
     client: &mut Client,
     shelf: &mut F,
     now: u64,
+    table: &TransformTable,
     command: &Command,
 ) -> Result<(), RunFault>
     requires sound { IsSound (state_of client.old) }
     requires moment { now ≤ last_moment }
+    requires table { names_of table.now ≡ standard_names }
     requires holds { H.tells → IsOpenOn H.Host client.old host.old }
 
     ensures any_moment { F.tells → H.tells → HasGateOn H.Host client.old host.old
@@ -102,7 +107,7 @@ fn run_command<F: Shelf, H: Host>(
     ensures disk_faults { H.disk_faults host.old ≤ H.disk_faults host.new }
     ensures say_faults { H.say_faults host.old ≤ H.say_faults host.new }
 {
-    let prepared = client.prepare(alloc, command, now, shelf)?;
+    let prepared = client.prepare(alloc, command, now, table, shelf)?;
     let text = answer_text(alloc, prepared.answer())?;
     commit(host, client, prepared, text.as_str())
 }
@@ -142,10 +147,12 @@ pub(crate) fn run_line<F: Shelf, H: Host>(
     client: &mut Client,
     shelf: &mut F,
     now: u64,
+    table: &TransformTable,
     line: &[u8],
 ) -> Result<(), RunFault>
     requires sound { IsSound (state_of client.old) }
     requires moment { now ≤ last_moment }
+    requires table { names_of table.now ≡ standard_names }
     requires holds { H.tells → IsOpenOn H.Host client.old host.old }
 
     // At each moment: the text of before with the old or the new state, or the new state with a prefix of the answer.
@@ -177,7 +184,7 @@ pub(crate) fn run_line<F: Shelf, H: Host>(
     ensures say_faults { H.say_faults host.old ≤ H.say_faults host.new }
 {
     match read_command(alloc, line) {
-        Ok(command) => run_command(alloc, host, client, shelf, now, &command),
+        Ok(command) => run_command(alloc, host, client, shelf, now, table, &command),
         Err(LineFault::OutOfMemory) => Err(RunFault::OutOfMemory),
         Err(fault) => refuse(alloc, host, client, fault),
     }

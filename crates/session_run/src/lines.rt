@@ -4,6 +4,8 @@ ghost use Rattle.host_model.specs.Causes.{Rose};
 ghost use Rattle.host_model.specs.Hosts.{MeetsAll};
 ghost use Rattle.enrol_states.specs.State.{last_moment};
 ghost use Rattle.state_codec.specs.Sound.{IsSound};
+ghost use Rattle.jexl_transforms.specs.Meaning.{standard_names};
+ghost use Rattle.jexl_transforms.specs.Table.{names_of};
 ghost use Rattle.client_core.specs.Clients.{state_of, session_of, end_of, IsOpenOn, HasGateOn};
 ghost use Rattle.client_core.specs.OpenStore.{AllKept, AllStand};
 ghost use Rattle.client_core.specs.Settings.{setting};
@@ -19,6 +21,7 @@ use crate::faults::RunFault;
 use crate::line::run_line;
 use client_core::Client;
 use host_model::{Host, Shelf};
+use jexl_transforms::TransformTable;
 use std::alloc::Global;
 
 /// Does lines in order, each written before it is answered. The run ends at the first that isn't done and answered.
@@ -28,6 +31,7 @@ pub(crate) fn run_lines<F: Shelf, H: Host>(
     client: &mut Client,
     shelf: &mut F,
     now: u64,
+    table: &TransformTable,
     script: &[u8],
     spans: &[(usize, usize)],
 ) -> Result<(), RunFault>
@@ -35,6 +39,7 @@ pub(crate) fn run_lines<F: Shelf, H: Host>(
     requires sound { IsSound (state_of client.old) }
     requires session { session_of client.old ≡ no_session }
     requires moment { now ≤ last_moment }
+    requires table { names_of table.now ≡ standard_names }
     requires holds { H.tells → IsOpenOn H.Host client.old host.old }
 
     // Whenever a crash comes, the images are kept for the state after the first k lines, each that was answered among
@@ -66,7 +71,7 @@ pub(crate) fn run_lines<F: Shelf, H: Host>(
     ensures say_faults { H.say_faults host.old ≤ H.say_faults host.new }
 {
     for span in spans {
-        run_line(alloc, host, client, shelf, now, part(script, *span))?;
+        run_line(alloc, host, client, shelf, now, table, part(script, *span))?;
     }
     Ok(())
 }

@@ -5,6 +5,8 @@ ghost use Rattle.host_model.specs.Hosts.{MeetsAll};
 ghost use Rattle.gate_journal.specs.Records.{place_of};
 ghost use Rattle.enrol_states.specs.declared.state.State.{State};
 ghost use Rattle.enrol_states.specs.State.{last_moment};
+ghost use Rattle.jexl_transforms.specs.Meaning.{standard_names};
+ghost use Rattle.jexl_transforms.specs.Table.{names_of};
 ghost use Rattle.client_core.specs.OpenStore.{AllKept, AllKeptAmong, AllStand};
 ghost use Rattle.client_core.specs.Settings.{setting};
 ghost use Rattle.client_core.specs.Store.{StandsFor, KeptFor};
@@ -20,6 +22,7 @@ use crate::script::read_script;
 use crate::status::RunStatus;
 use client_core::Client;
 use host_model::{Host, Shelf, Side, Source};
+use jexl_transforms::TransformTable;
 use plain_text::lines;
 use std::alloc::Global;
 
@@ -29,9 +32,11 @@ fn run_store<F: Shelf, H: Host>(
     host: &mut H,
     shelf: &mut F,
     now: u64,
+    table: &TransformTable,
     script: &[u8],
 ) -> RunStatus
-    requires { now ≤ last_moment }
+    requires moment { now ≤ last_moment }
+    requires table { names_of table.now ≡ standard_names }
     // Where the images at entry are each kept for one of some states: until the store is open each image is, and from
     // then on the state is the one that was read.
     ensures any_moment { F.tells → H.tells → (states : List State) (s : State) → AllKeptAmong H.Host host.old states
@@ -72,6 +77,7 @@ fn run_store<F: Shelf, H: Host>(
                 &mut client,
                 shelf,
                 now,
+                table,
                 script,
                 spans.as_slice(),
             ) {
@@ -90,8 +96,10 @@ pub(crate) fn run<S: Source, F: Shelf, H: Host>(
     shelf: &mut F,
     host: &mut H,
     now: u64,
+    table: &TransformTable,
 ) -> RunStatus
-    requires { now ≤ last_moment }
+    requires moment { now ≤ last_moment }
+    requires table { names_of table.now ≡ standard_names }
     // Where the images at entry are each kept for one state: whenever a crash comes, they are kept for the state after
     // the first k lines, each that was answered among them, and what was said is a prefix of their answers.
     ensures crash { S.tells → F.tells → H.tells → (s : State) → AllKept H.Host host.old s
@@ -138,7 +146,7 @@ pub(crate) fn run<S: Source, F: Shelf, H: Host>(
     ensures usage { result ≢ RunStatus.Usage }
 {
     match read_script(alloc, source) {
-        Ok(script) => run_store(alloc, host, shelf, now, &script),
+        Ok(script) => run_store(alloc, host, shelf, now, table, &script),
         Err(fault) => fault.into(),
     }
 }

@@ -2,6 +2,10 @@
 use super::*;
 use client_core::Command;
 use host_model::{Choice, MemHost, MemShelf, MemSource, Side};
+use jexl_transforms::{
+    Transform, TransformTable, bucket_transform, date_transform, version_transform,
+};
+use jexl_value::{Attributes, Value};
 use std::alloc::Global;
 use std::test::Fail;
 
@@ -61,7 +65,33 @@ fn call_over(
     for word in words {
         list.push(String::from_str(alloc, word)?)?;
     }
-    Ok(nimbus(alloc, &list, NOW, source, shelf, host))
+    let version: Transform = Box::new(
+        alloc,
+        |attributes: &Attributes, subject: &Value, arguments: &[Value]| {
+            version_transform(attributes, subject, arguments)
+        },
+    )?;
+    let date: Transform = Box::new(
+        alloc,
+        |attributes: &Attributes, subject: &Value, arguments: &[Value]| {
+            date_transform(attributes, subject, arguments)
+        },
+    )?;
+    let bucket: Transform = Box::new(
+        alloc,
+        move |attributes: &Attributes, subject: &Value, arguments: &[Value]| {
+            bucket_transform(alloc, attributes, subject, arguments)
+        },
+    )?;
+    let mut table = TransformTable::new(alloc);
+    let (Ok(()), Ok(()), Ok(())) = (
+        table.push(alloc, "versionCompare", version),
+        table.push(alloc, "date", date),
+        table.push(alloc, "bucketSample", bucket),
+    ) else {
+        return Err(Fail::from("the table has no room"));
+    };
+    Ok(nimbus(alloc, &list, NOW, &table, source, shelf, host))
 }
 
 // Calls the program with these words and this source, and no files.

@@ -6,4 +6,4 @@ use Rattle.client_core.proofs.client.Client.applying.Goals as goal
 
 pub evolve-requires-clause-order : goal.evolve-requires-clause-order
 unfolding IsStrictlySortedBy
-evolve-requires-clause-order c = subst Rise (sym c.new.ensures) tt
+evolve-requires-clause-order g c = subst Rise (sym c.new.ensures) tt
