@@ -1,5 +1,7 @@
-pub mod Results
 pub mod Orders
+pub mod Saying
+pub mod Trees
+pub mod Results
 pub mod Units
 pub mod Passing
 pub mod Validity

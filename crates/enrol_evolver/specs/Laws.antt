@@ -1,5 +1,5 @@
 -- Laws of the definitions alone.
-use Rattle.std.specs.Prelude.{◌≡◌, ◌≤◌, ℕ, List, All, IsTrue, IsUtf8}
+use Rattle.std.specs.Prelude.{◌≡◌, ◌↔◌, ◌≤◌, ℕ, List, Some, All, IsTrue, IsUtf8}
 use Rattle.plain_text.specs.Names.{is_name}
 use Rattle.app_context.specs.declared.context.Context.{Context}
 use Rattle.enrol_states.specs.Order.{Rise}
@@ -9,6 +9,9 @@ use Rattle.enrol_states.specs.Consistent.{IsConsistent}
 use Rattle.enrol_states.specs.declared.state.State.{State}
 use Rattle.enrol_conflicts.specs.Settlement.{Settled}
 use Rattle.enrol_conflicts.specs.declared.candidate.Candidate.{Candidate}
+use Rattle.jexl_parser.specs.Tree.{Tree}
+use Rattle.enrol_evolver.specs.Expressions.{IsTree}
+use Rattle.enrol_evolver.specs.Targeting.{tree_of}
 use Rattle.enrol_evolver.specs.Wishes.{grants_of}
 use Rattle.enrol_evolver.specs.Evolution.{version_of, refreshed, status_after, evolution}
 
@@ -23,3 +26,7 @@ IsEachByItself = (s : State) (context : Context) (coenrolling : List (List ℕ))
 -- an apply keeps a state consistent, whatever its recipes and shared features were before
 abbrev pub StaysConsistent : Type 0
 StaysConsistent = (s : State) (context : Context) (coenrolling : List (List ℕ)) (now : ℕ) → IsConsistent s → All (λ name. IsTrue (is_name name)) coenrolling → Rise coenrolling → now ≤ last_moment → IsUtf8 (version_of context) → IsConsistent (evolution s context coenrolling now)
+
+-- the tree that is found of a text is the one that it has
+abbrev pub AreTrees : Type 0
+AreTrees = (text : List ℕ) (tree : Tree) → (tree_of text ≡ Some tree) ↔ IsTree text tree

@@ -1,3 +1,6 @@
+pub mod Expressions
+pub mod Readable
+pub mod Targeting
 pub mod Verdicts
 pub mod Wishes
 pub mod Evolution

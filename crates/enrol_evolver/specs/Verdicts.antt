@@ -17,9 +17,10 @@ use Rattle.enrol_states.specs.declared.state.State.{State}
 use Rattle.enrol_states.specs.declared.status.Status.{Status}
 use Rattle.enrol_states.specs.declared.status.Status.TheVariants as statuses
 use Rattle.enrol_states.specs.declared.status.EnrolledReason.TheVariants as enrolled
-use Rattle.enrol_states.specs.declared.status.ErrorCause.TheVariants.{Unparsed, NoUnit}
+use Rattle.enrol_states.specs.declared.status.ErrorCause.TheVariants.{NoUnit}
 use Rattle.enrol_states.specs.declared.verdict.Verdict.{Verdict}
 use Rattle.enrol_states.specs.declared.verdict.Verdict.TheVariants as verdicts
+use Rattle.enrol_evolver.specs.Targeting.{targeting}
 use Rattle.enrol_evolver.specs.declared.targeting.Targeting.{Targeting}
 use Rattle.enrol_evolver.specs.declared.targeting.Targeting.TheVariants as targetings
 
@@ -74,14 +75,6 @@ sampled r (Some value) =
     if holds_point r.bucket (point_of (bucket_text value r.bucket.namespace)) then verdicts.Qualified (branch_at (point_of (branch_text value r.slug)) r.branches) else verdicts.NotSelected
 
 -- ---- targeting
-
-abbrev pub targeting_by : Option (List ℕ) → Targeting
-targeting_by None = targetings.Passes
-targeting_by (Some expression) = targetings.Fails Unparsed
-
--- what the recipe's targeting says of the client; no expression is read yet
-abbrev pub targeting : Context → State → ℕ → Recipe → Targeting
-targeting context s now r = targeting_by r.targeting
 
 -- where it passes, what sampling finds counts
 abbrev pub targeted : Targeting → Verdict → Verdict

@@ -7,15 +7,19 @@ ghost use Rattle.enrol_states.specs.Order.{Rise};
 ghost use Rattle.enrol_states.specs.State.{slugs_of};
 ghost use Rattle.recipe_reader.specs.Payloads.{AreInOrder, AreValid};
 ghost use Rattle.enrol_states.specs.Statuses.{last_moment};
+ghost use Rattle.jexl_transforms.specs.Meaning.{standard_names};
+ghost use Rattle.jexl_transforms.specs.Table.{names_of};
 ghost use Rattle.enrol_evolver.specs.Evolution.{evolution, rows_after};
 
 use crate::client::Client;
 use crate::plan::planned;
 use crate::refreshing::refreshed;
 use crate::settling::settled_rows;
-use app_context::Context;
+use crate::targeting::Evaluator;
+use app_context::{Context, shared_attributes};
 use enrol_conflicts::settle;
 use enrol_states::{Row, State};
+use jexl_transforms::TransformTable;
 use sequences::{Sequence, Text};
 use std::alloc::{AllocError, Global};
 
@@ -31,18 +35,20 @@ pub fn evolve(
     state: &State,
     context: &Context,
     coenrolling: Sequence<Text>,
+    table: &TransformTable,
     now: u64,
 ) -> Result<State, AllocError>
     requires consistent { IsConsistent state.now }
     requires names { All (λ name. IsTrue (is_name name)) coenrolling }
     requires order { Rise coenrolling }
     requires moment { now ≤ last_moment }
+    requires table { names_of table.now ≡ standard_names }
     ensures evolution { IfOk result (λ next. next ≡ evolution state.now context.now coenrolling now) }
     ensures consistent { IfOk result IsConsistent }
     ensures exclusive { IfOk result AreExclusive }
 {
     let mut next = refreshed(alloc, state, context, coenrolling, now)?;
-    next.rows = evolved_rows(alloc, &next, context, now)?;
+    next.rows = evolved_rows(alloc, &next, context, table, now)?;
     Ok(next)
 }
 
@@ -51,12 +57,15 @@ fn evolved_rows(
     alloc: Global,
     state: &State,
     context: &Context,
+    table: &TransformTable,
     now: u64,
 ) -> Result<Sequence<Row>, AllocError>
     requires in_order { AreInOrder state.now.live }
     requires valid { AreValid state.now.live }
     requires rows { Rise (slugs_of state.now.rows) }
     requires opted_out { Rise state.now.opted_out }
+    requires table { names_of table.now ≡ standard_names }
+    requires moment { now ≤ last_moment }
     ensures { IfOk result (λ rows. rows ≡ rows_after context.now state.now now) }
 {
     let client = Client {
@@ -64,7 +73,11 @@ fn evolved_rows(
         context,
         moment: now,
     };
-    let plan = planned(alloc, &client)?;
+    let mut evaluator = Evaluator {
+        attributes: shared_attributes(alloc, context, state, now)?,
+        table,
+    };
+    let plan = planned(alloc, &client, &mut evaluator)?;
     let wishes = plan.wishes;
     let granted = settle(alloc, wishes.as_slice(), state.coenrolling.as_slice())?;
     settled_rows(alloc, plan.entries, granted.as_slice())

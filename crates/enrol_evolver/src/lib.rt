@@ -3,6 +3,7 @@
 
 mod client;
 mod evolution;
+mod expressions;
 mod laws;
 mod plan;
 mod refreshing;
@@ -14,7 +15,7 @@ mod verdicts;
 mod wishes;
 
 pub use evolution::evolve;
-pub use laws::each_slug_by_itself;
+pub use laws::{each_slug_by_itself, trees_are_found};
 pub use targeting::Targeting;
 pub use verdicts::verdict;
 

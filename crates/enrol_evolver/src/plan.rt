@@ -7,12 +7,15 @@ ghost use Rattle.enrol_states.specs.Order.{Rise};
 ghost use Rattle.enrol_states.specs.State.{slugs_of};
 ghost use Rattle.enrol_states.specs.Statuses.{is_enrolled_now};
 ghost use Rattle.enrol_states.specs.Transitions.{status_ended};
+ghost use Rattle.jexl_transforms.specs.Table.{names_of};
+ghost use Rattle.enrol_evolver.specs.Targeting.{IsReady};
 ghost use Rattle.enrol_evolver.specs.Slots.{joined, view};
 ghost use Rattle.enrol_evolver.specs.Plans.{IsFit, entry_of, wish_of, wish_where, ended_entry};
 ghost use Rattle.enrol_evolver.specs.Wishes.{outcome_from, candidate_of, is_wish};
 
 use crate::client::Client;
 use crate::slots::{Slot, Slots};
+use crate::targeting::Evaluator;
 use crate::verdicts::{is_enrolled, verdict_from};
 use crate::wishes::candidate_of;
 use enrol_conflicts::Candidate;
@@ -37,10 +40,15 @@ pub(crate) struct Plan {
 }
 
 /// The plan of an apply to the client's state: one pass over its recipes, rows and opt-outs.
-pub(crate) fn planned(alloc: Global, client: &Client) -> Result<Plan, AllocError>
+pub(crate) fn planned(
+    alloc: Global,
+    client: &Client,
+    evaluator: &mut Evaluator,
+) -> Result<Plan, AllocError>
     requires valid { AreValid client.now.state.now.live }
     requires rows { Rise (slugs_of client.now.state.now.rows) }
     requires opted_out { Rise client.now.state.now.opted_out }
+    requires ready { IsReady client.now.context.now client.now.state.now client.now.moment evaluator.old.attributes.pairs (names_of evaluator.old.table.now) }
     ensures entries { IfOk result (λ plan. plan.entries ≡ flat_map (entry_of client.now.context.now client.now.state.now client.now.moment) (joined client.now.state.now.opted_out client.now.state.now.live client.now.state.now.rows)) }
     ensures wishes { IfOk result (λ plan. plan.wishes ≡ flat_map (wish_of client.now.context.now client.now.state.now client.now.moment) (joined client.now.state.now.opted_out client.now.state.now.live client.now.state.now.rows)) }
 {
@@ -50,17 +58,26 @@ pub(crate) fn planned(alloc: Global, client: &Client) -> Result<Plan, AllocError
     };
     let mut slots = Slots::new(client.state);
     while let Some(slot) = slots.next() {
-        plan.add(alloc, client, slot)?;
+        plan.add(alloc, client, evaluator, slot)?;
     }
     Ok(plan)
 }
 
 impl Plan {
     /// Adds what follows for a slug.
-    fn add(&mut self, alloc: Global, client: &Client, slot: Slot) -> Result<(), AllocError>
-        requires { IsFit (view slot) }
+    fn add(
+        &mut self,
+        alloc: Global,
+        client: &Client,
+        evaluator: &mut Evaluator,
+        slot: Slot,
+    ) -> Result<(), AllocError>
+        requires fit { IsFit (view slot) }
+        requires rows { Rise (slugs_of client.now.state.now.rows) }
+        requires ready { IsReady client.now.context.now client.now.state.now client.now.moment evaluator.old.attributes.pairs (names_of evaluator.old.table.now) }
         ensures entries { OnOk result (self.new.entries ≡ self.old.entries ++ entry_of client.now.context.now client.now.state.now client.now.moment (view slot.entry)) }
         ensures wishes { OnOk result (self.new.wishes ≡ self.old.wishes ++ wish_of client.now.context.now client.now.state.now client.now.moment (view slot.entry)) }
+        ensures ready { IsReady client.now.context.now client.now.state.now client.now.moment evaluator.new.attributes.pairs (names_of evaluator.new.table.now) }
     {
         match slot {
             Slot::Live {
@@ -69,7 +86,7 @@ impl Plan {
                 opted_out,
             } => {
                 let is_out = opted_out || !client.state.participating;
-                self.add_live(alloc, client, recipe, old, is_out)
+                self.add_live(alloc, client, evaluator, recipe, old, is_out)
             }
             Slot::Gone(row) => self.add_gone(alloc, row, client.moment),
         }
@@ -81,15 +98,19 @@ impl Plan {
         &mut self,
         alloc: Global,
         client: &Client,
+        evaluator: &mut Evaluator,
         recipe: &Recipe,
         old: Option<&Status>,
         is_out: bool,
     ) -> Result<(), AllocError>
-        requires { IsValid recipe.now }
+        requires valid { IsValid recipe.now }
+        requires rows { Rise (slugs_of client.now.state.now.rows) }
+        requires ready { IsReady client.now.context.now client.now.state.now client.now.moment evaluator.old.attributes.pairs (names_of evaluator.old.table.now) }
         ensures entries { OnOk result (self.new.entries ≡ self.old.entries ++ record { slug = recipe.now.slug; outcome = outcome_from client.now.context.now client.now.state.now client.now.moment recipe.now (option_map (λ s. s.now) old.entry) is_out } ∷ []) }
         ensures wishes { OnOk result (self.new.wishes ≡ self.old.wishes ++ wish_where (is_wish (outcome_from client.now.context.now client.now.state.now client.now.moment recipe.now (option_map (λ s. s.now) old.entry) is_out)) (candidate_of (is_enrolled_now (option_map (λ s. s.now) old.entry)) recipe.now)) }
+        ensures ready { IsReady client.now.context.now client.now.state.now client.now.moment evaluator.new.attributes.pairs (names_of evaluator.new.table.now) }
     {
-        let verdict = verdict_from(alloc, client, recipe, old, is_out)?;
+        let verdict = verdict_from(alloc, client, evaluator, recipe, old, is_out)?;
         let outcome = candidate(alloc, old, &verdict, recipe)?;
         add_wish(alloc, &mut self.wishes, &outcome, recipe, is_enrolled(old))?;
         self.entries.push(Entry {

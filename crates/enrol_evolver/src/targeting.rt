@@ -1,10 +1,25 @@
 // What a recipe's targeting says of a client.
-ghost use Rattle.std.specs.Prelude.{◌≡◌};
-ghost use Rattle.enrol_evolver.specs.Verdicts.{targeting};
+ghost use Rattle.std.specs.Prelude.{◌≡◌, IfOk, Result, Ok};
+ghost use Rattle.json_tree.specs.Json.{Json};
+ghost use Rattle.enrol_states.specs.Order.{Rise};
+ghost use Rattle.enrol_states.specs.State.{slugs_of};
+ghost use Rattle.jexl_value.specs.Value.{as_json};
+ghost use Rattle.jexl_transforms.specs.Table.{names_of};
+ghost use Rattle.jexl_eval.specs.Faults.{Fault};
+ghost use Rattle.jexl_eval.specs.Gives.{Gives};
+ghost use Rattle.enrol_evolver.specs.Expressions.{evaluating_wants_memory};
+ghost use Rattle.enrol_evolver.specs.Targeting.{targeting, said, said_by, tree_of, IsReady};
 
 use crate::client::Client;
+use crate::expressions::expression_of;
+use app_context::set_already_enrolled;
 use enrol_states::ErrorCause;
+use jexl_eval::{EvalFault, eval};
+use jexl_transforms::TransformTable;
+use jexl_value::{Attributes, Value};
+use plain_text::Slug;
 use recipe_reader::Recipe;
+use std::alloc::{AllocError, Global};
 
 /// What a recipe's targeting says of a client.
 #[derive(Clone, Copy, Debug, PartialEq, Eq, Drop)]
@@ -17,13 +32,87 @@ pub enum Targeting {
     Fails(ErrorCause),
 }
 
-/// What the recipe's targeting says of the client. No expression is read yet, so that each one
-/// counts as one that isn't in the language.
-pub(crate) fn targeting_of(client: &Client, recipe: &Recipe) -> Targeting
-    ensures { result ≡ targeting client.now.context.now client.now.state.now client.now.moment recipe.now }
+/// What expressions are evaluated by.
+#[derive(Drop)]
+pub(crate) struct Evaluator<'a> {
+    /// The client's attributes, for whichever recipe was judged last.
+    pub(crate) attributes: Attributes,
+    /// The standard transforms.
+    pub(crate) table: &'a TransformTable,
+}
+
+/// What the recipe's targeting says of the client. The one error is want of memory.
+pub(crate) fn targeting_of(
+    alloc: Global,
+    client: &Client,
+    evaluator: &mut Evaluator,
+    recipe: &Recipe,
+) -> Result<Targeting, AllocError>
+    requires rows { Rise (slugs_of client.now.state.now.rows) }
+    requires ready { IsReady client.now.context.now client.now.state.now client.now.moment evaluator.old.attributes.pairs (names_of evaluator.old.table.now) }
+    ensures says { IfOk result (λ t. t ≡ targeting client.now.context.now client.now.state.now client.now.moment recipe.now) }
+    ensures ready { IsReady client.now.context.now client.now.state.now client.now.moment evaluator.new.attributes.pairs (names_of evaluator.new.table.now) }
 {
     match &recipe.targeting {
-        Some(_) => Targeting::Fails(ErrorCause::Unparsed),
-        None => Targeting::Passes,
+        Some(text) => said_by(alloc, client, evaluator, &recipe.slug, text.as_str()),
+        None => Ok(Targeting::Passes),
     }
+}
+
+/// What the text says of the client, for the recipe of the slug.
+fn said_by(
+    alloc: Global,
+    client: &Client,
+    evaluator: &mut Evaluator,
+    slug: &Slug,
+    text: &str,
+) -> Result<Targeting, AllocError>
+    requires rows { Rise (slugs_of client.now.state.now.rows) }
+    requires ready { IsReady client.now.context.now client.now.state.now client.now.moment evaluator.old.attributes.pairs (names_of evaluator.old.table.now) }
+    ensures says { IfOk result (λ t. t ≡ said_by client.now.context.now client.now.state.now slug.now client.now.moment (tree_of text.now)) }
+    ensures ready { IsReady client.now.context.now client.now.state.now client.now.moment evaluator.new.attributes.pairs (names_of evaluator.new.table.now) }
+{
+    let Some(expression) = expression_of(alloc, text)? else {
+        return Ok(Targeting::Fails(ErrorCause::Unparsed));
+    };
+    set_already_enrolled(alloc, &mut evaluator.attributes, client.state, slug)?;
+    let value = eval(
+        alloc,
+        &expression,
+        &evaluator.attributes,
+        evaluator.table,
+    );
+    said(value)
+}
+
+/// What the value says, or a fault in its place. The one error is want of memory.
+fn said(value: Result<Value, EvalFault>) -> Result<Targeting, AllocError>
+    ensures { (meant : Result Json Fault) → Gives as_json value meant → IfOk result (λ t. t ≡ said meant) }
+{
+    match value {
+        Ok(value) => Ok(said_by_value(&value)),
+        Err(fault) => {
+            if evaluating_wants_memory(fault) {
+                return Err(AllocError);
+            }
+            Ok(Targeting::Fails(ErrorCause::Faulted))
+        }
+    }
+}
+
+/// What the value says: `true` and `false` alone are truths.
+fn said_by_value(value: &Value) -> Targeting
+    ensures { result ≡ said (Ok (as_json value.now)) }
+{
+    match value {
+        Value::Truth(true) => Targeting::Passes,
+        Value::Truth(false) => Targeting::Misses,
+        _ => Targeting::Fails(ErrorCause::NotTruth),
+    }
+}
+
+fn evaluating_wants_memory(fault: EvalFault) -> bool
+    ensures { result ≡ evaluating_wants_memory fault }
+{
+    matches!(fault, EvalFault::OutOfMemory)
 }

@@ -1,16 +1,20 @@
 // The verdict on a recipe.
-ghost use Rattle.std.specs.Prelude.{◌≡◌, IfOk, option_map};
+ghost use Rattle.std.specs.Prelude.{◌≡◌, ◌≤◌, IfOk, option_map};
 ghost use Rattle.recipe_reader.specs.Records.{IsValid};
 ghost use Rattle.enrol_states.specs.Order.{Rise};
 ghost use Rattle.enrol_states.specs.State.{slugs_of};
-ghost use Rattle.enrol_states.specs.Statuses.{is_enrolled_now};
+ghost use Rattle.enrol_states.specs.Statuses.{is_enrolled_now, last_moment};
+ghost use Rattle.jexl_transforms.specs.Meaning.{standard_names};
+ghost use Rattle.jexl_transforms.specs.Table.{names_of};
+ghost use Rattle.enrol_evolver.specs.Targeting.{IsReady};
 ghost use Rattle.enrol_evolver.specs.Verdicts.{verdict, verdict_from, is_out, chosen, judged, differs, opted_in_branch};
 
 use crate::client::Client;
 use crate::samples::sampled;
-use crate::targeting::{Targeting, targeting_of};
-use app_context::Context;
+use crate::targeting::{Evaluator, Targeting, targeting_of};
+use app_context::{Context, shared_attributes};
 use enrol_states::{EnrolledReason, State, Status, Verdict};
+use jexl_transforms::TransformTable;
 use plain_text::Slug;
 use recipe_reader::Recipe;
 use sequences::Text;
@@ -25,11 +29,14 @@ pub fn verdict(
     recipe: &Recipe,
     state: &State,
     context: &Context,
+    table: &TransformTable,
     now: u64,
 ) -> Result<Verdict, AllocError>
     requires valid { IsValid recipe.now }
     requires opted_out { Rise state.now.opted_out }
     requires rows { Rise (slugs_of state.now.rows) }
+    requires table { names_of table.now ≡ standard_names }
+    requires moment { now ≤ last_moment }
     ensures { IfOk result (λ v. v ≡ verdict context.now state.now now recipe.now) }
 {
     let client = Client {
@@ -37,9 +44,13 @@ pub fn verdict(
         context,
         moment: now,
     };
+    let mut evaluator = Evaluator {
+        attributes: shared_attributes(alloc, context, state, now)?,
+        table,
+    };
     let old = state.status_of(recipe.slug.text());
     let is_out = is_out(state, &recipe.slug);
-    verdict_from(alloc, &client, recipe, old, is_out)
+    verdict_from(alloc, &client, &mut evaluator, recipe, old, is_out)
 }
 
 /// Whether the user opted out of the slug, or of all.
@@ -55,16 +66,20 @@ fn is_out(state: &State, slug: &Slug) -> bool
 pub(crate) fn verdict_from(
     alloc: Global,
     client: &Client,
+    evaluator: &mut Evaluator,
     recipe: &Recipe,
     old: Option<&Status>,
     is_out: bool,
 ) -> Result<Verdict, AllocError>
-    requires { IsValid recipe.now }
-    ensures { IfOk result (λ v. v ≡ verdict_from client.now.context.now client.now.state.now client.now.moment recipe.now (option_map (λ s. s.now) old.entry) is_out) }
+    requires valid { IsValid recipe.now }
+    requires rows { Rise (slugs_of client.now.state.now.rows) }
+    requires ready { IsReady client.now.context.now client.now.state.now client.now.moment evaluator.old.attributes.pairs (names_of evaluator.old.table.now) }
+    ensures verdict { IfOk result (λ v. v ≡ verdict_from client.now.context.now client.now.state.now client.now.moment recipe.now (option_map (λ s. s.now) old.entry) is_out) }
+    ensures ready { IsReady client.now.context.now client.now.state.now client.now.moment evaluator.new.attributes.pairs (names_of evaluator.new.table.now) }
 {
     match opted_in_branch(old) {
         Some(branch) => chosen(branch, is_out),
-        None => judged(alloc, client, recipe, is_enrolled(old), is_out),
+        None => judged(alloc, client, evaluator, recipe, is_enrolled(old), is_out),
     }
 }
 
@@ -104,12 +119,16 @@ fn chosen(branch: &Slug, is_out: bool) -> Result<Verdict, AllocError>
 fn judged(
     alloc: Global,
     client: &Client,
+    evaluator: &mut Evaluator,
     recipe: &Recipe,
     is_enrolled: bool,
     is_out: bool,
 ) -> Result<Verdict, AllocError>
-    requires { IsValid recipe.now }
-    ensures { IfOk result (λ v. v ≡ judged client.now.context.now client.now.state.now client.now.moment recipe.now is_enrolled is_out) }
+    requires valid { IsValid recipe.now }
+    requires rows { Rise (slugs_of client.now.state.now.rows) }
+    requires ready { IsReady client.now.context.now client.now.state.now client.now.moment evaluator.old.attributes.pairs (names_of evaluator.old.table.now) }
+    ensures verdict { IfOk result (λ v. v ≡ judged client.now.context.now client.now.state.now client.now.moment recipe.now is_enrolled is_out) }
+    ensures ready { IsReady client.now.context.now client.now.state.now client.now.moment evaluator.new.attributes.pairs (names_of evaluator.new.table.now) }
 {
     if differs(&recipe.app_name, &client.context.app_name) {
         return Ok(Verdict::DifferentAppName);
@@ -123,7 +142,7 @@ fn judged(
     if recipe.paused && !is_enrolled {
         return Ok(Verdict::EnrollmentsPaused);
     }
-    match targeting_of(client, recipe) {
+    match targeting_of(alloc, client, evaluator, recipe)? {
         Targeting::Passes => sampled(alloc, client, recipe),
         Targeting::Misses => Ok(Verdict::NotTargeted),
         Targeting::Fails(cause) => Ok(Verdict::Failed(cause)),

@@ -9,13 +9,13 @@ use Rattle.enrol_evolver.proofs.Evolved.{made-is}
 use Rattle.enrol_evolver.proofs.evolution.evolved_rows.Goals as goal
 
 pub settle-requires : goal.settle-requires
-settle-requires c =
+settle-requires g c =
     let s = c.args.state.now in
     let wishes : c.as_slice.result.now ≡ wishes_of c.args.context.now s c.args.now = c.as_slice.ensures ∙ c.in_ok-plan.ensures.wishes ∙ wishes-joined c.args.context.now s c.args.now s.live s.rows c.requires.in_order c.requires.rows in
     own_slugs c.as_slice.result.now (subst SlugsRise (sym wishes) (wishes-rise c.args.context.now s c.args.now c.requires.in_order))
 
 pub returns : goal.returns
-returns c =
+returns g c =
     let s = c.args.state.now in
     let granted = c.in_ok-granted.granted in
     let wishes : c.as_slice.result.now ≡ wishes_of c.args.context.now s c.args.now = c.as_slice.ensures ∙ c.in_ok-plan.ensures.wishes ∙ wishes-joined c.args.context.now s c.args.now s.live s.rows c.requires.in_order c.requires.rows in

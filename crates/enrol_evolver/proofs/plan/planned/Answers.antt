@@ -6,7 +6,7 @@ use Rattle.enrol_evolver.proofs.Passing.{joined-fit}
 use Rattle.enrol_evolver.proofs.plan.planned.Goals as goal
 
 pub loop-slot-init : goal.loop-slot-init
-loop-slot-init c =
+loop-slot-init g c =
     let slots = c.new-slots.result in
     record {
       live = subst AreInOrder (sym c.new-slots.ensures.live) c.new-slots.ensures.in_order;
@@ -15,4 +15,5 @@ loop-slot-init c =
       fit = joined-fit slots.opted_out.now slots.live.now slots.rows.now (subst AreValid (sym c.new-slots.ensures.live) c.requires.valid);
       entries = search rules;
       wishes = search rules;
+      ready = c.requires.ready;
     }

@@ -7,7 +7,7 @@ use Rattle.enrol_evolver.proofs.Orders.{rise_none}
 use Rattle.enrol_evolver.proofs.tests.applied.Goals as goal
 
 pub evolve-requires-clause-names : goal.evolve-requires-clause-names
-evolve-requires-clause-names c = subst (All (λ name. IsTrue (is_name name))) (sym c.new.ensures) (All-nil (λ name. IsTrue (is_name name)))
+evolve-requires-clause-names g c = subst (All (λ name. IsTrue (is_name name))) (sym c.new.ensures) (All-nil (λ name. IsTrue (is_name name)))
 
 pub evolve-requires-clause-order : goal.evolve-requires-clause-order
-evolve-requires-clause-order c = subst Rise (sym c.new.ensures) rise_none
+evolve-requires-clause-order g c = subst Rise (sym c.new.ensures) rise_none
