@@ -173,10 +173,10 @@ fn has_fault(alloc: Global, rows: &str, want: &str) -> Result<(), Fail> {
     check(fault(alloc, &types)?.as_str() == want)
 }
 
-// A chain of that many objects, each of which needs the next.
-fn has_chain(alloc: Global, count: u64, want: &str) -> Result<(), Fail> {
+// A chain of the objects from o10 up to that number, each of which needs the next.
+fn has_chain(alloc: Global, end: u64, want: &str) -> Result<(), Fail> {
     let mut rows = String::new(alloc);
-    for place in 10..10 + count {
+    for place in 10..end {
         let next = place + 1;
         let row = format!(in alloc; "o{place}/f/o{next}/\n")?;
         rows.push_str(row.as_str())?;
@@ -200,8 +200,8 @@ fn grounds(rt: HostRuntime) -> Result<(), Fail> {
     ] {
         has_fault(alloc, rows, want)?;
     }
-    has_chain(alloc, 32, "ok")?;
-    has_chain(alloc, 33, "endless o10")
+    has_chain(alloc, 42, "ok")?;
+    has_chain(alloc, 43, "endless o10")
 }
 
 fn weighs(alloc: Global, rows: &str, want: &[u64]) -> Result<(), Fail> {
