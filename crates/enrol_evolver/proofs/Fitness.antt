@@ -19,7 +19,8 @@ use Rattle.enrol_states.specs.declared.verdict.Outcome.{Outcome}
 use Rattle.enrol_states.specs.declared.verdict.Outcome.TheVariants.{Keep, Wish}
 use Rattle.enrol_evolver.specs.declared.targeting.Targeting.{Targeting}
 use Rattle.enrol_evolver.specs.declared.targeting.Targeting.TheVariants as targetings
-use Rattle.enrol_evolver.specs.Verdicts.{holds_point, bucket_text, branch_text, branch_at, sampled, targeting, targeted, differs, unit_value, id_text, first_line, judged, by_choice, verdict_from}
+use Rattle.enrol_evolver.specs.Targeting.{targeting}
+use Rattle.enrol_evolver.specs.Verdicts.{holds_point, bucket_text, branch_text, branch_at, sampled, targeted, differs, unit_value, id_text, first_line, judged, by_choice, verdict_from}
 use Rattle.enrol_evolver.specs.Wishes.{outcome_from, is_wish, status_by}
 use Rattle.enrol_evolver.proofs.Validity.{AreBranches, have_branches}
 use Rattle.enrol_evolver.proofs.Choosing.{branch-offered}

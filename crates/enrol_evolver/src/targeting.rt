@@ -76,12 +76,7 @@ fn said_by(
         return Ok(Targeting::Fails(ErrorCause::Unparsed));
     };
     set_already_enrolled(alloc, &mut evaluator.attributes, client.state, slug)?;
-    let value = eval(
-        alloc,
-        &expression,
-        &evaluator.attributes,
-        evaluator.table,
-    );
+    let value = eval(alloc, &expression, &evaluator.attributes, evaluator.table);
     said(value)
 }
 

@@ -115,14 +115,7 @@ fn applied(
 {
     let fetched = fetched(alloc, state, records)?;
     let context = context(alloc)?;
-    Ok(evolve(
-        alloc,
-        &fetched,
-        &context,
-        Sequence::new(alloc),
-        table,
-        now,
-    )?)
+    Ok(evolve(alloc, &fetched, &context, Sequence::new(alloc), table, now)?)
 }
 
 fn fresh(alloc: Global, id: [u8; 16]) -> State
@@ -250,20 +243,31 @@ fn sampling_edges(alloc: Global, table: &TransformTable) -> Result<(), Fail>
     let not_selected = "alpha NotEnrolled NotSelected\n";
     first_row_of(alloc, table, ID, "nimbus_id", "0", "0", not_selected)?;
     first_row_of(alloc, table, ID, "nimbus_id", "9999", "10000", enrolled)?;
-    first_row_of(alloc, table, [0; 16], "nimbus_id", "9999", "10000", enrolled)?;
+    first_row_of(
+        alloc,
+        table,
+        [0; 16],
+        "nimbus_id",
+        "9999",
+        "10000",
+        enrolled,
+    )?;
     first_row_of(alloc, table, ID, "nimbus_id", "9841", "1", enrolled)?;
     first_row_of(alloc, table, ID, "nimbus_id", "9840", "1", not_selected)?;
     first_row_of(alloc, table, ID, "nimbus_id", "9842", "1", not_selected)?;
-    first_row_of(alloc, table, ID, "group_id", "0", "10000", "alpha Error NoUnit\n")
+    first_row_of(
+        alloc,
+        table,
+        ID,
+        "group_id",
+        "0",
+        "10000",
+        "alpha Error NoUnit\n",
+    )
 }
 
 // A new client's row for a recipe of this slug whose branches have equal shares.
-fn halves(
-    alloc: Global,
-    table: &TransformTable,
-    slug: &str,
-    want: &str,
-) -> Result<(), Fail>
+fn halves(alloc: Global, table: &TransformTable, slug: &str, want: &str) -> Result<(), Fail>
     requires { names_of table.now ≡ standard_names }
 {
     let branches =
@@ -278,7 +282,12 @@ fn halves(
 fn branches_and_first_lines(alloc: Global, table: &TransformTable) -> Result<(), Fail>
     requires { names_of table.now ≡ standard_names }
 {
-    halves(alloc, table, "alpha", "alpha Enrolled Qualified treatment\n")?;
+    halves(
+        alloc,
+        table,
+        "alpha",
+        "alpha Enrolled Qualified treatment\n",
+    )?;
     halves(alloc, table, "beta", "beta Enrolled Qualified control\n")?;
     first_row(
         alloc,
@@ -319,7 +328,14 @@ fn one_verdict(alloc: Global, table: &TransformTable) -> Result<(), Fail>
     let Ok(recipe) = read_record(alloc, &tree) else {
         return Err(Fail::from("no recipe"));
     };
-    match verdict(alloc, &recipe, &fresh(alloc, ID), &context(alloc)?, table, NOW)? {
+    match verdict(
+        alloc,
+        &recipe,
+        &fresh(alloc, ID),
+        &context(alloc)?,
+        table,
+        NOW,
+    )? {
         Verdict::Qualified(branch) => check(branch.text() == "treatment"),
         _ => Err(Fail::from("another verdict")),
     }
@@ -385,12 +401,7 @@ fn conflict_ends_with_the_recipe(alloc: Global, table: &TransformTable) -> Resul
 }
 
 // The rows after a later apply of alpha alone.
-fn later_rows(
-    alloc: Global,
-    table: &TransformTable,
-    now: u64,
-    want: &str,
-) -> Result<(), Fail>
+fn later_rows(alloc: Global, table: &TransformTable, now: u64, want: &str) -> Result<(), Fail>
     requires table { names_of table.now ≡ standard_names }
     requires moment { now ≤ last_moment }
 {
@@ -410,7 +421,12 @@ fn ended_rows_kept_a_year(alloc: Global, table: &TransformTable) -> Result<(), F
         1_731_535_999,
         "alpha Enrolled Qualified treatment\nbeta WasEnrolled treatment 1700000000\n",
     )?;
-    later_rows(alloc, table, 1_731_536_000, "alpha Enrolled Qualified treatment\n")
+    later_rows(
+        alloc,
+        table,
+        1_731_536_000,
+        "alpha Enrolled Qualified treatment\n",
+    )
 }
 
 fn paused_recipe(alloc: Global, table: &TransformTable) -> Result<(), Fail>
@@ -474,12 +490,7 @@ fn opt_out_outlives_the_recipe(alloc: Global, table: &TransformTable) -> Result<
 // ---- targeting
 
 // A new client's row for one recipe alpha with this targeting.
-fn targeted(
-    alloc: Global,
-    table: &TransformTable,
-    expression: &str,
-    want: &str,
-) -> Result<(), Fail>
+fn targeted(alloc: Global, table: &TransformTable, expression: &str, want: &str) -> Result<(), Fail>
     requires { names_of table.now ≡ standard_names }
 {
     let members = format!(in alloc; ",\"targeting\":\"{expression}\"")?;
