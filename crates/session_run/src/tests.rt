@@ -527,7 +527,7 @@ fn shelf_fails(alloc: Global) -> Result<(), Fail> {
     let left = made(alloc)?;
     let mut host = host_of(alloc, &left, b"\x00", &[])?;
     let mut shelf = MemShelf::new(alloc, &[1])?;
-    let mut source = MemSource::new(alloc, b"show\nfetch a.json\nshow\n", 4096, &[])?;
+    let mut source = MemSource::new(alloc, b"show\ncontext c.json\nshow\n", 4096, &[])?;
     let status = call_over(alloc, &mut host, &["run"], &mut source, &mut shelf)?;
     check(status == RunStatus::ShelfFault && status.code() == 9 && has_said(&host, SHOWN_IN))
 }
