@@ -161,6 +161,52 @@ fn leaves(
     Ok(host.image(alloc, Side::Left, Choice::Torn)?.len())
 }
 
+// Participation is turned off once, and the second time writes nothing.
+fn turns_off(alloc: Global, host: &mut MemHost, shelf: &mut MemShelf) -> Result<usize, Fail> {
+    let out = Command::Participate { on: false };
+    let first = leaves(alloc, host, shelf, &out, Wanted::Okay)?;
+    let second = leaves(alloc, host, shelf, &out, Wanted::Okay)?;
+    check(first > 118 && second == first)?;
+    Ok(first)
+}
+
+// A file that isn't there changes nothing.
+fn finds_no_file(
+    alloc: Global,
+    host: &mut MemHost,
+    shelf: &mut MemShelf,
+    before: usize,
+) -> Result<(), Fail> {
+    let absent = fetch(alloc, "b.json")?;
+    let after = leaves(alloc, host, shelf, &absent, Wanted::Absent)?;
+    check(after == before)
+}
+
+// A payload is fetched once, and the second time writes nothing.
+fn fetches_once(
+    alloc: Global,
+    host: &mut MemHost,
+    shelf: &mut MemShelf,
+    before: usize,
+) -> Result<(), Fail> {
+    let present = fetch(alloc, "a.json")?;
+    let fetched = Wanted::Fetched {
+        kept: 0,
+        skipped: 2,
+    };
+    let first = leaves(alloc, host, shelf, &present, fetched)?;
+    let second = leaves(alloc, host, shelf, &present, fetched)?;
+    check(first > before && second == first)
+}
+
+fn shows_all(alloc: Global, host: &mut MemHost, shelf: &mut MemShelf) -> Result<(), Fail> {
+    let shown = Wanted::Shown {
+        participating: false,
+        pending: true,
+    };
+    does(alloc, host, shelf, &Command::Show, shown)
+}
+
 #[test]
 fn commands_are_done(rt: HostRuntime) -> Result<(), Fail> {
     let alloc = rt.alloc();
@@ -168,24 +214,8 @@ fn commands_are_done(rt: HostRuntime) -> Result<(), Fail> {
     check(is_made(alloc, &mut host))?;
     let mut shelf = MemShelf::new(alloc, &[])?;
     shelf.add(alloc, "a.json", b"{\"data\":[5,null]}")?;
-    let out = Command::Participate { on: false };
-    let first = leaves(alloc, &mut host, &mut shelf, &out, Wanted::Okay)?;
-    let second = leaves(alloc, &mut host, &mut shelf, &out, Wanted::Okay)?;
-    check(first > 118 && second == first)?;
-    let absent = fetch(alloc, "b.json")?;
-    let third = leaves(alloc, &mut host, &mut shelf, &absent, Wanted::Absent)?;
-    check(third == first)?;
-    let present = fetch(alloc, "a.json")?;
-    let fetched = Wanted::Fetched {
-        kept: 0,
-        skipped: 2,
-    };
-    let fourth = leaves(alloc, &mut host, &mut shelf, &present, fetched)?;
-    let fifth = leaves(alloc, &mut host, &mut shelf, &present, fetched)?;
-    check(fourth > first && fifth == fourth)?;
-    let shown = Wanted::Shown {
-        participating: false,
-        pending: true,
-    };
-    does(alloc, &mut host, &mut shelf, &Command::Show, shown)
+    let before = turns_off(alloc, &mut host, &mut shelf)?;
+    finds_no_file(alloc, &mut host, &mut shelf, before)?;
+    fetches_once(alloc, &mut host, &mut shelf, before)?;
+    shows_all(alloc, &mut host, &mut shelf)
 }
