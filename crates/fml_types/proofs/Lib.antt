@@ -7,3 +7,6 @@ pub mod Tables
 pub mod Counting
 pub mod Rounds
 pub mod Capping
+pub mod Reaching
+pub mod Mentioned
+pub mod Raising

@@ -1,7 +1,7 @@
 -- Values in rounds: each bounded, none past the objects, and no change after a round without one.
-use Rattle.std.proofs.Common.{◌≡◌, ℕ, zero, suc, ◌+◌, ◌<◌, ◌≤◌, List, [], ◌∷◌, ◌++◌, length, get_or, drop, Bool, true, false, Option, Some, None, refl, sym, ap, ◌∙◌, subst, arith, add-one}
+use Rattle.std.proofs.Common.{◌≡◌, ℕ, zero, suc, ◌+◌, ◌<◌, ◌≤◌, List, [], ◌∷◌, length, drop, Bool, true, false, Option, Some, None, refl, sym, ap, ◌∙◌, subst, arith, add-one}
 use Rattle.std.specs.Prelude.{max, nat_lt, if◌then◌else◌}
-use Rattle.fml_types.specs.Ground.{parts_at, greatest, at, farther, reached, reached_all, value_of_need, needed, height_up_to, first_above, next_heights}
+use Rattle.fml_types.specs.Ground.{parts_at, greatest, at, reached, reached_all, value_of_need, needed, height_up_to, first_above, next_heights}
 use Rattle.fml_types.specs.Capped.{cap}
 use Rattle.fml_types.specs.CappedWeights.{next_capped, capped_weight_up_to}
 use Rattle.fml_types.specs.Values.{value_in, table}
@@ -43,7 +43,7 @@ height_le g (suc k) i =
 
 -- ---- no values past the objects
 
-parts_past : (g : List (List Part)) (i : ℕ) → length g ≤ i → parts_at g i ≡ []
+pub parts_past : (g : List (List Part)) (i : ℕ) → length g ≤ i → parts_at g i ≡ []
 parts_past [] i h = refl
 parts_past (p ∷ ps) zero h = absurd (omega arith)
 parts_past (p ∷ ps) (suc i) h = parts_past ps i (omega arith)
@@ -86,14 +86,6 @@ settled_round step rounds steps n none k m xs ys so_far next same h =
 
 -- ---- each loop
 
-pub reached_next : (g : List (List Part)) (vs : List ℕ) → length vs ≡ length g → (k : ℕ) (xs ys : List ℕ) → xs ≡ table (reached g (value_in vs) k) (length g) → ys ≡ table (farther g (value_in vs) (value_in xs)) (length g)
-    → ys ≡ table (reached g (value_in vs) (k + 1)) (length g)
-reached_next g vs len = next_round (farther g (value_in vs)) (reached g (value_in vs)) (λ m. refl) (length g) (λ k i h. reached_past g (value_in vs) (λ j past_it. past vs j (omega (arith, len))) k i h)
-
-pub reached_settled : (g : List (List Part)) (vs : List ℕ) → length vs ≡ length g → (k m : ℕ) (xs ys : List ℕ) → xs ≡ table (reached g (value_in vs) k) (length g) → ys ≡ table (farther g (value_in vs) (value_in xs)) (length g) → ys ≡ xs → k ≤ m
-    → xs ≡ table (reached g (value_in vs) m) (length g)
-reached_settled g vs len = settled_round (farther g (value_in vs)) (reached g (value_in vs)) (λ m. refl) (length g) (λ k i h. reached_past g (value_in vs) (λ j past_it. past vs j (omega (arith, len))) k i h)
-
 pub heights_next : (g : List (List Part)) (k : ℕ) (xs ys : List ℕ) → xs ≡ table (height_up_to g k) (length g) → ys ≡ table (next_heights g (value_in xs)) (length g) → ys ≡ table (height_up_to g (k + 1)) (length g)
 heights_next g = next_round (next_heights g) (height_up_to g) (λ m. refl) (length g) (height_past g)
 
@@ -125,17 +117,6 @@ weights_settled g = settled_round (next_capped g) (capped_weight_up_to g) (λ m.
 
 pub count_of : (f : ℕ → ℕ) (n : ℕ) (xs : List ℕ) → xs ≡ table f n → length xs ≡ n
 count_of f n xs e = ap length e ∙ table-length f n
-
-parts_are : (g : List (List Part)) (i : ℕ) (d : List Part) → i < length g → get_or g i d ≡ parts_at g i
-parts_are [] i d h = absurd (omega arith)
-parts_are (p ∷ ps) zero d h = refl
-parts_are (p ∷ ps) (suc i) d h = parts_are ps i d (omega arith)
-
-pub farther_push : (g : List (List Part)) (v r : ℕ → ℕ) (i : ℕ) (d : List Part) (x : ℕ) (old new : List ℕ) → i < length g → d ≡ get_or g i d → x ≡ max (v i) (greatest (λ (p : Part). at r p.mentions) d) → new ≡ old ++ x ∷ [] → old ≡ table (farther g v r) i
-    → new ≡ table (farther g v r) (i + 1)
-farther_push g v r i d x old new h is value grows so_far =
-    let here : x ≡ farther g v r i = value ∙ ap (λ ps. max (v i) (greatest (λ (p : Part). at r p.mentions) ps)) (is ∙ parts_are g i d h) in
-    grows ∙ ap (λ l. l ++ x ∷ []) so_far ∙ ap (λ y. table (farther g v r) i ++ y ∷ []) here ∙ ap (table (farther g v r)) (sym (add-one i))
 
 pub above_turn : {T : Type 0} (limit : ℕ) (v : ℕ → ℕ) (k : ℕ) (names : List (List ℕ × T)) (i : ℕ) → i < length names → nat_lt limit (v k) ≡ false → first_above limit v (suc k) (drop (suc i) names) ≡ first_above limit v k (drop i names)
 above_turn limit v k [] i h e = absurd (omega arith)

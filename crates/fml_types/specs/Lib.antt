@@ -9,3 +9,5 @@ pub mod Capped
 pub mod Ground
 pub mod CappedWeights
 pub mod Values
+pub mod Reach
+pub mod Sound

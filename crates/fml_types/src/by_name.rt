@@ -46,6 +46,13 @@ impl<T> ByName<T> {
         ByName { pairs }
     }
 
+    /// Gives the names back, in order, with no memory.
+    pub fn into_vec(self) -> Vec<(Text, T)>
+        ensures { result.items ≡ self }
+    {
+        self.pairs
+    }
+
     /// The names and what stands under them, in order. It takes no memory.
     pub fn as_slice(&self) -> &[(Text, T)]
         ensures pairs { result.now ≡ self.now }

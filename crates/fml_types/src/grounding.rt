@@ -3,6 +3,7 @@ ghost use Rattle.std.specs.Prelude.{◌≡◌, map, option_map, IfOk};
 ghost use Rattle.fml_types.specs.Capped.{capped};
 ghost use Rattle.fml_types.specs.Graph.{graph_of};
 ghost use Rattle.fml_types.specs.Ground.{first_above, endless, too_large, grounding, GivesGround};
+ghost use Rattle.fml_types.specs.Reach.{AreMentioned};
 ghost use Rattle.fml_types.specs.Values.{value_in};
 ghost use Rattle.fml_types.specs.declared.grounding.GroundFault.TheVariants.{OutOfMemory};
 
@@ -10,6 +11,7 @@ use crate::by_name::ByName;
 use crate::graph::{Part, graph_of};
 use crate::heights::{heights, value_in};
 use crate::manifest::{ObjectDefinition, TypeTable};
+use crate::reach::mentioned_by;
 use crate::weights::weights;
 use sequences::{Sequence, Text};
 use std::alloc::{AllocError, AllocFailed, Global};
@@ -62,10 +64,11 @@ pub fn grounded(alloc: Global, types: &TypeTable) -> Result<(), GroundFault>
     ensures { GivesGround result (grounding types.now) }
 {
     let graph = graph_of(alloc, &types.objects)?;
-    if let Some(name) = endless(alloc, graph.as_slice(), &types.objects)? {
+    let mentioned_by = mentioned_by(alloc, graph.as_slice())?;
+    if let Some(name) = endless(alloc, graph.as_slice(), &mentioned_by, &types.objects)? {
         return Err(GroundFault::EndlessObject(name));
     }
-    if let Some(name) = too_large(alloc, graph.as_slice(), &types.objects)? {
+    if let Some(name) = too_large(alloc, graph.as_slice(), &mentioned_by, &types.objects)? {
         return Err(GroundFault::ObjectTooLarge(name));
     }
     Ok(())
@@ -75,12 +78,14 @@ pub fn grounded(alloc: Global, types: &TypeTable) -> Result<(), GroundFault>
 fn endless(
     alloc: Global,
     graph: &[Sequence<Part>],
+    mentioned_by: &[Sequence<usize>],
     objects: &ByName<ObjectDefinition>,
 ) -> Result<Option<Text>, AllocError>
-    requires { graph.now ≡ map (λ ps. map capped ps) (graph_of objects.now) }
+    requires graph { graph.now ≡ map (λ ps. map capped ps) (graph_of objects.now) }
+    requires mentioned { AreMentioned graph.now mentioned_by.now }
     ensures { IfOk result (λ name. name ≡ endless objects.now) }
 {
-    let heights = heights(alloc, graph)?;
+    let heights = heights(alloc, graph, mentioned_by)?;
     let name = copied(first_above(MAX_HEIGHT, &heights, objects.as_slice()))?;
     Ok(name)
 }
@@ -89,12 +94,14 @@ fn endless(
 fn too_large(
     alloc: Global,
     graph: &[Sequence<Part>],
+    mentioned_by: &[Sequence<usize>],
     objects: &ByName<ObjectDefinition>,
 ) -> Result<Option<Text>, AllocError>
-    requires { graph.now ≡ map (λ ps. map capped ps) (graph_of objects.now) }
+    requires graph { graph.now ≡ map (λ ps. map capped ps) (graph_of objects.now) }
+    requires mentioned { AreMentioned graph.now mentioned_by.now }
     ensures { IfOk result (λ name. name ≡ too_large objects.now) }
 {
-    let weights = weights(alloc, graph)?;
+    let weights = weights(alloc, graph, mentioned_by)?;
     let name = copied(first_above(MAX_WEIGHT, &weights, objects.as_slice()))?;
     Ok(name)
 }

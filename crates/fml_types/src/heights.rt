@@ -1,22 +1,28 @@
 // How high objects are.
 ghost use Rattle.std.specs.Prelude.{◌≡◌, ◌≤◌, ℕ, length, bytes_eq, IfOk};
-ghost use Rattle.fml_types.specs.Ground.{greatest, at, farther, reached_all, needed, higher, next_heights, height_up_to};
+ghost use Rattle.fml_types.specs.Ground.{greatest, at, needed, higher, next_heights, height_up_to};
+ghost use Rattle.fml_types.specs.Reach.{AreMentioned};
 ghost use Rattle.fml_types.specs.Values.{value_in, table};
-ghost use Rattle.fml_types.specs.declared.graph.Part.{Part};
 
 use crate::graph::{Need, Part};
+use crate::reach::reached;
 use sequences::Sequence;
 use std::alloc::{AllocError, Global};
 
 const ROUNDS: usize = 33;
 
 /// The heights of the objects, which count up to 33.
-pub fn heights(alloc: Global, graph: &[Sequence<Part>]) -> Result<Vec<u64>, AllocError>
+pub fn heights(
+    alloc: Global,
+    graph: &[Sequence<Part>],
+    mentioned_by: &[Sequence<usize>],
+) -> Result<Vec<u64>, AllocError>
+    requires { AreMentioned graph.now mentioned_by.now }
     ensures { IfOk result (λ hs. hs.items ≡ table (height_up_to graph.now 33) (length graph.now)) }
 {
     let mut heights = zeros(alloc, graph.len())?;
     for _ in 0..ROUNDS {
-        let next = next_heights(alloc, graph, &heights)?;
+        let next = next_heights(alloc, graph, mentioned_by, &heights)?;
         if same(&next, &heights) {
             return Ok(heights);
         }
@@ -29,13 +35,15 @@ pub fn heights(alloc: Global, graph: &[Sequence<Part>]) -> Result<Vec<u64>, Allo
 fn next_heights(
     alloc: Global,
     graph: &[Sequence<Part>],
+    mentioned_by: &[Sequence<usize>],
     heights: &[u64],
 ) -> Result<Vec<u64>, AllocError>
     requires count { length heights.now ≡ length graph.now }
+    requires mentioned { AreMentioned graph.now mentioned_by.now }
     requires height { (i : ℕ) → value_in heights.now i ≤ 33 }
     ensures { IfOk result (λ hs. hs.items ≡ table (next_heights graph.now (value_in heights.now)) (length graph.now)) }
 {
-    let reached = reached(alloc, graph, heights)?;
+    let reached = reached(alloc, graph, mentioned_by, heights)?;
     let next = higher(alloc, graph, heights, &reached)?;
     Ok(next)
 }
@@ -55,64 +63,6 @@ pub fn same(left: &[u64], right: &[u64]) -> bool
     ensures { result ≡ bytes_eq left.now right.now }
 {
     left == right
-}
-
-/// The greatest value of the objects that each object reaches.
-pub fn reached(
-    alloc: Global,
-    graph: &[Sequence<Part>],
-    values: &[u64],
-) -> Result<Vec<u64>, AllocError>
-    requires { length values.now ≡ length graph.now }
-    ensures { IfOk result (λ rs. rs.items ≡ table (reached_all graph.now (value_in values.now)) (length graph.now)) }
-{
-    let mut reached = copied(alloc, values)?;
-    for _ in 0..graph.len() {
-        let next = farther(alloc, graph, values, &reached)?;
-        if same(&next, &reached) {
-            return Ok(reached);
-        }
-        reached = next;
-    }
-    Ok(reached)
-}
-
-fn copied(alloc: Global, values: &[u64]) -> Result<Vec<u64>, AllocError>
-    ensures { IfOk result (λ copy. copy.items ≡ table (value_in values.now) (length values.now)) }
-{
-    let mut copy = Vec::with_capacity(alloc, values.len())?;
-    for place in 0..values.len() {
-        copy.push(value_in(values, place))?;
-    }
-    Ok(copy)
-}
-
-/// The greatest value of each object and of those that it mentions.
-fn farther(
-    alloc: Global,
-    graph: &[Sequence<Part>],
-    values: &[u64],
-    reached: &[u64],
-) -> Result<Vec<u64>, AllocError>
-    ensures { IfOk result (λ rs. rs.items ≡ table (farther graph.now (value_in values.now) (value_in reached.now)) (length graph.now)) }
-{
-    let mut next = Vec::with_capacity(alloc, graph.len())?;
-    for place in 0..graph.len() {
-        let mentioned = greatest_mentioned(reached, graph[place].as_slice());
-        next.push(value_in(values, place).max(mentioned))?;
-    }
-    Ok(next)
-}
-
-#[tactic(auto, using(crate::proofs::Greatest::greatest_more))]
-fn greatest_mentioned(reached: &[u64], parts: &[Part]) -> u64
-    ensures { result ≡ greatest (λ (p : Part). at (value_in reached.now) p.mentions) parts.now }
-{
-    let mut greatest = 0;
-    for part in parts {
-        greatest = value_at(reached, part.mentions).max(greatest);
-    }
-    greatest
 }
 
 /// One more than the greatest height of what each object needs.

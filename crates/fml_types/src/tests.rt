@@ -1,6 +1,7 @@
 // Texts of types, tables of objects and features. Each check is a small function of its own.
 use super::*;
 use crate::graph::graph_of;
+use crate::reach::mentioned_by;
 use crate::weights::weights;
 use json_tree::read;
 use sequences::Sequence;
@@ -184,6 +185,23 @@ fn has_chain(alloc: Global, end: u64, want: &str) -> Result<(), Fail> {
     has_fault(alloc, rows.as_str(), want)
 }
 
+// A row of the objects from o199000 to o200000, each of which mentions the next and needs none, a
+// chain from there up to that number, and an object that needs all that the first one reaches.
+fn has_row(alloc: Global, end: u64, want: &str) -> Result<(), Fail> {
+    let mut rows = String::from_str(alloc, "a/f/Option<o199000>/{}\n")?;
+    for place in 199_000..200_000u64 {
+        let next = place + 1;
+        let row = format!(in alloc; "o{place}/f/Option<o{next}>/\n")?;
+        rows.push_str(row.as_str())?;
+    }
+    for place in 200_000..end {
+        let next = place + 1;
+        let row = format!(in alloc; "o{place}/f/o{next}/\n")?;
+        rows.push_str(row.as_str())?;
+    }
+    has_fault(alloc, rows.as_str(), want)
+}
+
 #[test]
 fn grounds(rt: HostRuntime) -> Result<(), Fail> {
     let alloc = rt.alloc();
@@ -201,13 +219,17 @@ fn grounds(rt: HostRuntime) -> Result<(), Fail> {
         has_fault(alloc, rows, want)?;
     }
     has_chain(alloc, 42, "ok")?;
-    has_chain(alloc, 43, "endless o10")
+    has_chain(alloc, 43, "endless o10")?;
+    has_row(alloc, 200_031, "ok")?;
+    has_row(alloc, 200_032, "endless a")
 }
 
 fn weighs(alloc: Global, rows: &str, want: &[u64]) -> Result<(), Fail> {
     let types = objects_of(alloc, rows)?;
     let graph = graph_of(alloc, &types.objects)?;
-    let found = weights(alloc, graph.as_slice())?;
+    let parts = graph.as_slice();
+    let mentioned_by = mentioned_by(alloc, parts)?;
+    let found = weights(alloc, parts, &mentioned_by)?;
     check(found.as_slice() == want)
 }
 

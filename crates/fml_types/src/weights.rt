@@ -3,23 +3,30 @@ ghost use Rattle.std.specs.Prelude.{◌≡◌, ◌+◌, length, IfOk};
 ghost use Rattle.std.specs.List.{sum_by};
 ghost use Rattle.fml_types.specs.Ground.{share};
 ghost use Rattle.fml_types.specs.Capped.{cap};
+ghost use Rattle.fml_types.specs.Reach.{AreMentioned};
 ghost use Rattle.fml_types.specs.Values.{value_in, table};
 ghost use Rattle.fml_types.specs.CappedWeights.{capped_heavier, next_capped, capped_weight_up_to};
 
 use crate::graph::{CAP, Part, capped_sum};
-use crate::heights::{needed, reached, same, zeros};
+use crate::heights::{needed, same, zeros};
+use crate::reach::reached;
 use sequences::Sequence;
 use std::alloc::{AllocError, Global};
 
 const ROUNDS: usize = 32;
 
 /// The weights of objects that are at most 32 high. They count up to the cap.
-pub fn weights(alloc: Global, graph: &[Sequence<Part>]) -> Result<Vec<u64>, AllocError>
+pub fn weights(
+    alloc: Global,
+    graph: &[Sequence<Part>],
+    mentioned_by: &[Sequence<usize>],
+) -> Result<Vec<u64>, AllocError>
+    requires { AreMentioned graph.now mentioned_by.now }
     ensures { IfOk result (λ ws. ws.items ≡ table (capped_weight_up_to graph.now 32) (length graph.now)) }
 {
     let mut weights = zeros(alloc, graph.len())?;
     for _ in 0..ROUNDS {
-        let next = next_weights(alloc, graph, &weights)?;
+        let next = next_weights(alloc, graph, mentioned_by, &weights)?;
         if same(&next, &weights) {
             return Ok(weights);
         }
@@ -32,12 +39,14 @@ pub fn weights(alloc: Global, graph: &[Sequence<Part>]) -> Result<Vec<u64>, Allo
 fn next_weights(
     alloc: Global,
     graph: &[Sequence<Part>],
+    mentioned_by: &[Sequence<usize>],
     weights: &[u64],
 ) -> Result<Vec<u64>, AllocError>
-    requires { length weights.now ≡ length graph.now }
+    requires count { length weights.now ≡ length graph.now }
+    requires mentioned { AreMentioned graph.now mentioned_by.now }
     ensures { IfOk result (λ ws. ws.items ≡ table (next_capped graph.now (value_in weights.now)) (length graph.now)) }
 {
-    let reached = reached(alloc, graph, weights)?;
+    let reached = reached(alloc, graph, mentioned_by, weights)?;
     let next = heavier(alloc, graph, weights, &reached)?;
     Ok(next)
 }

@@ -7,4 +7,4 @@ use Rattle.fml_types.proofs.grounding.too_large.Goals as goal
 pub returns : goal.returns
 returns c =
     let above = c.first_above.ensures ∙ ap (λ os. first_above 16384 (value_in c.deref.result.now) 0 os) c.as_slice.ensures.pairs in
-    c.in_ok-name.ensures ∙ above ∙ large_found c.args.objects.now c.args.graph.now c.deref.result.now c.requires (c.deref.ensures.value ∙ c.in_ok-weights.ensures)
+    c.in_ok-name.ensures ∙ above ∙ large_found c.args.objects.now c.args.graph.now c.deref.result.now c.requires.graph (c.deref.ensures.value ∙ c.in_ok-weights.ensures)

@@ -6,8 +6,8 @@ use Rattle.fml_types.specs.Values.{value_in, table}
 use Rattle.fml_types.proofs.Rounds.{weights_next, weights_settled, count_of}
 use Rattle.fml_types.proofs.weights.weights.Goals as goal
 
-pub next_weights-requires : goal.next_weights-requires
-next_weights-requires c = count_of (capped_weight_up_to c.args.graph.now c.loop.counter) (length c.args.graph.now) c.deref.result.now (c.deref.ensures.value ∙ c.loop.invariant)
+pub next_weights-requires-clause-count : goal.next_weights-requires-clause-count
+next_weights-requires-clause-count c = count_of (capped_weight_up_to c.args.graph.now c.loop.counter) (length c.args.graph.now) c.deref.result.now (c.deref.ensures.value ∙ c.loop.invariant)
 
 pub returns-then-same : goal.returns-then-same
 returns-then-same c =
