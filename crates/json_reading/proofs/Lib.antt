@@ -1,0 +1,5 @@
+mod Contents
+mod Lexemes
+mod Grammar
+mod Values
+pub mod Reading
