@@ -1,0 +1,6 @@
+pub mod Alls
+pub mod Singles
+pub mod ReadModules
+pub mod Linked
+pub mod Maps
+pub mod SoundManifests

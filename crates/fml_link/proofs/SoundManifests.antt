@@ -1,0 +1,218 @@
+-- What is joined of files that are read is a sound manifest.
+use Rattle.std.proofs.Common.{◌≡◌, ℕ, ◌<◌, Bool, true, false, List, [], ◌∷◌, length, Option, Some, None, Result, Ok, Err, refl, ap, ◌∙◌, subst}
+use Rattle.std.specs.Prelude.{◌||◌, All, IfOk, IsTrue, bytes_eq, if◌then◌else◌}
+use Rattle.std.specs.Option.{option_or}
+use Rattle.std.specs.Ordering.{is_lt, nat_cmp}
+use Rattle.std.specs.Cmp.Lexicographic.{slice_cmp}
+use Rattle.plain_text.specs.Names.{is_name}
+use Rattle.fml_types.specs.Ground.{grounding}
+use Rattle.fml_types.specs.Named.{has_name, with_name}
+use Rattle.fml_types.specs.Shapes.{shape_of}
+use Rattle.fml_types.specs.Sound.{unknown_name, AreSoundFields, IsSoundManifest}
+use Rattle.fml_types.specs.declared.grounding.GroundFault.{GroundFault}
+use Rattle.fml_types.specs.declared.grounding.GroundFault.TheVariants as ground_faults
+use Rattle.fml_types.specs.declared.manifest.EnumDefinition.{EnumDefinition}
+use Rattle.fml_types.specs.declared.manifest.ObjectDefinition.{ObjectDefinition}
+use Rattle.fml_types.specs.declared.manifest.FeatureDefinition.{FeatureDefinition}
+use Rattle.fml_types.specs.declared.manifest.Field.{Field}
+use Rattle.fml_types.specs.declared.manifest.Manifest.{Manifest}
+use Rattle.fml_types.specs.declared.manifest.TypeTable.{TypeTable}
+use Rattle.fml_reader.specs.declared.module.Module.{Module}
+use Rattle.fml_link.specs.Files.{is_among}
+use Rattle.fml_link.specs.Linking.{first_found, unknown_in, manifest_with, unknown_of, all_known, all_grounded, root_channels, channel_known, defined, joined}
+use Rattle.fml_link.specs.Outcome.{◌>>=◌, Gives, each}
+use Rattle.fml_link.specs.Sound.{HaveSingleOptions, HaveVariants, HaveReadFields, HaveNames, HaveReadVariables, IsReadModule}
+use Rattle.fml_link.specs.Tables.{Tables, no_tables, with_enum, with_object, with_feature, with_module, tables_of}
+use Rattle.fml_link.specs.declared.fault.LinkFault.{LinkFault}
+use Rattle.fml_link.specs.declared.fault.LinkFault.TheVariants as faults
+use Rattle.fml_link.proofs.Alls.{all_nil, all_cons, all_head, all_tail}
+use Rattle.fml_link.proofs.Maps.{turned, left_false, right_false}
+
+bind_ok : {A B : Type 0} (r : Result A LinkFault) (f : A → Result B LinkFault) (b : B) → (r >>= f) ≡ Ok b → (a : A) × (r ≡ Ok a) × (f a ≡ Ok b)
+bind_ok (Ok a) f b h = (a, refl, h)
+bind_ok (Err e) f b h = absurd cc
+
+-- what is kept as each thing is added
+each_keeps : {T A : Type 0} (P : T → Type 0) (Q : A → Type 0) (add : T → A → Result T LinkFault) → ((t u : T) (x : A) → P t → Q x → add t x ≡ Ok u → P u) → (xs : List A) (t u : T) → All Q xs → P t → each add t xs ≡ Ok u → P u
+each_keeps P Q add step [] t u all kept h = let same : t ≡ u = cc in subst P same kept
+each_keeps P Q add step (x ∷ xs) t u all kept h =
+    let first = bind_ok (add t x) (λ v. each add v xs) u h in
+    each_keeps P Q add step xs first.0 u (all_tail Q x xs all) (step t first.0 x kept (all_head Q x xs all) first.1) first.2
+
+-- ---- one more name
+
+all-with : {T : Type 0} (P : List ℕ × T → Type 0) (p q : List ℕ × T) (qs with : List (List ℕ × T)) (b : Bool) → P p → All P (q ∷ qs) → All P with → All P (if b then p ∷ q ∷ qs else q ∷ with)
+all-with P p q qs with true one all rest = all_cons P p (q ∷ qs) one all
+all-with P p q qs with false one all rest = all_cons P q with (all_head P q qs all) rest
+
+all_with : {T : Type 0} (P : List ℕ × T → Type 0) (p : List ℕ × T) (qs : List (List ℕ × T)) → P p → All P qs → All P (with_name p qs)
+all_with P p [] one all = all_cons P p [] one (all_nil P)
+all_with P p (q ∷ qs) one all = all-with P p q qs (with_name p qs) (is_lt (slice_cmp nat_cmp p.0 q.0)) one all (all_with P p qs one (all_tail P q qs all))
+
+-- a name that isn't the new one is there where it was
+other-with : {T : Type 0} (n : List ℕ) (p q : List ℕ × T) (qs with : List (List ℕ × T)) (b : Bool) → bytes_eq p.0 n ≡ false → has_name n (q ∷ qs) ≡ false → has_name n with ≡ false → has_name n (if b then p ∷ q ∷ qs else q ∷ with) ≡ false
+other-with n p q qs with true other absent rest = ap (λ b. b || has_name n (q ∷ qs)) other ∙ absent
+other-with n p q qs with false other absent rest = ap (λ b. b || has_name n with) (left_false (bytes_eq q.0 n) (has_name n qs) absent) ∙ rest
+
+other_with : {T : Type 0} (n : List ℕ) (p : List ℕ × T) (qs : List (List ℕ × T)) → bytes_eq p.0 n ≡ false → has_name n qs ≡ false → has_name n (with_name p qs) ≡ false
+other_with n p [] other absent = ap (λ b. b || false) other
+other_with n p (q ∷ qs) other absent =
+    other-with n p q qs (with_name p qs) (is_lt (slice_cmp nat_cmp p.0 q.0)) other absent (other_with n p qs other (right_false (bytes_eq q.0 n) (has_name n qs) absent))
+
+-- no enum has the name of an object
+AreApart : List (List ℕ × EnumDefinition) → List (List ℕ × ObjectDefinition) → Type 0
+AreApart enums objects = All (λ (e : List ℕ × EnumDefinition). has_name e.0 objects ≡ false) enums
+
+apart_with : (o : List ℕ × ObjectDefinition) (objects : List (List ℕ × ObjectDefinition)) (enums : List (List ℕ × EnumDefinition)) → has_name o.0 enums ≡ false → AreApart enums objects → AreApart enums (with_name o objects)
+unfolding AreApart
+apart_with o objects [] new apart = all_nil (λ (x : List ℕ × EnumDefinition). has_name x.0 (with_name o objects) ≡ false)
+apart_with o objects (e ∷ es) new apart =
+    let before : List ℕ × EnumDefinition → Type 0 = λ x. has_name x.0 objects ≡ false in
+    all_cons (λ (x : List ℕ × EnumDefinition). has_name x.0 (with_name o objects) ≡ false) e es
+    (other_with e.0 o objects (turned o.0 e.0 ∙ left_false (bytes_eq e.0 o.0) (has_name o.0 es) new) (all_head before e es apart))
+    (apart_with o objects es (right_false (bytes_eq e.0 o.0) (has_name o.0 es) new) (all_tail before e es apart))
+
+-- ---- the tables
+
+record AreSoundTables (t : Tables) : Type 0 where
+  pub variants : HaveVariants t.enums
+  pub apart : AreApart t.enums t.objects
+  pub fields : HaveReadFields t.objects
+  pub names : HaveNames t.features
+  pub variables : HaveReadVariables t.features
+
+added : {A : Type 0} (b : Bool) (e : LinkFault) (t u : A) → (if b then Err e else Ok t) ≡ Ok u → (b ≡ false) × (t ≡ u)
+added true e t u h = absurd cc
+added false e t u h = (refl, cc)
+
+enum_keeps : (t u : Tables) (e : List ℕ × EnumDefinition) → AreSoundTables t → 0 < length e.1.variants → with_enum t e ≡ Ok u → AreSoundTables u
+unfolding AreApart
+enum_keeps t u e sound one h =
+    let new = added (has_name e.0 t.enums || has_name e.0 t.objects) (faults.DuplicateName e.0) (record t { enums = with_name e t.enums }) u h in
+    subst AreSoundTables new.1 (record {
+      variants = all_with (λ (x : List ℕ × EnumDefinition). 0 < length x.1.variants) e t.enums one sound.variants;
+      apart = all_with (λ (x : List ℕ × EnumDefinition). has_name x.0 t.objects ≡ false) e t.enums (right_false (has_name e.0 t.enums) (has_name e.0 t.objects) new.0) sound.apart;
+      fields = sound.fields;
+      names = sound.names;
+      variables = sound.variables;
+    })
+
+object_keeps : (t u : Tables) (o : List ℕ × ObjectDefinition) → AreSoundTables t → HaveSingleOptions o.1.fields → with_object t o ≡ Ok u → AreSoundTables u
+object_keeps t u o sound one h =
+    let new = added (has_name o.0 t.enums || has_name o.0 t.objects) (faults.DuplicateName o.0) (record t { objects = with_name o t.objects }) u h in
+    subst AreSoundTables new.1 (record {
+      variants = sound.variants;
+      apart = apart_with o t.objects t.enums (left_false (has_name o.0 t.enums) (has_name o.0 t.objects) new.0) sound.apart;
+      fields = all_with (λ (x : List ℕ × ObjectDefinition). HaveSingleOptions x.1.fields) o t.objects one sound.fields;
+      names = sound.names;
+      variables = sound.variables;
+    })
+
+-- a feature that is read
+IsReadFeature : List ℕ × FeatureDefinition → Type 0
+IsReadFeature f = IsTrue (is_name f.0) × HaveSingleOptions f.1.variables
+
+feature_keeps : (t u : Tables) (f : List ℕ × FeatureDefinition) → AreSoundTables t → IsReadFeature f → with_feature t f ≡ Ok u → AreSoundTables u
+unfolding IsReadFeature
+feature_keeps t u f sound one h =
+    let new = added (has_name f.0 t.features) (faults.DuplicateName f.0) (record t { features = with_name f t.features }) u h in
+    subst AreSoundTables new.1 (record {
+      variants = sound.variants;
+      apart = sound.apart;
+      fields = sound.fields;
+      names = all_with (λ (x : List ℕ × FeatureDefinition). IsTrue (is_name x.0)) f t.features one.0 sound.names;
+      variables = all_with (λ (x : List ℕ × FeatureDefinition). HaveSingleOptions x.1.variables) f t.features one.1 sound.variables;
+    })
+
+features_read : (m : Module) → IsReadModule m → All IsReadFeature m.features
+unfolding IsReadFeature
+features_read m sound k d h = (sound.names k d h, sound.variables k d h)
+
+module_keeps : (t u : Tables) (m : Module) → AreSoundTables t → IsReadModule m → with_module t m ≡ Ok u → AreSoundTables u
+unfolding with_module
+module_keeps t u m sound read h =
+    let a = bind_ok (each with_enum t m.enums) _ u h in
+    let b = bind_ok (each with_enum a.0 m.types_enums) _ u a.2 in
+    let c = bind_ok (each with_object b.0 m.objects) _ u b.2 in
+    let d = bind_ok (each with_object c.0 m.types_objects) _ u c.2 in
+    let sound_a = each_keeps AreSoundTables (λ (x : List ℕ × EnumDefinition). 0 < length x.1.variants) with_enum enum_keeps m.enums t a.0 read.variants sound a.1 in
+    let sound_b = each_keeps AreSoundTables (λ (x : List ℕ × EnumDefinition). 0 < length x.1.variants) with_enum enum_keeps m.types_enums a.0 b.0 read.types_variants sound_a b.1 in
+    let sound_c = each_keeps AreSoundTables (λ (x : List ℕ × ObjectDefinition). HaveSingleOptions x.1.fields) with_object object_keeps m.objects b.0 c.0 read.fields sound_b c.1 in
+    let sound_d = each_keeps AreSoundTables (λ (x : List ℕ × ObjectDefinition). HaveSingleOptions x.1.fields) with_object object_keeps m.types_objects c.0 d.0 read.types_fields sound_c d.1 in
+    each_keeps AreSoundTables IsReadFeature with_feature feature_keeps m.features d.0 u (features_read m read) sound_d d.2
+
+nothing_sound : AreSoundTables no_tables
+unfolding AreApart
+nothing_sound = record {
+  variants = all_nil (λ (x : List ℕ × EnumDefinition). 0 < length x.1.variants);
+  apart = all_nil (λ (x : List ℕ × EnumDefinition). has_name {T = ObjectDefinition} x.0 [] ≡ false);
+  fields = all_nil (λ (x : List ℕ × ObjectDefinition). HaveSingleOptions x.1.fields);
+  names = all_nil (λ (x : List ℕ × FeatureDefinition). IsTrue (is_name x.0));
+  variables = all_nil (λ (x : List ℕ × FeatureDefinition). HaveSingleOptions x.1.variables);
+}
+
+tables_sound : (modules : List Module) (t : Tables) → All IsReadModule modules → tables_of modules ≡ Ok t → AreSoundTables t
+tables_sound modules t read h = each_keeps AreSoundTables IsReadModule with_module module_keeps modules no_tables t read nothing_sound h
+
+-- ---- the checks
+
+known_ok : (o : Option (List ℕ)) (u : Unit {0}) → all_known o ≡ Ok u → o ≡ None
+known_ok None u h = refl
+known_ok (Some name) u h = absurd cc
+
+both_none : (a b : Option (List ℕ)) → option_or a b ≡ None → (a ≡ None) × (b ≡ None)
+both_none None b h = (refl, h)
+both_none (Some n) b h = absurd cc
+
+none_found : {A : Type 0} (find : A → Option (List ℕ)) (xs : List A) → first_found find xs ≡ None → All (λ x. find x ≡ None) xs
+none_found find [] h = all_nil (λ x. find x ≡ None)
+none_found find (x ∷ xs) h = let both = both_none (find x) (first_found find xs) h in all_cons (λ y. find y ≡ None) x xs both.0 (none_found find xs both.1)
+
+grounded_ok : (g : Result (Unit {0}) GroundFault) (u : Unit {0}) → all_grounded g ≡ Ok u → g ≡ Ok tt
+grounded_ok (Ok v) u h = refl
+grounded_ok (Err (ground_faults.EndlessObject name)) u h = absurd cc
+grounded_ok (Err (ground_faults.ObjectTooLarge name)) u h = absurd cc
+grounded_ok (Err ground_faults.OutOfMemory) u h = absurd cc
+
+sound_fields : (types : TypeTable) (fields : List (List ℕ × Field)) → unknown_in types fields ≡ None → HaveSingleOptions fields → AreSoundFields types fields
+sound_fields types fields known single k d h = record {
+  known = none_found (λ (f : List ℕ × Field). unknown_name types (shape_of f.1.field_type)) fields known k d h;
+  options = single k d h;
+}
+
+sound_objects : (types : TypeTable) (objects : List (List ℕ × ObjectDefinition)) → All (λ (o : List ℕ × ObjectDefinition). unknown_in types o.1.fields ≡ None) objects → HaveReadFields objects → All (λ (o : List ℕ × ObjectDefinition). AreSoundFields types o.1.fields) objects
+sound_objects types objects known single k d h = sound_fields types _ (known k d h) (single k d h)
+
+sound_features : (types : TypeTable) (features : List (List ℕ × FeatureDefinition)) → All (λ (f : List ℕ × FeatureDefinition). unknown_in types f.1.variables ≡ None) features → HaveReadVariables features → All (λ (f : List ℕ × FeatureDefinition). AreSoundFields types f.1.variables) features
+sound_features types features known single k d h = sound_fields types _ (known k d h) (single k d h)
+
+checked_sound : (t : Tables) (channel : List ℕ) → AreSoundTables t → unknown_of (manifest_with t channel) ≡ None → grounding (manifest_with t channel).types ≡ Ok tt → IsSoundManifest (manifest_with t channel)
+unfolding AreApart
+checked_sound t channel sound known grounded =
+    let types : TypeTable = (manifest_with t channel).types in
+    let both = both_none (first_found (λ (o : List ℕ × ObjectDefinition). unknown_in types o.1.fields) t.objects) (first_found (λ (f : List ℕ × FeatureDefinition). unknown_in types f.1.variables) t.features) known in
+    record {
+      types = record { variants = sound.variants; apart = sound.apart; fields = sound_objects types t.objects (none_found (λ (o : List ℕ × ObjectDefinition). unknown_in types o.1.fields) t.objects both.0) sound.fields };
+      grounded = grounded;
+      names = sound.names;
+      variables = sound_features types t.features (none_found (λ (f : List ℕ × FeatureDefinition). unknown_in types f.1.variables) t.features both.1) sound.variables;
+    }
+
+pub joined_sound : (modules : List Module) (channel : List ℕ) (m : Manifest) → All IsReadModule modules → joined modules channel ≡ Ok m → IsSoundManifest m
+unfolding joined
+joined_sound modules channel m read h =
+    let a = bind_ok (defined modules channel) _ m h in
+    let k = bind_ok (all_known (unknown_of a.0)) _ m a.2 in
+    let g = bind_ok (all_grounded (grounding a.0.types)) _ m k.2 in
+    let c = bind_ok (channel_known (is_among channel (root_channels modules))) _ m g.2 in
+    let t = bind_ok (tables_of modules) (λ t. Ok (manifest_with t channel)) a.0 a.1 in
+    let same : manifest_with t.0 channel ≡ a.0 = cc in
+    let last : a.0 ≡ m = cc in
+    let known = ap unknown_of same ∙ known_ok (unknown_of a.0) k.0 k.1 in
+    let ground = ap (λ (n : Manifest). grounding n.types) same ∙ grounded_ok (grounding a.0.types) g.0 g.1 in
+    subst IsSoundManifest (same ∙ last) (checked_sound t.0 channel (tables_sound modules t.0 read t.1) known ground)
+
+-- what a call returned of what is joined
+pub gives_sound : (modules : List Module) (channel : List ℕ) (got : Result Manifest LinkFault) → All IsReadModule modules → Gives got (joined modules channel) → IfOk got IsSoundManifest
+gives_sound modules channel (Ok m) read h = joined_sound modules channel m read h
+gives_sound modules channel (Err e) read h = tt

@@ -1,0 +1,70 @@
+-- The files of a manifest: the list that starts with the root, and to which each file, in the list's order, adds those of its includes that aren't in it.
+use Rattle.std.specs.Prelude.{ℕ, zero, suc, nat_lt, nat_le, Bool, List as Seq, [], ◌∷◌, ◌++◌, length, slice_get, Option, None, Some, Result, Ok, Err, bytes_eq, if◌then◌else◌}
+use Rattle.std.specs.List.{list_any}
+use Rattle.json_tree.specs.Json.{Json, depth}
+use Rattle.json_tree.specs.Bytes.{tree_of, max_depth}
+use Rattle.fml_reader.specs.Modules.{module_of}
+use Rattle.fml_reader.specs.declared.fault.ModuleFault.{ModuleFault}
+use Rattle.fml_reader.specs.declared.fault.ModuleFault.TheVariants as read
+use Rattle.fml_reader.specs.declared.module.Module.{Module}
+use Rattle.fml_link.specs.Outcome.{◌>>=◌, each}
+use Rattle.fml_link.specs.declared.fault.LinkFault.{LinkFault}
+use Rattle.fml_link.specs.declared.fault.LinkFault.TheVariants as faults
+
+-- the most bytes of a file
+abbrev pub max_bytes : ℕ
+max_bytes = 4194304
+
+-- the most files of a manifest
+abbrev pub max_files : ℕ
+max_files = 64
+
+-- a value that nests at most 64 deep
+abbrev pub shallow_tree : Seq ℕ → Option Json → Result Json LinkFault
+shallow_tree name None = Err (faults.NotJson name)
+shallow_tree name (Some x) = if nat_le (depth x) max_depth then Ok x else Err (faults.NotJson name)
+
+-- the value of the file of this name
+unfoldable pub file_tree : Seq ℕ → Option (Seq ℕ) → Result Json LinkFault
+file_tree name None = Err (faults.AbsentFile name)
+file_tree name (Some bytes) = if nat_lt max_bytes (length bytes) then Err (faults.FileTooLarge name (length bytes)) else shallow_tree name (tree_of bytes)
+
+-- what is read of the file of this name
+abbrev pub in_file : {A : Type 0} → Seq ℕ → Result A ModuleFault → Result A LinkFault
+in_file name (Ok x) = Ok x
+in_file name (Err (read.BadShape path)) = Err (faults.BadShape name path)
+in_file name (Err read.ImportsUnbuilt) = Err (faults.ImportsUnbuilt name)
+in_file name (Err read.OutOfMemory) = Err faults.OutOfMemory
+
+-- what the file of this name says
+unfoldable pub file_module : Seq ℕ → Option (Seq ℕ) → Result Module LinkFault
+file_module name file = do
+  x ← file_tree name file
+  in_file name (module_of x)
+
+abbrev pub is_among : Seq ℕ → Seq (Seq ℕ) → Bool
+is_among name names = list_any (λ n. bytes_eq n name) names
+
+-- the names, and after them the include where it isn't there yet
+abbrev pub with_include : Seq (Seq ℕ) → Seq ℕ → Result (Seq (Seq ℕ)) LinkFault
+with_include names include = if is_among include names then Ok names else if nat_lt (length names) max_files then Ok (names ++ include ∷ []) else Err faults.TooManyFiles
+
+abbrev pub with_includes : Seq (Seq ℕ) → Seq (Seq ℕ) → Result (Seq (Seq ℕ)) LinkFault
+with_includes names includes = each with_include names includes
+
+-- one more file of the list, where there is one, and then the rest
+abbrev pub with_file : (Seq (Seq ℕ) → Seq Module → Result (Seq Module) LinkFault) → (Seq ℕ → Option (Seq ℕ)) → Seq (Seq ℕ) → Seq Module → Option (Seq ℕ) → Result (Seq Module) LinkFault
+with_file rest file names modules None = Ok modules
+with_file rest file names modules (Some name) = do
+  m ← file_module name (file name)
+  longer ← with_includes names m.includes
+  rest longer (modules ++ m ∷ [])
+
+-- what all files of a list say, of which the first files have been read and at most so many have not
+unfoldable pub listed : (Seq ℕ → Option (Seq ℕ)) → ℕ → Seq (Seq ℕ) → Seq Module → Result (Seq Module) LinkFault
+listed file zero names modules = Ok modules
+listed file (suc n) names modules = with_file (listed file n) file names modules (slice_get names (length modules))
+
+-- what the files of a root say, in order
+abbrev pub modules_of : (Seq ℕ → Option (Seq ℕ)) → Seq ℕ → Result (Seq Module) LinkFault
+modules_of file root = listed file max_files (root ∷ []) []

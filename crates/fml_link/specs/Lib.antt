@@ -1,0 +1,5 @@
+pub mod Outcome
+pub mod Files
+pub mod Sound
+pub mod Tables
+pub mod Linking

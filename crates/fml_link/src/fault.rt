@@ -1,0 +1,54 @@
+// Why no manifest is linked.
+ghost use Rattle.std.specs.Prelude.{◌≡◌};
+ghost use Rattle.fml_link.specs.declared.fault.LinkFault.TheVariants.{OutOfMemory};
+
+use sequences::Text;
+use std::alloc::{AllocError, AllocFailed};
+
+/// Why `link` gives no manifest. A file is named as the root or an include names it.
+#[derive(Drop)]
+pub enum LinkFault {
+    /// There is no file of that name.
+    AbsentFile(Text),
+    /// The file of that name has so many bytes, more than 4,194,304.
+    FileTooLarge(Text, u64),
+    /// The file of that name is no JSON, or nests beyond 64.
+    NotJson(Text),
+    /// In the file of that name, the first place that doesn't have its shape: the keys and the
+    /// indexes from the root of its tree, each after a `/`.
+    BadShape(Text, Text),
+    /// The file of that name imports other manifests.
+    ImportsUnbuilt(Text),
+    /// The files have more than 64 names.
+    TooManyFiles,
+    /// The first name that is met twice among enums and objects, or twice among features.
+    DuplicateName(Text),
+    /// The first name in a type that is neither an enum's nor an object's, or that is a map's key
+    /// and no enum's.
+    UnknownType(Text),
+    /// The least name of an object whose height is above 32.
+    EndlessObject(Text),
+    /// The least name of an object whose weight is above 16,384.
+    ObjectTooLarge(Text),
+    /// The root doesn't have the channel.
+    UnknownChannel,
+    /// The shelf has failed.
+    ShelfFault,
+    OutOfMemory,
+}
+
+impl From<AllocError> for LinkFault {
+    ghost from_gives = { λ _ e. e ≡ OutOfMemory };
+
+    fn from(_e: AllocError) -> LinkFault {
+        LinkFault::OutOfMemory
+    }
+}
+
+impl<T: Drop> From<AllocFailed<T>> for LinkFault {
+    ghost from_gives = { λ _ e. e ≡ OutOfMemory };
+
+    fn from(_e: AllocFailed<T>) -> LinkFault {
+        LinkFault::OutOfMemory
+    }
+}

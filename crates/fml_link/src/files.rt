@@ -1,0 +1,131 @@
+// The files of a manifest.
+ghost use Rattle.std.specs.Prelude.{◌≡◌, ◌≤◌, List, ℕ, All, IfOk, IsErrOf};
+ghost use Rattle.json_tree.specs.Bytes.{tree_of};
+ghost use Rattle.json_tree.specs.Tree.{json_of};
+ghost use Rattle.host_model.specs.Causes.{Rose};
+ghost use Rattle.fml_reader.specs.Modules.{module_of};
+ghost use Rattle.fml_link.specs.Files.{shallow_tree, in_file, file_tree, file_module, with_include, with_includes, modules_of};
+ghost use Rattle.fml_link.specs.Outcome.{Gives, GivesTree, Leaves};
+ghost use Rattle.fml_link.specs.Sound.{IsReadModule};
+
+use crate::fault::LinkFault;
+use fml_reader::{Module, ModuleFault, read_module};
+use host_model::{Shelf, ShelfAnswer};
+use json_tree::{Tree, TreeFault, read};
+use sequences::{Sequence, Text};
+use std::alloc::Global;
+
+/// The most files of a manifest.
+const MAX_FILES: usize = 64;
+
+/// What the files of a root say. They are read in the order in which their names are met.
+#[tactic(auto, using(crate::proofs::Linked::listed_turn, crate::proofs::Linked::listed_fails, crate::proofs::Linked::listed_full, crate::proofs::Linked::listed_none, crate::proofs::Linked::listed_end, crate::proofs::Alls::all_nil, crate::proofs::Alls::all_push))]
+pub(crate) fn modules_of<F: Shelf>(
+    alloc: Global,
+    shelf: &mut F,
+    root: &str,
+) -> Result<Sequence<Module>, LinkFault>
+    ensures reads { F.tells → Gives result (modules_of (F.file shelf.old) root.now) }
+    ensures sound { IfOk result (λ modules. All IsReadModule modules) }
+    ensures files { F.tells → (other : List ℕ) → F.file shelf.new other ≡ F.file shelf.old other }
+    ensures cause { IsErrOf result LinkFault.ShelfFault → Rose (F.faults shelf.old) (F.faults shelf.new) }
+    ensures faults { F.faults shelf.old ≤ F.faults shelf.new }
+{
+    let mut names = Sequence::new(alloc);
+    names.push(Text::new(alloc, root)?)?;
+    let mut modules = Sequence::new(alloc);
+    for place in 0..MAX_FILES {
+        match names.get(place) {
+            Some(name) => {
+                let file = file_module(alloc, shelf, name)?;
+                add_includes(&mut names, file.includes.as_slice())?;
+                modules.push(file)?;
+            }
+            None => return Ok(modules),
+        }
+    }
+    Ok(modules)
+}
+
+/// Adds those of the includes to the names that aren't there yet.
+#[tactic(auto, using(crate::proofs::Linked::slice_fails, crate::proofs::Linked::slice_turn))]
+fn add_includes(names: &mut Sequence<Text>, includes: &[Text]) -> Result<(), LinkFault>
+    ensures leaves { Leaves names.new result (with_includes names.old includes.now) }
+    ensures not_shelf { ¬ IsErrOf result LinkFault.ShelfFault }
+{
+    for include in includes {
+        add_include(names, include)?;
+    }
+    Ok(())
+}
+
+fn add_include(names: &mut Sequence<Text>, include: &Text) -> Result<(), LinkFault>
+    ensures leaves { Leaves names.new result (with_include names.old include.now) }
+    ensures not_shelf { ¬ IsErrOf result LinkFault.ShelfFault }
+{
+    if names.as_slice().contains(include) {
+        return Ok(());
+    }
+    if names.len() >= MAX_FILES {
+        return Err(LinkFault::TooManyFiles);
+    }
+    names.push(include.clone()?)?;
+    Ok(())
+}
+
+/// What the file of this name says.
+#[tactic(auto, using(crate::proofs::Linked::fails_bind), unfolding(crate::specs::Files::file_module))]
+fn file_module<F: Shelf>(alloc: Global, shelf: &mut F, name: &Text) -> Result<Module, LinkFault>
+    ensures reads { F.tells → Gives result (file_module name.now (F.file shelf.old name.now)) }
+    ensures sound { IfOk result (λ m. IsReadModule m) }
+    ensures files { F.tells → (other : List ℕ) → F.file shelf.new other ≡ F.file shelf.old other }
+    ensures cause { IsErrOf result LinkFault.ShelfFault → Rose (F.faults shelf.old) (F.faults shelf.new) }
+    ensures faults { F.faults shelf.old ≤ F.faults shelf.new }
+{
+    let tree = file_tree(alloc, shelf, name)?;
+    module_in(alloc, name, &tree)
+}
+
+/// The tree of the file of this name.
+#[tactic(auto, unfolding(crate::specs::Files::file_tree))]
+fn file_tree<F: Shelf>(alloc: Global, shelf: &mut F, name: &Text) -> Result<Tree, LinkFault>
+    ensures reads { F.tells → GivesTree result (file_tree name.now (F.file shelf.old name.now)) }
+    ensures files { F.tells → (other : List ℕ) → F.file shelf.new other ≡ F.file shelf.old other }
+    ensures cause { IsErrOf result LinkFault.ShelfFault → Rose (F.faults shelf.old) (F.faults shelf.new) }
+    ensures faults { F.faults shelf.old ≤ F.faults shelf.new }
+{
+    match shelf.take(alloc, name.as_str()) {
+        ShelfAnswer::Bytes(bytes) => tree_in(alloc, name, &bytes),
+        ShelfAnswer::Absent => Err(LinkFault::AbsentFile(name.clone()?)),
+        ShelfAnswer::TooLarge(length) => Err(LinkFault::FileTooLarge(name.clone()?, length)),
+        ShelfAnswer::Failed => Err(LinkFault::ShelfFault),
+        ShelfAnswer::OutOfMemory => Err(LinkFault::OutOfMemory),
+    }
+}
+
+/// The tree of the bytes of the file of this name.
+fn tree_in(alloc: Global, name: &Text, bytes: &[u8]) -> Result<Tree, LinkFault>
+    ensures reads { GivesTree result (shallow_tree name.now (tree_of bytes.now)) }
+    ensures not_shelf { ¬ IsErrOf result LinkFault.ShelfFault }
+{
+    match read(alloc, bytes) {
+        Ok(tree) => Ok(tree),
+        Err(TreeFault::NotJson) => Err(LinkFault::NotJson(name.clone()?)),
+        Err(TreeFault::TooDeep) => Err(LinkFault::NotJson(name.clone()?)),
+        Err(TreeFault::OutOfMemory) => Err(LinkFault::OutOfMemory),
+    }
+}
+
+/// What the tree of the file of this name says.
+fn module_in(alloc: Global, name: &Text, tree: &Tree) -> Result<Module, LinkFault>
+    ensures reads { Gives result (in_file name.now (module_of (json_of tree.now))) }
+    ensures sound { IfOk result (λ m. IsReadModule m) }
+    ensures not_shelf { ¬ IsErrOf result LinkFault.ShelfFault }
+{
+    match read_module(alloc, tree) {
+        Ok(module) => Ok(module),
+        Err(ModuleFault::BadShape(path)) => Err(LinkFault::BadShape(name.clone()?, path)),
+        Err(ModuleFault::ImportsUnbuilt) => Err(LinkFault::ImportsUnbuilt(name.clone()?)),
+        Err(ModuleFault::OutOfMemory) => Err(LinkFault::OutOfMemory),
+    }
+}

@@ -1,0 +1,17 @@
+//! A feature manifest, linked from its files.
+//!
+//! The files and what they include are those of the Feature Manifest Language (FML).
+#![tactic(auto)]
+
+mod checks;
+mod fault;
+mod files;
+mod linking;
+mod tables;
+
+pub use fault::LinkFault;
+pub use linking::link;
+pub use sequences::Text;
+
+#[cfg(test)]
+mod tests;

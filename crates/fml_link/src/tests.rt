@@ -1,0 +1,196 @@
+// Manifests that are linked from files in memory.
+use super::*;
+use fml_types::Manifest;
+use host_model::MemShelf;
+use std::alloc::Global;
+use std::test::Fail;
+
+fn check(holds: bool) -> Result<(), Fail> {
+    if holds {
+        Ok(())
+    } else {
+        Err(Fail::from("a check doesn't hold"))
+    }
+}
+
+fn named(alloc: Global, fault: &str, name: &Text) -> Result<String, Fail> {
+    let name = name.as_str();
+    Ok(format!(in alloc; "{fault} {name}")?)
+}
+
+// What a file that is read is refused for.
+fn file_fault(alloc: Global, fault: &LinkFault) -> Result<String, Fail> {
+    match fault {
+        LinkFault::AbsentFile(name) => named(alloc, "AbsentFile", name),
+        LinkFault::FileTooLarge(name, length) => {
+            let name = name.as_str();
+            Ok(format!(in alloc; "FileTooLarge {name} {length}")?)
+        }
+        LinkFault::NotJson(name) => named(alloc, "NotJson", name),
+        LinkFault::BadShape(name, path) => {
+            let name = name.as_str();
+            let path = path.as_str();
+            Ok(format!(in alloc; "BadShape {name} {path}")?)
+        }
+        LinkFault::ImportsUnbuilt(name) => named(alloc, "ImportsUnbuilt", name),
+        LinkFault::TooManyFiles => Ok(String::from_str(alloc, "TooManyFiles")?),
+        LinkFault::ShelfFault => Ok(String::from_str(alloc, "ShelfFault")?),
+        _ => Err(Fail::from("memory is wanting")),
+    }
+}
+
+// What linking is refused for.
+fn fault_text(alloc: Global, fault: &LinkFault) -> Result<String, Fail> {
+    match fault {
+        LinkFault::DuplicateName(name) => named(alloc, "DuplicateName", name),
+        LinkFault::UnknownType(name) => named(alloc, "UnknownType", name),
+        LinkFault::EndlessObject(name) => named(alloc, "EndlessObject", name),
+        LinkFault::ObjectTooLarge(name) => named(alloc, "ObjectTooLarge", name),
+        LinkFault::UnknownChannel => Ok(String::from_str(alloc, "UnknownChannel")?),
+        fault => file_fault(alloc, fault),
+    }
+}
+
+// What the file of this name is refused for, or `ok`.
+fn has_verdict(
+    alloc: Global,
+    shelf: &mut MemShelf,
+    name: &str,
+    channel: &str,
+    want: &str,
+) -> Result<(), Fail> {
+    match link(alloc, shelf, name, channel) {
+        Ok(manifest) => check(want == "ok" && manifest.channel.as_str() == channel),
+        Err(fault) => check(fault_text(alloc, &fault)?.as_str() == want),
+    }
+}
+
+const OTHER: &[u8] =
+    b"{\"channels\":[\"release\"],\"include\":[\"root.json\"],\"enums\":{\"E\":{\"variants\":{\"x\":{}}}},\"features\":{\"f\":{}}}";
+
+// The verdict of a file that may include `other.json`.
+fn root_verdict(alloc: Global, text: &str, want: &str) -> Result<(), Fail> {
+    let mut shelf = MemShelf::new(alloc, &[])?;
+    shelf.add(alloc, "root.json", text.as_bytes())?;
+    shelf.add(alloc, "other.json", OTHER)?;
+    has_verdict(alloc, &mut shelf, "root.json", "release", want)
+}
+
+// Each line is a verdict and a file.
+fn have_verdicts(alloc: Global, rows: &str) -> Result<(), Fail> {
+    for row in rows.lines() {
+        if let Some((want, text)) = row.split_once(" = ") {
+            root_verdict(alloc, text, want)?;
+        }
+    }
+    Ok(())
+}
+
+#[test]
+fn faults_of_files(rt: HostRuntime) -> Result<(), Fail> {
+    let alloc = rt.alloc();
+    have_verdicts(
+        alloc,
+        "AbsentFile gone.json = {\"includes\":[\"gone.json\",\"other.json\"]}\nNotJson root.json = {\nBadShape root.json /channels = {\"channels\":1,\"includes\":[\"gone.json\"]}\nImportsUnbuilt root.json = {\"imports\":[1],\"features\":1}\nok = {\"channels\":[\"release\"],\"includes\":[\"other.json\",\"root.json\"],\"features\":{\"E\":{}}}",
+    )?;
+    have_verdicts(
+        alloc,
+        "DuplicateName E = {\"includes\":[\"other.json\"],\"objects\":{\"E\":{\"fields\":{}}}}\nDuplicateName f = {\"includes\":[\"other.json\"],\"features\":{\"f\":{}}}\nDuplicateName A = {\"objects\":{\"A\":{\"fields\":{}}},\"types\":{\"enums\":{\"A\":{\"variants\":{\"x\":1}}}}}\nUnknownType T = {\"features\":{\"g\":{\"variables\":{\"v\":{\"type\":\"Option<T>\"}}}}}\nUnknownType O = {\"objects\":{\"O\":{\"fields\":{\"m\":{\"type\":\"Map<O, U>\"}}}}}\nUnknownChannel = {\"channels\":[\"nightly\"],\"includes\":[\"other.json\"]}",
+    )
+}
+
+const MANIFEST: &[u8] =
+    b"{\"channels\":[\"release\",\"nightly\"],\"features\":{\"homescreen\":{\"variables\":{\"card\":{\"type\":\"Card\",\"default\":{}},\"sections-enabled\":{\"type\":\"Map<HomeSection, Boolean>\",\"default\":{\"top-sites\":true}}}}},\"enums\":{\"HomeSection\":{\"variants\":{\"top-sites\":{},\"pocket\":{}}}},\"objects\":{\"Card\":{\"fields\":{\"title\":{\"type\":\"Text\",\"default\":\"Hello\"}}}}}";
+
+const ENDLESS: &[u8] =
+    b"{\"channels\":[\"release\"],\"objects\":{\"A\":{\"fields\":{\"b\":{\"type\":\"B\"}}},\"B\":{\"fields\":{\"a\":{\"type\":\"A\"}}}}}";
+
+const OPTIONAL: &[u8] =
+    b"{\"channels\":[\"release\"],\"objects\":{\"A\":{\"fields\":{\"b\":{\"type\":\"B\"}}},\"B\":{\"fields\":{\"a\":{\"type\":\"Option<A>\"}}}}}";
+
+#[test]
+fn manifest_faults(rt: HostRuntime) -> Result<(), Fail> {
+    let alloc = rt.alloc();
+    let mut shelf = MemShelf::new(alloc, &[5])?;
+    shelf.add(alloc, "m.json", MANIFEST)?;
+    shelf.add(alloc, "endless.json", ENDLESS)?;
+    shelf.add(alloc, "optional.json", OPTIONAL)?;
+    has_verdict(
+        alloc,
+        &mut shelf,
+        "endless.json",
+        "release",
+        "EndlessObject A",
+    )?;
+    has_verdict(alloc, &mut shelf, "optional.json", "release", "ok")?;
+    has_verdict(alloc, &mut shelf, "m.json", "beta", "UnknownChannel")?;
+    has_verdict(alloc, &mut shelf, "m.json", "nightly", "ok")?;
+    has_verdict(alloc, &mut shelf, "m.json", "nightly", "ShelfFault")
+}
+
+// A file of so many bytes that are spaces.
+fn blank(alloc: Global, len: usize) -> Result<String, Fail> {
+    let mut text = String::new(alloc);
+    for _ in 0..len {
+        text.push_str(" ")?;
+    }
+    Ok(text)
+}
+
+#[test]
+fn sizes(rt: HostRuntime) -> Result<(), Fail> {
+    let alloc = rt.alloc();
+    let text = blank(alloc, 4_194_305)?;
+    root_verdict(alloc, text.as_str(), "FileTooLarge root.json 4194305")?;
+    let default = blank(alloc, 16_300)?;
+    let text = format!(in alloc;
+        "{{\"objects\":{{\"O\":{{\"fields\":{{\"f\":{{\"type\":\"Text\",\"default\":\"{default}\"}}}}}}}}}}"
+    )?;
+    root_verdict(alloc, text.as_str(), "ObjectTooLarge O")
+}
+
+// The files from 1 to `last`, of which each includes the next.
+fn chain(alloc: Global, last: u32) -> Result<MemShelf, Fail> {
+    let mut shelf = MemShelf::new(alloc, &[])?;
+    for number in 1..last {
+        let name = format!(in alloc; "{number}")?;
+        let next = number.saturating_add(1);
+        let text = format!(in alloc; "{{\"channels\":[\"release\"],\"includes\":[\"{next}\"]}}")?;
+        shelf.add(alloc, name.as_str(), text.as_bytes())?;
+    }
+    let name = format!(in alloc; "{last}")?;
+    shelf.add(alloc, name.as_str(), b"{}")?;
+    Ok(shelf)
+}
+
+fn has_feature(manifest: &Manifest, name: &str, place: usize) -> Result<(), Fail> {
+    check(manifest.features.place(name) == Some(place))
+}
+
+#[test]
+fn lists_of_files(rt: HostRuntime) -> Result<(), Fail> {
+    let alloc = rt.alloc();
+    has_verdict(alloc, &mut chain(alloc, 64)?, "1", "release", "ok")?;
+    has_verdict(
+        alloc,
+        &mut chain(alloc, 65)?,
+        "1",
+        "release",
+        "TooManyFiles",
+    )?;
+    let mut shelf = MemShelf::new(alloc, &[])?;
+    shelf.add(
+        alloc,
+        "root.json",
+        b"{\"channels\":[\"release\"],\"includes\":[\"other.json\"],\"features\":{\"a\":{},\"g\":{}}}",
+    )?;
+    shelf.add(alloc, "other.json", OTHER)?;
+    let manifest = match link(alloc, &mut shelf, "root.json", "release") {
+        Ok(manifest) => manifest,
+        Err(_) => return Err(Fail::from("the files don't link")),
+    };
+    has_feature(&manifest, "a", 0)?;
+    has_feature(&manifest, "f", 1)?;
+    has_feature(&manifest, "g", 2)?;
+    check(manifest.types.enums.get("E").is_some())
+}
