@@ -1,2 +1,10 @@
 pub mod Walking
 pub mod Members
+pub mod Heights
+pub mod Ordered
+pub mod Searching
+pub mod Trees
+pub mod Taken
+pub mod OneValue
+pub mod Fitted
+pub mod Checked

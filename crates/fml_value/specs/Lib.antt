@@ -1,3 +1,11 @@
 pub mod Kinds
 pub mod Takes
 pub mod Fits
+pub mod Typed
+pub mod TypedOf
+pub mod Heights
+pub mod HasType
+pub mod Trees
+pub mod Entries
+pub mod Checks
+pub mod Laws

@@ -1,5 +1,5 @@
 -- Which trees a type takes: those that an overlay of a value of the type reads.
-use Rattle.std.specs.Prelude.{ℕ, Bool, false, ◌&&◌, ◌||◌, true, List, Option, Some, None}
+use Rattle.std.specs.Prelude.{Bool, false, ◌&&◌, ◌||◌, true, Option, Some, None}
 use Rattle.json_tree.specs.Json as json
 use Rattle.json_tree.specs.Json.{Json, Items}
 use Rattle.fml_types.specs.Named.{found}

@@ -1,5 +1,5 @@
 // Which trees fit a type.
-ghost use Rattle.std.specs.Prelude.{◌≡◌};
+ghost use Rattle.std.specs.Prelude.{◌≡◌, false};
 ghost use Rattle.fml_types.specs.Named.{found};
 ghost use Rattle.fml_types.specs.Shapes.{shape_of, key_of};
 ghost use Rattle.json_tree.specs.Json.{items_of, members_of};
@@ -8,7 +8,7 @@ ghost use Rattle.fml_value.specs.Fits as fitting;
 ghost use Rattle.fml_value.specs.Fits.{is_option, is_boolean, is_int, is_text_of, bare, of_list, of_object, of_named, items_fit, members_fit, type_of_entry, type_of_field};
 
 use crate::kinds::{is_key, is_variant_of};
-use fml_types::{FieldType, InnerType, Key, ObjectDefinition, TypeTable};
+use fml_types::{ByName, Field, FieldType, InnerType, Key, TypeTable};
 use json_tree::{Items, Members, Tree};
 
 /// Whether the tree fits the type: as `takes`, but the keys of a `Map` must be keys of its type and
@@ -90,18 +90,20 @@ fn named_fits(types: &TypeTable, name: &str, members: &Members) -> bool
         return false;
     }
     match types.objects.get(name) {
-        Some(object) => fields_fit(types, object, members),
+        Some(object) => fields_fit(types, &object.fields, members),
         None => false,
     }
 }
 
+/// Whether each key is a field's name, and its value fits that field's type. A field may be left
+/// out. It takes no memory.
 #[cycle(fits)]
-fn fields_fit(types: &TypeTable, object: &ObjectDefinition, members: &Members) -> bool
-    ensures { result ≡ members_fit types.now (type_of_field object.now.fields) (members_of members.now) }
+pub fn fields_fit(types: &TypeTable, fields: &ByName<Field>, members: &Members) -> bool
+    ensures { result ≡ members_fit types.now (type_of_field fields.now) (members_of members.now) }
 {
     let pairs = members.as_slice();
     for (name, tree) in pairs {
-        let Some(field) = object.fields.get(name.as_str()) else {
+        let Some(field) = fields.get(name.as_str()) else {
             return false;
         };
         if !fits(types, &field.field_type, tree) {
@@ -143,8 +145,9 @@ fn is_text_of(types: &TypeTable, of: &FieldType, text: &str) -> bool
 }
 
 // The type inside an `Option`, and each other type itself.
-fn bare(of: &FieldType) -> &FieldType
-    ensures { shape_of result.now ≡ bare (shape_of of.now) }
+pub(crate) fn bare(of: &FieldType) -> &FieldType
+    ensures shape { shape_of result.now ≡ bare (shape_of of.now) }
+    ensures bare { is_option (shape_of result.now) ≡ false }
 {
     match of {
         FieldType::Option(inner) => bare(inner.get()),

@@ -45,8 +45,9 @@ pub(crate) fn is_variant(definition: &EnumDefinition, text: &str) -> bool
     definition.variants.get(text).is_some()
 }
 
-// Whether a map of this key has such keys: each text, or the variants of the enum.
-pub(crate) fn is_key(types: &TypeTable, key: &Key, text: &str) -> bool
+/// Whether the text is a key of a map: each text is one of `String`, and each variant one of its
+/// enum. It takes no memory.
+pub fn is_key(types: &TypeTable, key: &Key, text: &str) -> bool
     ensures { result ≡ kinds.is_key types.now (key_of key.now) text.now }
 {
     match key {

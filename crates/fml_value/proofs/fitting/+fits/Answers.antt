@@ -1,4 +1,4 @@
-use Rattle.std.proofs.Common.{◌≡◌, ◌<◌, ◌≤◌, map, refl, sym, ap, ◌∙◌, subst, arith}
+use Rattle.std.proofs.Common.{◌≤◌, map, refl, sym, ◌∙◌, subst, arith}
 use Rattle.fml_types.specs.Shapes.{shape_of, key_of}
 use Rattle.json_tree.specs.Json.{depth, items_depth, members_depth, items_of, members_of}
 use Rattle.json_tree.specs.Tree.{json_of, member_of}
@@ -92,7 +92,7 @@ fields_fit-fits-requires t c =
 pub fields_fit-returns-in_default : goal.fields_fit-returns-in_default
 fields_fit-returns-in_default t c =
     let types = c.args.types.now in
-    let fields = c.args.object.now.fields in
+    let fields = c.args.fields.now in
     let m = c.loop-name-item.result in
     pair_refused (members_fit types (type_of_field fields)) (field_fits types fields) (λ k x ms. refl) c.as_slice-pairs.result.now c.args.members.now c.loop-name.name-index m c.as_slice-pairs.ensures.members c.loop-name-test.true c.loop-name-item.is c.loop-name.invariant
     (no_field types fields m.0 c.as_str.result.now (json_of m.1) c.get.result c.as_str.ensures.text c.get.ensures c.in_default.not-Some)
@@ -100,7 +100,7 @@ fields_fit-returns-in_default t c =
 pub fields_fit-returns-then-not-fits : goal.fields_fit-returns-then-not-fits
 fields_fit-returns-then-not-fits t c =
     let types = c.args.types.now in
-    let fields = c.args.object.now.fields in
+    let fields = c.args.fields.now in
     let m = c.loop-name-item.result in
     pair_refused (members_fit types (type_of_field fields)) (field_fits types fields) (λ k x ms. refl) c.as_slice-pairs.result.now c.args.members.now c.loop-name.name-index m c.as_slice-pairs.ensures.members c.loop-name-test.true c.loop-name-item.is c.loop-name.invariant
     (field_there types fields m.0 c.as_str.result.now (json_of m.1) c.get.result c.in-Some.field c.fits.result c.as_str.ensures.text c.get.ensures c.in-Some.is c.fits.ensures ∙ c.if-not-fits.true)
@@ -108,7 +108,7 @@ fields_fit-returns-then-not-fits t c =
 pub fields_fit-loop-name-preserved : goal.fields_fit-loop-name-preserved
 fields_fit-loop-name-preserved t c =
     let types = c.args.types.now in
-    let fields = c.args.object.now.fields in
+    let fields = c.args.fields.now in
     let m = c.loop-name-item.result in
     pair_passed (members_fit types (type_of_field fields)) (field_fits types fields) (λ k x ms. refl) c.as_slice-pairs.result.now c.loop-name.name-index m c.loop-name-test.true c.loop-name-item.is c.loop-name.invariant
     (field_there types fields m.0 c.as_str.result.now (json_of m.1) c.get.result c.in-Some.field c.fits.result c.as_str.ensures.text c.get.ensures c.in-Some.is c.fits.ensures ∙ c.if-not-fits.false)
@@ -116,5 +116,5 @@ fields_fit-loop-name-preserved t c =
 pub fields_fit-returns : goal.fields_fit-returns
 fields_fit-returns t c =
     let types = c.args.types.now in
-    let fields = c.args.object.now.fields in
+    let fields = c.args.fields.now in
     pairs_end (members_fit types (type_of_field fields)) (field_fits types fields) (λ k x ms. refl) c.as_slice-pairs.result.now c.args.members.now c.loop-name.name-index c.as_slice-pairs.ensures.members c.loop-name-test.false c.loop-name.invariant refl

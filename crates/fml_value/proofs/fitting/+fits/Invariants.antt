@@ -36,4 +36,4 @@ invariant-entries_fit-loop-name l =
 
 abbrev pub invariant-fields_fit-loop-name : goal.invariant-fields_fit-loop-name
 invariant-fields_fit-loop-name l =
-    of_pairs (members_fit l.types (type_of_field l.object.fields)) l.pairs ≡ of_pairs (members_fit l.types (type_of_field l.object.fields)) (drop l.name-index l.pairs)
+    of_pairs (members_fit l.types (type_of_field l.fields)) l.pairs ≡ of_pairs (members_fit l.types (type_of_field l.fields)) (drop l.name-index l.pairs)

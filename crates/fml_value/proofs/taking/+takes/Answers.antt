@@ -1,4 +1,4 @@
-use Rattle.std.proofs.Common.{◌≡◌, refl, sym, ap, ◌∙◌}
+use Rattle.std.proofs.Common.{refl, sym, ap, ◌∙◌}
 use Rattle.fml_types.specs.Shapes.{shape_of}
 use Rattle.json_tree.specs.Json.{items_of}
 use Rattle.json_tree.specs.Tree.{json_of}
