@@ -1,0 +1,206 @@
+use Rattle.std.proofs.Common.{◌≡◌, ◌+◌, ◌*◌, ◌<◌, ◌≤◌, ◌++◌, map, take, Some, Bor, IfOk, true, option_map, refl, sym, ap, ◌∙◌, subst, arith}
+use Rattle.std.proofs.lemmas.List.{take_all}
+use Rattle.std.specs.Option.{option_to_list}
+use Rattle.std.proofs.Math.Nat.{mul-le-mul_left}
+use Rattle.json_tree.specs.Json.{depth, items_depth, members_depth, members_of, AreSoundMembers}
+use Rattle.json_tree.specs.Json as json
+use Rattle.json_tree.specs.Tree.{json_of, member_of}
+use Rattle.json_tree.proofs.ToData.{depth_at, member_depth_at}
+use Rattle.fml_types.specs.Named.{IsAbove, AreRising, found}
+use Rattle.fml_types.specs.Shape as shape
+use Rattle.fml_types.specs.Shape.{Shape, height}
+use Rattle.fml_types.specs.Shapes.{shape_of}
+use Rattle.fml_types.specs.declared.manifest.ObjectDefinition.{ObjectDefinition}
+use Rattle.fml_types.specs.declared.field_type.FieldType.{FieldType}
+use Rattle.fml_value.specs.Takes.{takes}
+use Rattle.fml_value.specs.Typed.{items_of}
+use Rattle.fml_value.specs.TypedOf.{typed_of, entry_of}
+use Rattle.fml_merge.specs.Overlay.{laid, items_laid, members_laid, pairs_in, value_with, type_under}
+use Rattle.fml_merge.specs.Zero.{zero_within, initial}
+use Rattle.fml_merge.specs.Merging.{over_zero, inside_laid, types_of, member_laid, lower, upper, named, unnamed}
+use Rattle.fml_merge.proofs.Measures.{step, field_weight, fields_weight, level, step_most, object_level, one_field, with_tree, some_weight, item_height, member_high, one_deeper, one_level}
+use Rattle.fml_merge.proofs.Merge.{merge_turn, merge_end, laid_rising, left_rising, upper-map, unnamed-map}
+use Rattle.fml_merge.proofs.Pieces.{option_laid, laid_items, member_over, named_has, above_before}
+use Rattle.fml_merge.proofs.laying.+laying.Goals as goal
+
+-- ---- zeros
+
+pub initial-with_default-requires : goal.initial-with_default-requires
+initial-with_default-requires t c =
+    let types = c.args.types.now in
+    let pairs = c.as_slice-pairs.result.now in
+    let f = c.loop-name-item.result in
+    let among = subst (λ y. field_weight types y.1 ≤ fields_weight types pairs) (sym c.loop-name-item.is) (one_field types pairs c.loop-name.name-index f c.loop-name-test.true) in
+    let within = subst (λ fs. field_weight types f.1 ≤ fields_weight types fs) c.as_slice-pairs.ensures.pairs among in
+    let h = c.decreases in
+    (omega (arith, within), tt)
+
+pub initial-push-requires : goal.initial-push-requires
+initial-push-requires t c =
+    let zeros = zero_within c.args.types.now c.args.levels in
+    let pairs = c.as_slice-pairs.result.now in
+    let rising = subst AreRising (sym c.as_slice-pairs.ensures.pairs) c.as_slice-pairs.ensures.rising in
+    let above = above_before zeros c.args.types.now pairs c.loop-name.name-index c.loop-name-item.result c.loop-name-test.true c.loop-name-item.is rising in
+    subst (λ es. IsAbove c.in_ok-clone.field-0 es) (sym c.loop-name.invariant) (subst (λ k. IsAbove k (initial zeros c.args.types.now (take c.loop-name.name-index pairs))) (sym c.in_ok-clone.ensures.cases) above)
+
+pub object_zero-initial-requires : goal.object_zero-initial-requires
+object_zero-initial-requires t c =
+    let types = c.args.types.now in
+    let o = c.in-Some.object in
+    let there : found c.args.name.now types.objects ≡ Some o.now = sym c.get.ensures ∙ ap (option_map (λ (v : Bor ObjectDefinition). v.now)) c.in-Some.is in
+    let fits = object_level types c.args.name.now o.now there in
+    let some : 0 < c.args.levels = omega arith in
+    let more = one_level (level types) c.args.levels some in
+    (omega (arith, fits, more), tt)
+
+pub with_default-lay-requires : goal.with_default-lay-requires
+with_default-lay-requires t c =
+    let weighs = with_tree c.args.types.now c.args.field.now c.in-Some.tree c.in-Some.is in
+    let h = c.decreases in
+    (omega (arith, weighs), tt)
+
+pub with_default-zero_within-requires : goal.with_default-zero_within-requires
+with_default-zero_within-requires t c =
+    let some = some_weight c.args.types.now c.args.field.now in
+    let h = c.decreases in
+    (omega (arith, some), tt)
+
+-- ---- options and lists
+
+pub lay-returns-in-Option : goal.lay-returns-in-Option
+lay-returns-in-Option t c =
+    let types = c.args.types.now in
+    let zeros = zero_within types c.args.levels in
+    let inner = c.in-Option.inner in
+    let x = json_of c.args.tree.now in
+    let base = over_zero zeros (shape.option inner) c.args.base in
+    let same : inside_laid zeros types inner (over_zero zeros inner c.held.result) x ≡ laid zeros types (shape_of c.args.of.now) (over_zero zeros (shape_of c.args.of.now) c.args.base) x =
+    ap (λ w. inside_laid zeros types inner w x) (c.held.ensures zeros inner refl) ∙ option_laid zeros types inner base x
+    ∙ ap (λ (o : FieldType). laid zeros types (shape_of o) (over_zero zeros (shape_of o) c.args.base) x) (sym c.in-Option.is) in
+    subst (λ w. IfOk c.lay_inside.result (λ v. typed_of v ≡ w)) same c.lay_inside.ensures
+
+pub lay-lay_items-requires : goal.lay-lay_items-requires
+lay-lay_items-requires t c =
+    let types = c.args.types.now in
+    let xs = c.in-List.items in
+    let deeper : step types * depth (json_of c.args.tree.now) ≡ step types * items_depth (json.items_of xs) + step types = ap (λ u. step types * depth (json_of u)) c.in-List.is ∙ one_deeper (step types) (items_depth (json.items_of xs)) in
+    let high = subst (λ (s : Shape). height s ≤ height (shape_of c.args.of.now)) (sym c.item_type.ensures) (item_height (shape_of c.args.of.now)) in
+    let most = step_most types in
+    let h = c.decreases in
+    (omega (arith, deeper, high, most), tt)
+
+pub lay-lay_object-requires : goal.lay-lay_object-requires
+lay-lay_object-requires t c =
+    let types = c.args.types.now in
+    let ms = c.in-Object.members in
+    let deeper : step types * depth (json_of c.args.tree.now) ≡ step types * members_depth (members_of ms) + step types = ap (λ u. step types * depth (json_of u)) c.in-Object.is ∙ one_deeper (step types) (members_depth (members_of ms)) in
+    let most = step_most types in
+    let h = c.decreases in
+    (omega (arith, deeper, most), tt)
+
+pub lay_items-lay-requires : goal.lay_items-lay-requires
+lay_items-lay-requires t c =
+    let types = c.args.types.now in
+    let trees = c.as_slice-trees.result.now in
+    let x = c.tree-item.result in
+    let among = subst (λ y. depth (json_of y) ≤ items_depth (json.items_of (map json_of trees))) (sym c.tree-item.is) (depth_at trees c.loop-tree.tree-index x c.loop-tree-test.true) in
+    let within = subst (λ xs. depth (json_of x) ≤ items_depth (json.items_of xs)) c.as_slice-trees.ensures.items among in
+    let less = mul-le-mul_left (step types) within in
+    let h = c.decreases in
+    (omega (arith, less), tt)
+
+pub lay_items-returns : goal.lay_items-returns
+lay_items-returns t c =
+    let types = c.args.types.now in
+    let zeros = zero_within types c.args.levels in
+    let s = shape_of c.args.of.now in
+    let trees = c.as_slice-trees.result.now in
+    ap items_of (c.loop-tree.invariant ∙ ap (map (λ u. laid zeros types s (zeros s) (json_of u))) (take_all c.loop-tree.tree-index trees c.loop-tree-test.false))
+    ∙ laid_items zeros types s trees ∙ ap (λ xs. items_laid zeros types s (json.items_of xs)) c.as_slice-trees.ensures.items
+
+-- ---- members
+
+pub lay_object-lay_members-requires : goal.lay_object-lay_members-requires
+lay_object-lay_members-requires t c =
+    let high = c.types_in.ensures.high in
+    let h = c.decreases in
+    (omega (arith, high), tt)
+
+pub lay_object-returns : goal.lay_object-returns
+lay_object-returns t c =
+    let types = c.args.types.now in
+    let zeros = zero_within types c.args.levels in
+    let s = shape_of c.args.of.now in
+    let ms = members_of c.args.members.now in
+    c.value_with.ensures ∙ ap (value_with s) (c.in_ok-entries.ensures ∙ ap (λ f. members_laid zeros types f c.entries_in-entries.result ms) c.types_in.ensures.types
+    ∙ ap (λ es. members_laid zeros types (type_under types s) es ms) (c.entries_in-entries.ensures ∙ ap pairs_in c.in_ok-base.ensures))
+
+pub lay_member-lay-requires : goal.lay_member-lay-requires
+lay_member-lay-requires t c =
+    let high = member_high c.args.types.now c.args.member_types c.as_str.result.now c.type_of.result c.in-Some.of c.type_of.ensures c.in-Some.is in
+    let h = c.decreases in
+    (omega (arith, high), tt)
+
+pub lay_member-lay-requires-in-None : goal.lay_member-lay-requires-in-None
+lay_member-lay-requires-in-None t c =
+    let high = member_high c.args.types.now c.args.member_types c.as_str.result.now c.type_of.result c.in-Some.of c.type_of.ensures c.in-Some.is in
+    let h = c.decreases in
+    (omega (arith, high), tt)
+
+pub lay_members-lay_member-requires : goal.lay_members-lay_member-requires
+lay_members-lay_member-requires t c =
+    let types = c.args.types.now in
+    let pairs = c.as_slice-pairs.result.now in
+    let m = c.loop-name-item.result in
+    let among = subst (λ y. depth (json_of y.1) ≤ members_depth (members_of (map member_of pairs))) (sym c.loop-name-item.is) (member_depth_at pairs c.loop-name.name-index m c.loop-name-test.true) in
+    let within = subst (λ ms. depth (json_of m.1) ≤ members_depth (members_of ms)) c.as_slice-pairs.ensures.members among in
+    let less = mul-le-mul_left (step types) within in
+    let h = c.decreases in
+    (omega (arith, less), λ p is. named_has c.as_str-key.result.now c.move_below.new.rest.items c.take_named-there.result p c.take_named-there.ensures.taken is ∙ c.as_str-key.ensures.text)
+
+pub lay_member-returns-in_ok-value-in-Some-there : goal.lay_member-returns-in_ok-value-in-Some-there
+lay_member-returns-in_ok-value-in-Some-there t c =
+    let types = c.args.types.now in
+    let zeros = zero_within types c.args.levels in
+    let type_of = types_of types c.args.member_types in
+    let k = c.args.name.now in
+    let x = json_of c.args.tree.now in
+    let s = shape_of c.in-Some.of.now in
+    let typed : type_of k ≡ Some s = ap type_of (sym c.as_str.ensures.text) ∙ sym c.type_of.ensures ∙ ap (option_map (λ (u : Bor FieldType). shape_of u.now)) c.in-Some.is in
+    let taken : takes types s x ≡ true = sym c.takes.ensures ∙ c.if-not-takes.false in
+    let same = c.requires (c.in-Some-there.name, c.in-Some-there.base) c.in-Some-there.is in
+    member_over zeros types type_of k x s c.in-Some-there.name (typed_of c.in-Some-there.base) (typed_of c.in_ok-value-in-Some-there.value) typed taken same c.in_ok-value-in-Some-there.ensures
+    ∙ sym (ap (λ o. member_laid zeros types type_of k x (map entry_of (option_to_list o))) c.in-Some-there.is)
+
+pub lay_members-loop-name-preserved : goal.lay_members-loop-name-preserved
+lay_members-loop-name-preserved t c =
+    let types = c.args.types.now in
+    let zeros = zero_within types c.args.levels in
+    let type_of = types_of types c.args.member_types in
+    let pairs = c.as_slice-pairs.result.now in
+    let m = c.loop-name-item.result in
+    let key = c.as_str-key.result.now in
+    let front = c.loop-name.laid.items in
+    let rest = c.loop-name.rest.items in
+    let entry = option_to_list c.in_ok-entry.entry in
+    let sound = subst (λ ms. AreSoundMembers (members_of ms)) (sym c.as_slice-pairs.ensures.members) c.as_slice-pairs.ensures.sound in
+    let grows : c.push_entry.new.entries.items ≡ (front ++ lower key rest) ++ entry = c.in_ok-push_entry.ensures ∙ ap (λ l. l ++ entry) c.in_ok-move_below.ensures.moved in
+    let goes : c.take_named-there.new.rest.items ≡ unnamed key (upper key rest) = c.take_named-there.ensures.rest ∙ ap (unnamed key) c.in_ok-move_below.ensures.rest in
+    let value : map entry_of entry ≡ member_laid zeros types type_of m.0 (json_of m.1) (map entry_of (named key (upper key rest))) =
+    c.in_ok-entry.ensures ∙ ap (λ ps. member_laid zeros types type_of m.0 (json_of m.1) (map entry_of ps)) (c.take_named-there.ensures.taken ∙ ap (named key) c.in_ok-move_below.ensures.rest) in
+    record {
+      same = merge_turn zeros types type_of pairs c.loop-name.name-index m key front c.push_entry.new.entries.items rest c.take_named-there.new.rest.items entry (members_laid zeros types type_of c.args.base (members_of (map member_of pairs)))
+          c.loop-name-test.true c.loop-name-item.is sound c.as_str-key.ensures.text c.loop-name.invariant.rising grows goes value c.loop-name.invariant.same;
+      rising = subst AreRising (sym (ap (map entry_of) goes ∙ unnamed-map key (upper key rest) ∙ ap (unnamed key) (upper-map key rest))) (left_rising zeros types type_of key (map entry_of rest) c.loop-name.invariant.rising);
+    }
+
+pub lay_members-from_vec-requires : goal.lay_members-from_vec-requires
+lay_members-from_vec-requires t c =
+    let types = c.args.types.now in
+    let zeros = zero_within types c.args.levels in
+    let type_of = types_of types c.args.member_types in
+    let pairs = c.as_slice-pairs.result.now in
+    let ms = members_of (map member_of pairs) in
+    let joins : c.append.new.self.items ≡ c.loop-name.laid.items ++ c.loop-name.rest.items = c.in_ok-append.ensures.items ∙ ap (λ l. c.loop-name.laid.items ++ l) c.into_vec-rest.ensures.items in
+    let whole = merge_end zeros types type_of pairs c.loop-name.name-index c.loop-name.laid.items c.loop-name.rest.items c.append.new.self.items (members_laid zeros types type_of c.args.base ms) c.loop-name-test.false joins c.loop-name.invariant.same in
+    subst AreRising (sym whole) (laid_rising zeros types type_of c.args.base ms c.into_vec.ensures.rising)

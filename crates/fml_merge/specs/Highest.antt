@@ -1,0 +1,22 @@
+-- How high the types of a table and of members are, which bounds a walk over them.
+use Rattle.std.specs.Prelude.{ℕ, List as Seq}
+use Rattle.fml_types.specs.Ground.{greatest}
+use Rattle.fml_types.specs.Shape.{height}
+use Rattle.fml_types.specs.Shapes.{shape_of}
+use Rattle.fml_types.specs.declared.manifest.Field.{Field}
+use Rattle.fml_types.specs.declared.manifest.TypeTable.{TypeTable}
+use Rattle.fml_merge.specs.declared.parts.MemberTypes.{MemberTypes}
+use Rattle.fml_merge.specs.declared.parts.MemberTypes.TheVariants as member
+
+-- the greatest height of these fields' types
+unfoldable pub highest_type : Seq (Seq ℕ × Field) → ℕ
+highest_type fields = greatest (λ f. height (shape_of f.1.field_type)) fields
+
+-- the greatest height of the types of all objects' fields
+unfoldable pub highest : TypeTable → ℕ
+highest types = greatest (λ o. highest_type o.1.fields) types.objects
+
+abbrev pub member_height : MemberTypes → ℕ
+member_height member.Nothing = 0
+member_height (member.Entries key of) = height (shape_of of.now)
+member_height (member.Fields fields) = highest_type fields.now

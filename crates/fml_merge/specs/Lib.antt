@@ -1,0 +1,7 @@
+pub mod Overlay
+pub mod Zero
+pub mod Features
+pub mod Faults
+pub mod Merging
+pub mod Highest
+pub mod Trees

@@ -1,0 +1,291 @@
+// Trees laid over values, and the zeros that they need.
+ghost use Rattle.std.specs.Prelude.{◌≡◌, [], IfOk, map};
+ghost use Rattle.std.specs.Option.{ForSome, option_to_list};
+ghost use Rattle.fml_types.specs.Shapes.{shape_of};
+ghost use Rattle.fml_value.specs.Typed.{items_of};
+ghost use Rattle.fml_value.specs.Typed as typed;
+ghost use Rattle.fml_value.specs.TypedOf.{typed_of, entry_of};
+ghost use Rattle.json_tree.specs.Json.{members_of};
+ghost use Rattle.json_tree.specs.Json as json;
+ghost use Rattle.json_tree.specs.Tree.{json_of};
+ghost use Rattle.fml_merge.specs.Overlay.{laid, items_laid, members_laid, type_under, value_with, pairs_in};
+ghost use Rattle.fml_merge.specs.Zero.{least, object_zero, initial, with_default};
+ghost use Rattle.fml_merge.specs.Zero as zeros;
+ghost use Rattle.fml_merge.specs.Merging.{over_zero, inside_laid, types_of, member_laid};
+
+use crate::moving::{move_below, push_entry, take_named};
+use crate::parts::{
+    MemberTypes, entries_in, held, item_type, text_value, type_of, types_in, value_with,
+};
+use fml_types::{ByName, EnumDefinition, Field, FieldType, InnerType, TypeTable};
+use fml_value::{Entries, InnerValue, Value, Values, takes};
+use json_tree::{Items, Members, Tree};
+use sequences::Text;
+use std::alloc::{AllocError, Global};
+use std::collections::VecDeque;
+
+/// A tree that the type takes, laid over a value of the type, or over the zero of the type where
+/// there is no value. Zeros have at most so many levels of objects.
+#[cycle(laying)]
+pub(crate) fn lay(
+    alloc: Global,
+    types: &TypeTable,
+    levels: usize,
+    of: &FieldType,
+    base: Option<Value>,
+    tree: &Tree,
+) -> Result<Value, AllocError>
+    ensures { let zeros = zeros.zero_within types.now levels in IfOk result (λ v. typed_of v ≡ laid zeros types.now (shape_of of.now) (over_zero zeros (shape_of of.now) base) (json_of tree.now)) }
+{
+    if let FieldType::Option(inner) = of {
+        return lay_inside(alloc, types, levels, inner, held(base), tree);
+    }
+    match tree {
+        Tree::Null => Ok(Value::Absent),
+        Tree::Odd => Ok(Value::Absent),
+        Tree::Truth(truth) => Ok(Value::Truth(*truth)),
+        Tree::Whole(whole) => Ok(Value::Whole(*whole)),
+        Tree::Text(text) => Ok(text_value(of, text.clone()?)),
+        Tree::List(items) => Ok(Value::List(lay_items(
+            alloc,
+            types,
+            levels,
+            item_type(of),
+            items,
+        )?)),
+        Tree::Object(members) => lay_object(alloc, types, levels, of, base, members),
+    }
+}
+
+// The tree laid over what an `Option` holds.
+#[cycle(laying)]
+fn lay_inside(
+    alloc: Global,
+    types: &TypeTable,
+    levels: usize,
+    inner: &InnerType,
+    base: Option<Value>,
+    tree: &Tree,
+) -> Result<Value, AllocError>
+    ensures { let zeros = zeros.zero_within types.now levels in IfOk result (λ v. typed_of v ≡ inside_laid zeros types.now inner.now (over_zero zeros inner.now base) (json_of tree.now)) }
+{
+    match tree {
+        Tree::Null => Ok(Value::Absent),
+        Tree::Odd => Ok(Value::Absent),
+        _ => {
+            let value = lay(alloc, types, levels, inner.get(), base, tree)?;
+            Ok(Value::Present(InnerValue::new(alloc, value)?))
+        }
+    }
+}
+
+// Each item laid over the zero of its type.
+#[cycle(laying)]
+fn lay_items(
+    alloc: Global,
+    types: &TypeTable,
+    levels: usize,
+    of: &FieldType,
+    items: &Items,
+) -> Result<Values, AllocError>
+    ensures { IfOk result (λ vs. items_of vs ≡ items_laid (zeros.zero_within types.now levels) types.now (shape_of of.now) (json.items_of items.now)) }
+{
+    let trees = items.as_slice();
+    let mut values = Values::new(alloc);
+    for tree in trees {
+        values.push(lay(alloc, types, levels, of, None, tree)?)?;
+    }
+    Ok(values)
+}
+
+// The members laid over a map or an object.
+#[cycle(laying)]
+fn lay_object(
+    alloc: Global,
+    types: &TypeTable,
+    levels: usize,
+    of: &FieldType,
+    base: Option<Value>,
+    members: &Members,
+) -> Result<Value, AllocError>
+    ensures { let zeros = zeros.zero_within types.now levels in IfOk result (λ v. typed_of v ≡ value_with (shape_of of.now) (members_laid zeros types.now (type_under types.now (shape_of of.now)) (pairs_in (over_zero zeros (shape_of of.now) base)) (members_of members.now))) }
+{
+    let base = base_or_zero(alloc, types, levels, of, base)?;
+    let entries = entries_in(alloc, base);
+    let entries = lay_members(alloc, types, levels, types_in(types, of), entries, members)?;
+    Ok(value_with(of, entries))
+}
+
+// The value that a tree is laid over.
+#[cycle(laying)]
+fn base_or_zero(
+    alloc: Global,
+    types: &TypeTable,
+    levels: usize,
+    of: &FieldType,
+    base: Option<Value>,
+) -> Result<Value, AllocError>
+    ensures { let zeros = zeros.zero_within types.now levels in IfOk result (λ v. typed_of v ≡ over_zero zeros (shape_of of.now) base) }
+{
+    match base {
+        Some(base) => Ok(base),
+        None => zero_within(alloc, types, levels, of),
+    }
+}
+
+/// The members laid over the entries of their names, or over zero where there is none.
+#[cycle(laying)]
+pub(crate) fn lay_members(
+    alloc: Global,
+    types: &TypeTable,
+    levels: usize,
+    member_types: MemberTypes,
+    base: Entries,
+    members: &Members,
+) -> Result<Entries, AllocError>
+    ensures { IfOk result (λ es. es ≡ members_laid (zeros.zero_within types.now levels) types.now (types_of types.now member_types.entry) base (members_of members.now)) }
+{
+    let pairs = members.as_slice();
+    let mut rest = VecDeque::from_vec(base.into_vec());
+    let mut laid = Vec::new(alloc);
+    for (name, tree) in pairs {
+        let key = name.as_str();
+        move_below(&mut rest, key, &mut laid)?;
+        let there = take_named(&mut rest, key);
+        let entry = lay_member(alloc, types, levels, member_types, name, there, tree)?;
+        push_entry(&mut laid, entry)?;
+    }
+    let mut rest = rest.into_vec();
+    laid.append(&mut rest)?;
+    Ok(Entries::from_vec(laid))
+}
+
+// A member laid over the entry of its name, where its name has a type that takes its tree.
+#[cycle(laying)]
+fn lay_member(
+    alloc: Global,
+    types: &TypeTable,
+    levels: usize,
+    member_types: MemberTypes,
+    name: &Text,
+    there: Option<(Text, Value)>,
+    tree: &Tree,
+) -> Result<Option<(Text, Value)>, AllocError>
+    requires { ForSome there (λ entry. entry.0 ≡ name.now) }
+    ensures { IfOk result (λ entry. map entry_of (option_to_list entry) ≡ member_laid (zeros.zero_within types.now levels) types.now (types_of types.now member_types.entry) name.now (json_of tree.now) (map entry_of (option_to_list there))) }
+{
+    let Some(of) = type_of(types, member_types, name.as_str()) else {
+        return Ok(there);
+    };
+    if !takes(types, of, tree) {
+        return Ok(there);
+    }
+    match there {
+        Some((name, base)) => {
+            let value = lay(alloc, types, levels, of, Some(base), tree)?;
+            Ok(Some((name, value)))
+        }
+        None => {
+            let value = lay(alloc, types, levels, of, None, tree)?;
+            Ok(Some((name.clone()?, value)))
+        }
+    }
+}
+
+/// The zero of a type, with at most so many levels of objects.
+#[cycle(laying)]
+pub(crate) fn zero_within(
+    alloc: Global,
+    types: &TypeTable,
+    levels: usize,
+    of: &FieldType,
+) -> Result<Value, AllocError>
+    ensures { IfOk result (λ v. typed_of v ≡ zeros.zero_within types.now levels (shape_of of.now)) }
+{
+    match of {
+        FieldType::Boolean => Ok(Value::Truth(false)),
+        FieldType::Int => Ok(Value::Whole(0)),
+        FieldType::String => empty_text(alloc),
+        FieldType::Text => empty_text(alloc),
+        FieldType::Image => empty_text(alloc),
+        FieldType::Option(_) => Ok(Value::Absent),
+        FieldType::List(_) => Ok(Value::List(Values::new(alloc))),
+        FieldType::Map(_, _) => Ok(Value::Map(Entries::new(alloc))),
+        FieldType::Named(name) => match types.enums.get(name.as_str()) {
+            Some(definition) => least_variant(alloc, definition),
+            None => object_zero(alloc, types, levels, name.as_str()),
+        },
+    }
+}
+
+// The zero of the object of this name.
+#[cycle(laying)]
+fn object_zero(
+    alloc: Global,
+    types: &TypeTable,
+    levels: usize,
+    name: &str,
+) -> Result<Value, AllocError>
+    ensures { IfOk result (λ v. typed_of v ≡ object_zero types.now levels name.now) }
+{
+    let Some(object) = types.objects.get(name) else {
+        return Ok(Value::Object(Entries::new(alloc)));
+    };
+    if levels == 0 {
+        return Ok(Value::Object(Entries::new(alloc)));
+    }
+    let fields = initial(alloc, types, levels - 1, &object.fields)?;
+    Ok(Value::Object(fields))
+}
+
+/// The fields of an object or the variables of a feature, before anything is laid over them.
+#[cycle(laying)]
+pub(crate) fn initial(
+    alloc: Global,
+    types: &TypeTable,
+    levels: usize,
+    fields: &ByName<Field>,
+) -> Result<Entries, AllocError>
+    ensures { IfOk result (λ es. es ≡ initial (zeros.zero_within types.now levels) types.now fields.now) }
+{
+    let pairs = fields.as_slice();
+    let mut entries = Entries::new(alloc);
+    for (name, field) in pairs {
+        let value = with_default(alloc, types, levels, field)?;
+        entries.push(name.clone()?, value)?;
+    }
+    Ok(entries)
+}
+
+// The default of a field, laid over the zero of its type.
+#[cycle(laying)]
+fn with_default(
+    alloc: Global,
+    types: &TypeTable,
+    levels: usize,
+    field: &Field,
+) -> Result<Value, AllocError>
+    ensures { IfOk result (λ v. typed_of v ≡ with_default (zeros.zero_within types.now levels) types.now (shape_of field.now.field_type) field.now.default) }
+{
+    match &field.default {
+        Some(tree) if takes(types, &field.field_type, tree) => {
+            lay(alloc, types, levels, &field.field_type, None, tree)
+        }
+        _ => zero_within(alloc, types, levels, &field.field_type),
+    }
+}
+
+fn empty_text(alloc: Global) -> Result<Value, AllocError>
+    ensures { IfOk result (λ v. typed_of v ≡ typed.text []) }
+{
+    Ok(Value::Text(Text::new(alloc, "")?))
+}
+
+fn least_variant(alloc: Global, definition: &EnumDefinition) -> Result<Value, AllocError>
+    ensures { IfOk result (λ v. typed_of v ≡ typed.variant (least definition.now.variants)) }
+{
+    match definition.variants.as_slice().first() {
+        Some((name, _)) => Ok(Value::Variant(name.clone()?)),
+        None => Ok(Value::Variant(Text::new(alloc, "")?)),
+    }
+}

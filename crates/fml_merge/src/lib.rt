@@ -1,0 +1,20 @@
+//! Defaults of feature manifests, and trees laid over the values of types.
+//!
+//! What is laid over what follows the Feature Manifest Language (FML): a patch changes what it
+//! names, as far as the types take it, and leaves the rest as it was.
+#![tactic(auto)]
+
+mod defaults;
+mod features;
+mod keeping;
+mod laying;
+mod moving;
+mod overlays;
+mod parts;
+
+pub use defaults::{DefaultFault, check_defaults};
+pub use features::{default_of, overlay_feature};
+pub use overlays::{overlay, zero};
+
+#[cfg(test)]
+mod tests;

@@ -1,0 +1,128 @@
+// The parts of types and values.
+ghost use Rattle.std.specs.Prelude.{◌≡◌, ◌≤◌, ◌+◌, option_map};
+ghost use Rattle.fml_types.specs.Shape as shape;
+ghost use Rattle.fml_types.specs.Shape.{Shape, height};
+ghost use Rattle.fml_types.specs.Shapes.{shape_of};
+ghost use Rattle.fml_value.specs.Typed as typed;
+ghost use Rattle.fml_value.specs.Typed.{TypedValue};
+ghost use Rattle.fml_value.specs.TypedOf.{typed_of};
+ghost use Rattle.fml_merge.specs.Overlay as parts;
+ghost use Rattle.fml_merge.specs.Highest.{member_height, highest};
+ghost use Rattle.fml_merge.specs.Merging.{over_zero, types_of};
+
+use fml_types::{ByName, Field, FieldType, Key, TypeTable};
+use fml_value::{Entries, Value, is_key};
+use sequences::Text;
+use std::alloc::Global;
+
+/// The types that the names of a value have.
+#[derive(Clone, Copy)]
+pub(crate) enum MemberTypes<'a> {
+    /// No name has a type.
+    Nothing,
+    /// The entries of a map.
+    Entries(&'a Key, &'a FieldType),
+    /// The fields of an object, or the variables of a feature.
+    Fields(&'a ByName<Field>),
+}
+
+/// The types of the names of a map or an object.
+#[tactic(auto, using(crate::proofs::Measures::object_high))]
+pub(crate) fn types_in<'a>(types: &'a TypeTable, of: &'a FieldType) -> MemberTypes<'a>
+    ensures types { types_of types.now result ≡ parts.type_under types.now (shape_of of.now) }
+    ensures high { member_height result ≤ height (shape_of of.now) + highest types.now }
+{
+    match of {
+        FieldType::Map(key, inner) => MemberTypes::Entries(key, inner.get()),
+        FieldType::Named(name) => match types.objects.get(name.as_str()) {
+            Some(object) => MemberTypes::Fields(&object.fields),
+            None => MemberTypes::Nothing,
+        },
+        _ => MemberTypes::Nothing,
+    }
+}
+
+/// The type of one name.
+pub(crate) fn type_of<'a>(
+    types: &TypeTable,
+    members: MemberTypes<'a>,
+    name: &str,
+) -> Option<&'a FieldType>
+    ensures { option_map (λ t. shape_of t.now) result ≡ types_of types.now members.entry name.now }
+{
+    match members {
+        MemberTypes::Nothing => None,
+        MemberTypes::Entries(key, of) => {
+            if is_key(types, key, name) {
+                Some(of)
+            } else {
+                None
+            }
+        }
+        MemberTypes::Fields(fields) => match fields.get(name) {
+            Some(field) => Some(&field.field_type),
+            None => None,
+        },
+    }
+}
+
+/// The type of a list's items.
+pub(crate) fn item_type(of: &FieldType) -> &FieldType
+    ensures { shape_of result.now ≡ parts.item_type (shape_of of.now) }
+{
+    match of {
+        FieldType::List(inner) => inner.get(),
+        _ => of,
+    }
+}
+
+/// The value that a value of an `Option` holds.
+pub(crate) fn held(base: Option<Value>) -> Option<Value>
+    ensures { (zeros : Shape → TypedValue) → (t : Shape) → zeros (shape.option t) ≡ typed.absent → over_zero zeros t result ≡ parts.held (over_zero zeros (shape.option t) base) (zeros t) }
+{
+    match base {
+        None => None,
+        Some(value) => inner_value(value),
+    }
+}
+
+fn inner_value(value: Value) -> Option<Value>
+    ensures { (zeros : Shape → TypedValue) → (t : Shape) → over_zero zeros t result ≡ parts.held (typed_of value) (zeros t) }
+{
+    match value {
+        Value::Present(inner) => Some(inner.into_inner()),
+        _ => None,
+    }
+}
+
+/// The text as a value of the type: an enum has it as a variant.
+pub(crate) fn text_value(of: &FieldType, text: Text) -> Value
+    ensures { typed_of result ≡ parts.text_value (shape_of of.now) text }
+{
+    match of {
+        FieldType::Named(_) => Value::Variant(text),
+        _ => Value::Text(text),
+    }
+}
+
+/// The entries of a map or an object.
+#[tactic(auto, using(crate::proofs::Pieces::pairs_kept))]
+pub(crate) fn entries_in(alloc: Global, value: Value) -> Entries
+    ensures { result ≡ parts.pairs_in (typed_of value) }
+{
+    match value {
+        Value::Map(entries) => entries,
+        Value::Object(entries) => entries,
+        _ => Entries::new(alloc),
+    }
+}
+
+/// The map or the object of these entries.
+pub(crate) fn value_with(of: &FieldType, entries: Entries) -> Value
+    ensures { typed_of result ≡ parts.value_with (shape_of of.now) entries }
+{
+    match of {
+        FieldType::Map(_, _) => Value::Map(entries),
+        _ => Value::Object(entries),
+    }
+}
