@@ -1,0 +1,4 @@
+pub mod Layers
+pub mod Lent
+pub mod Serving
+pub mod Laws
