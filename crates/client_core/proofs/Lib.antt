@@ -1,4 +1,5 @@
 mod Takers
+mod Coenrolling
 mod Copies
 mod Payloads
 mod Stepping
@@ -8,4 +9,12 @@ mod Judging
 pub mod Placing
 pub mod Refusing
 pub mod Uniqueness
-mod Soundness
+mod ReadFiles
+mod ReadRecords
+mod ReadContexts
+mod KeptRecords
+pub mod LinkedManifests
+mod Lawfulness
+pub mod Soundness
+pub mod ServedValues
+mod Trees

@@ -23,17 +23,21 @@ use Rattle.app_context.specs.Contexts.{context_of}
 use Rattle.enrol_evolver.specs.Evolution.{evolution}
 use Rattle.app_context.specs.declared.context.Context.{Context}
 use Rattle.app_context.specs.declared.key.ContextKey.{ContextKey}
+use Rattle.fml_types.specs.declared.manifest.Manifest.{Manifest}
+use Rattle.fml_value.specs.Typed.{TypedValue}
+use Rattle.feature_serving.specs.Serving.{served}
 use Rattle.client_core.specs.declared.answer.Answer.{Answer}
 use Rattle.client_core.specs.declared.answer.Answer.TheVariants.{Okay, OptedOutLimit, NotParticipating, NoSuchBranch, StateTooLarge}
 use Rattle.client_core.specs.declared.command.Command.{Command}
-use Rattle.client_core.specs.declared.command.Command.TheVariants.{Fetch, Apply, Participate, OptOut, OptIn, Reset, Show}
+use Rattle.client_core.specs.declared.command.Command.TheVariants.{Fetch, Apply, Participate, OptOut, OptIn, Reset, Show, Feature}
 use Rattle.client_core.specs.declared.command.Command.TheVariants as commands
 use Rattle.client_core.specs.declared.session.Session.{Session}
 use Rattle.client_core.specs.Choosing.{first_taker}
 use Rattle.client_core.specs.Fetching.{file_tree}
+use Rattle.client_core.specs.Manifests.{manifest_of}
 use Rattle.client_core.specs.OptOuts.{BringsBack, OptOutsHold}
 use Rattle.client_core.specs.Settings.{Setting}
-use Rattle.client_core.specs.Steps.{Outcome, Accepted, Refused, Step, participation, opting_out, taking, choosing, fetched, fetching, context_read, reading_context, applying, done, step}
+use Rattle.client_core.specs.Steps.{Outcome, Accepted, Refused, Step, participation, opting_out, taking, choosing, fetched, fetching, context_read, reading_context, setting_manifest, applying, valued, serving, done, step}
 
 -- ---- one slug more or less
 
@@ -103,10 +107,23 @@ module _ (at : Setting) (s : State) (session : Session) (slug : List ℕ) (there
   fetch-keeps (Ok tree) = payload-keeps (payload_of tree)
   fetch-keeps (Err refusal) = tt
 
-  apply-keeps : (context : Option Context) → Keeps (applying at.now s session context)
+  manifest-keeps : (read : Result Manifest Answer) → Keeps (setting_manifest s session read)
+  manifest-keeps (Ok manifest) = there
+  manifest-keeps (Err refusal) = tt
+
+  apply-keeps : (manifest : Option Manifest) (context : Option Context) → Keeps (applying at.now s session manifest context)
   unfolding evolution
-  apply-keeps None = tt
-  apply-keeps (Some context) = there
+  apply-keeps None context = tt
+  apply-keeps (Some manifest) None = tt
+  apply-keeps (Some manifest) (Some context) = there
+
+  value-keeps : (found : Option TypedValue) → Keeps (valued s session found)
+  value-keeps None = tt
+  value-keeps (Some value) = there
+
+  feature-keeps : (name : List ℕ) (manifest : Option Manifest) → Keeps (serving s session name manifest)
+  feature-keeps name None = tt
+  feature-keeps name (Some manifest) = value-keeps (served manifest s name)
 
   participation-keeps : (on : Bool) → Keeps (participation s session on)
   participation-keeps true = there
@@ -149,14 +166,16 @@ module _ (at : Setting) (s : State) (session : Session) (slug : List ℕ) (there
 
   kept : (command : Command) → (BringsBack at s session slug command → ⊥) → is_in (step at s session command).state.opted_out slug ≡ true
   unfolding step
+  kept (commands.Manifest file channel) never = done-keeps (setting_manifest s session (manifest_of at.files file channel)) (manifest-keeps (manifest_of at.files file channel))
   kept (commands.Context file) never = done-keeps (reading_context s session (file_tree file (at.files file))) (file-keeps (file_tree file (at.files file)))
   kept (Fetch file) never = done-keeps (fetching s session (file_tree file (at.files file))) (fetch-keeps (file_tree file (at.files file)))
-  kept Apply never = done-keeps (applying at.now s session session.context) (apply-keeps session.context)
+  kept Apply never = done-keeps (applying at.now s session session.manifest session.context) (apply-keeps session.manifest session.context)
   kept (Participate on) never = done-keeps (participation s session on) (participation-keeps on)
   kept (OptOut other) never = done-keeps (opting_out s session other) (out-keeps other (has_no_room s.opted_out other))
   kept (OptIn other branch) never = in-unless other branch s.participating (λ back is_done. never (back, is_done))
   kept (Reset id) never = accepted-unless (after_reset s id) session true (λ apart. absurd cc) (λ back is_done. never (back, is_done))
   kept Show never = done-keeps (Accepted s session _) there
+  kept (Feature name) never = done-keeps (serving s session name session.manifest) (feature-keeps name session.manifest)
 
 -- ---- an opt-out
 

@@ -1,11 +1,9 @@
--- A step keeps a state sound.
-use Rattle.std.proofs.Common.{◌≡◌, ◌≤◌, ◌<◌, ℕ, Bool, true, false, List, [], length, Option, Some, None, Result, Ok, Err, refl, sym, ap, subst, arith}
-use Rattle.std.specs.Prelude.{All, IsTrue, IsUtf8, nat_lt, if◌then◌else◌}
-use Rattle.std.specs.List.Sorted.{IsStrictlySortedBy}
+-- A step keeps a state sound and a session lawful, and so do many.
+use Rattle.std.proofs.Common.{◌≡◌, ◌≤◌, ℕ, Bool, true, false, List, [], ◌∷◌, length, Option, Some, None, Result, Ok, Err, refl}
+use Rattle.std.specs.Prelude.{All, nat_lt, if◌then◌else◌}
 use Rattle.std.proofs.lemmas.Bool.{ltb-false}
-use Rattle.std.proofs.lemmas.List.Elements.{All-nil}
+use Rattle.std.proofs.lemmas.List.Elements.{All-head, All-tail}
 use Rattle.json_tree.specs.Json.{Json}
-use Rattle.plain_text.specs.Names.{is_name}
 use Rattle.recipe_reader.specs.Payloads.{payload_of, recipe_with}
 use Rattle.recipe_reader.specs.declared.payload.Payload.{Payload}
 use Rattle.recipe_reader.specs.declared.payload.PayloadFault.{PayloadFault}
@@ -14,12 +12,10 @@ use Rattle.recipe_reader.specs.declared.recipe.Recipe.{Recipe}
 use Rattle.app_context.specs.Contexts.{context_of}
 use Rattle.app_context.specs.declared.context.Context.{Context}
 use Rattle.app_context.specs.declared.key.ContextKey.{ContextKey}
-use Rattle.enrol_evolver.specs.Evolution.{version_of, evolution}
 use Rattle.enrol_evolver.proofs.Consistency.{evolved}
 use Rattle.enrol_states.specs.Choices.{has_no_room}
-use Rattle.enrol_states.specs.Commands.{after_participate, after_opt_out, after_opt_in, after_reset}
-use Rattle.enrol_states.specs.Consistent.{IsId, IsConsistent}
-use Rattle.enrol_states.specs.Order.{Rise}
+use Rattle.enrol_states.specs.Commands.{after_opt_out}
+use Rattle.enrol_states.specs.Consistent.{IsConsistent}
 use Rattle.enrol_states.specs.Recipes.{has_branch}
 use Rattle.enrol_states.specs.Statuses.{last_moment, IsSlug}
 use Rattle.enrol_states.specs.declared.state.State.{State}
@@ -27,20 +23,27 @@ use Rattle.enrol_states.proofs.Enrolments as enrolments
 use Rattle.enrol_states.proofs.Fresh.{reset-consistent}
 use Rattle.enrol_states.proofs.OptOuts as opt_outs
 use Rattle.enrol_states.proofs.Participations as participations
-use Rattle.state_codec.specs.Sound.{max_size}
+use Rattle.state_codec.specs.Sound.{max_size, IsSound}
 use Rattle.state_codec.specs.Spelling.{spelling}
+use Rattle.fml_types.specs.Coenrolling.{coenrolling}
+use Rattle.fml_types.specs.declared.manifest.Manifest.{Manifest}
+use Rattle.fml_value.specs.Typed.{TypedValue}
+use Rattle.feature_serving.specs.Serving.{served}
 use Rattle.client_core.specs.declared.answer.Answer.{Answer}
 use Rattle.client_core.specs.declared.answer.Answer.TheVariants.{Okay, OptedOutLimit, NotParticipating, NoSuchBranch, StateTooLarge}
 use Rattle.client_core.specs.declared.command.Command.{Command}
-use Rattle.client_core.specs.declared.command.Command.TheVariants.{Fetch, Apply, Participate, OptOut, OptIn, Reset, Show}
+use Rattle.client_core.specs.declared.command.Command.TheVariants.{Fetch, Apply, Participate, OptOut, OptIn, Reset, Show, Feature}
 use Rattle.client_core.specs.declared.command.Command.TheVariants as commands
 use Rattle.client_core.specs.declared.session.Session.{Session}
 use Rattle.client_core.specs.Choosing.{first_taker}
 use Rattle.client_core.specs.Fetching.{file_tree}
-use Rattle.client_core.specs.Sessions.{with_context}
+use Rattle.client_core.specs.Manifests.{manifest_of}
 use Rattle.client_core.specs.Settings.{Setting}
-use Rattle.client_core.specs.Soundness.{IsCommand, IsLawful, IsLawfulContext, HasTexts, StepsStaySound}
-use Rattle.client_core.specs.Steps.{Outcome, Accepted, Refused, Step, participation, opting_out, taking, choosing, opting_in, resetting, showing, fetched, fetching, context_read, reading_context, applying, outcome, done, step}
+use Rattle.client_core.specs.Soundness.{IsCommand, HasVersion, IsLawfulManifest, IsSession, IsLawful, Line, IsLine, all_after, StepsStaySound}
+use Rattle.client_core.specs.Steps.{Outcome, Accepted, Refused, Step, participation, opting_out, taking, choosing, opting_in, resetting, showing, fetched, fetching, context_read, reading_context, setting_manifest, applying, valued, serving, outcome, done, step}
+use Rattle.client_core.proofs.Coenrolling.{coenrolling_names, coenrolling_rise}
+use Rattle.client_core.proofs.KeptRecords.{step_keeps_records}
+use Rattle.client_core.proofs.Lawfulness.{step_keeps_texts, step_keeps_lawful, lawful_texts}
 use Rattle.client_core.proofs.Payloads.{payload_kept}
 use Rattle.client_core.proofs.Stepping.{pending_consistent}
 use Rattle.client_core.proofs.Takers.{free_where}
@@ -79,13 +82,23 @@ module _ (at : Setting) (s : State) (session : Session) (c : IsConsistent s) whe
   fetch-keeps (Ok tree) = payload-keeps tree (payload_of tree) refl
   fetch-keeps (Err refusal) = tt
 
-  no_names : Rise []
-  unfolding IsStrictlySortedBy
-  no_names = tt
+  manifest-keeps : (read : Result Manifest Answer) → Keeps (setting_manifest s session read)
+  manifest-keeps (Ok manifest) = c
+  manifest-keeps (Err refusal) = tt
 
-  apply-keeps : at.now ≤ last_moment → (context : Option Context) → IsLawfulContext context → Keeps (applying at.now s session context)
-  apply-keeps moment None lawful = tt
-  apply-keeps moment (Some context) lawful = evolved s context [] at.now c (All-nil (λ name. IsTrue (is_name name))) no_names moment lawful
+  apply-keeps : at.now ≤ last_moment → (manifest : Option Manifest) → IsLawfulManifest manifest → (context : Option Context) → HasVersion context → Keeps (applying at.now s session manifest context)
+  apply-keeps moment None linked context text = tt
+  apply-keeps moment (Some manifest) linked None text = tt
+  apply-keeps moment (Some manifest) linked (Some context) text =
+      evolved s context (coenrolling manifest.features) at.now c (coenrolling_names manifest.features linked.sound.names) (coenrolling_rise manifest.features linked.order) moment text
+
+  value-keeps : (found : Option TypedValue) → Keeps (valued s session found)
+  value-keeps None = tt
+  value-keeps (Some value) = c
+
+  feature-keeps : (name : List ℕ) (manifest : Option Manifest) → Keeps (serving s session name manifest)
+  feature-keeps name None = tt
+  feature-keeps name (Some manifest) = value-keeps (served manifest s name)
 
   out-keeps : (slug : List ℕ) → IsSlug slug → (full : Bool) → has_no_room s.opted_out slug ≡ full → Keeps (if full then Refused OptedOutLimit else Accepted (after_opt_out s slug) session Okay)
   out-keeps slug is_slug true e = tt
@@ -108,82 +121,18 @@ module _ (at : Setting) (s : State) (session : Session) (c : IsConsistent s) whe
   in-keeps slug branch is_slug is_branch true on = choosing-keeps slug branch is_slug is_branch on (recipe_with slug s.live) refl
   in-keeps slug branch is_slug is_branch false on = tt
 
-  consistent : (command : Command) → at.now ≤ last_moment → IsCommand command → IsLawful session → IsConsistent (step at s session command).state
+  consistent : (command : Command) → at.now ≤ last_moment → IsCommand command → IsSession session → IsConsistent (step at s session command).state
   unfolding step
-  consistent (commands.Context file) moment is lawful = done-keeps (reading_context s session (file_tree file (at.files file))) (file-keeps (file_tree file (at.files file)))
-  consistent (Fetch file) moment is lawful = done-keeps (fetching s session (file_tree file (at.files file))) (fetch-keeps (file_tree file (at.files file)))
-  consistent Apply moment is lawful = done-keeps (applying at.now s session session.context) (apply-keeps moment session.context lawful)
-  consistent (Participate on) moment is lawful = done-keeps (participation s session on) (participations.consistent s on c)
-  consistent (OptOut slug) moment is lawful = done-keeps (opting_out s session slug) (out-keeps slug is (has_no_room s.opted_out slug) refl)
-  consistent (OptIn slug branch) moment is lawful = done-keeps (opting_in s session slug branch) (in-keeps slug branch is.0 is.1 s.participating refl)
-  consistent (Reset id) moment is lawful = done-keeps (resetting s session id) (reset-consistent s id is c)
-  consistent Show moment is lawful = done-keeps (showing s session) c
-
--- ---- the session
-
-module _ (at : Setting) (s : State) (session : Session) (texts : HasTexts at) (was : IsLawful session) where
-  -- an accepted session is lawful
-  abbrev Carries : Outcome → Type 0
-  Carries (Accepted t next answer) = IsLawful next
-  Carries (Refused answer) = Unit {0}
-
-  done-carries : (asked : Outcome) → Carries asked → IsLawful (done s session asked).session
-  done-carries (Accepted t next answer) carries = either_step (λ to. IsLawful to.session) (nat_lt max_size (length (spelling t))) _ _ was carries
-  done-carries (Refused answer) carries = was
-
-  context-carries : (read : Result Context ContextKey) → ((context : Context) → read ≡ Ok context → IsUtf8 (version_of context)) → Carries (context_read s session read)
-  context-carries (Ok context) text = text context refl
-  context-carries (Err key) text = tt
-
-  file-carries : (file : List ℕ) (read : Result Json Answer) → file_tree file (at.files file) ≡ read → Carries (reading_context s session read)
-  file-carries file (Ok tree) is = context-carries (context_of tree) (λ context e. texts file tree context is e)
-  file-carries file (Err refusal) is = tt
-
-  payload-carries : (read : Result Payload PayloadFault) → Carries (fetched s session read)
-  payload-carries (Ok found) = was
-  payload-carries (Err payload.NoData) = tt
-  payload-carries (Err (payload.TooManyRecipes count)) = tt
-  payload-carries (Err payload.OutOfMemory) = tt
-
-  fetch-carries : (read : Result Json Answer) → Carries (fetching s session read)
-  fetch-carries (Ok tree) = payload-carries (payload_of tree)
-  fetch-carries (Err refusal) = tt
-
-  apply-carries : (context : Option Context) → Carries (applying at.now s session context)
-  apply-carries None = tt
-  apply-carries (Some context) = was
-
-  out-carries : (slug : List ℕ) (full : Bool) → Carries (if full then Refused OptedOutLimit else Accepted (after_opt_out s slug) session Okay)
-  out-carries slug true = tt
-  out-carries slug false = was
-
-  module _ (slug branch : List ℕ) where
-    taking-carries : (taker : Option (List ℕ × List ℕ)) → Carries (taking s session slug branch taker)
-    taking-carries None = was
-    taking-carries (Some taker) = tt
-
-    branch-carries : (r : Recipe) (has : Bool) → Carries (if has then taking s session slug branch (first_taker s r s.rows) else Refused NoSuchBranch)
-    branch-carries r true = taking-carries (first_taker s r s.rows)
-    branch-carries r false = tt
-
-    choosing-carries : (found : Option Recipe) → Carries (choosing s session slug branch found)
-    choosing-carries None = tt
-    choosing-carries (Some r) = branch-carries r (has_branch r branch)
-
-    in-carries : (on : Bool) → Carries (if on then choosing s session slug branch (recipe_with slug s.live) else Refused NotParticipating)
-    in-carries true = choosing-carries (recipe_with slug s.live)
-    in-carries false = tt
-
-  lawful : (command : Command) → IsLawful (step at s session command).session
-  unfolding step
-  lawful (commands.Context file) = done-carries (reading_context s session (file_tree file (at.files file))) (file-carries file (file_tree file (at.files file)) refl)
-  lawful (Fetch file) = done-carries (fetching s session (file_tree file (at.files file))) (fetch-carries (file_tree file (at.files file)))
-  lawful Apply = done-carries (applying at.now s session session.context) (apply-carries session.context)
-  lawful (Participate on) = done-carries (participation s session on) was
-  lawful (OptOut slug) = done-carries (opting_out s session slug) (out-carries slug (has_no_room s.opted_out slug))
-  lawful (OptIn slug branch) = done-carries (opting_in s session slug branch) (in-carries slug branch s.participating)
-  lawful (Reset id) = done-carries (resetting s session id) was
-  lawful Show = done-carries (showing s session) was
+  consistent (commands.Manifest file channel) moment is texts = done-keeps (setting_manifest s session (manifest_of at.files file channel)) (manifest-keeps (manifest_of at.files file channel))
+  consistent (commands.Context file) moment is texts = done-keeps (reading_context s session (file_tree file (at.files file))) (file-keeps (file_tree file (at.files file)))
+  consistent (Fetch file) moment is texts = done-keeps (fetching s session (file_tree file (at.files file))) (fetch-keeps (file_tree file (at.files file)))
+  consistent Apply moment is texts = done-keeps (applying at.now s session session.manifest session.context) (apply-keeps moment session.manifest texts.manifest session.context texts.context)
+  consistent (Participate on) moment is texts = done-keeps (participation s session on) (participations.consistent s on c)
+  consistent (OptOut slug) moment is texts = done-keeps (opting_out s session slug) (out-keeps slug is (has_no_room s.opted_out slug) refl)
+  consistent (OptIn slug branch) moment is texts = done-keeps (opting_in s session slug branch) (in-keeps slug branch is.0 is.1 s.participating refl)
+  consistent (Reset id) moment is texts = done-keeps (resetting s session id) (reset-consistent s id is c)
+  consistent Show moment is texts = done-keeps (showing s session) c
+  consistent (Feature name) moment is texts = done-keeps (serving s session name session.manifest) (feature-keeps name session.manifest)
 
 -- ---- the size
 
@@ -201,9 +150,33 @@ size : (at : Setting) (s : State) (session : Session) (command : Command) → le
 unfolding step
 size at s session command most = small s session (outcome at s session command) most
 
+-- ---- sound states and lawful sessions
+
+one : (at : Setting) (s : State) (session : Session) (command : Command) → at.now ≤ last_moment → IsCommand command → IsLawful session → IsSound s → IsSound (step at s session command).state × IsLawful (step at s session command).session
+one at s session command moment is lawful sound = (
+  record {
+    consistent = consistent at s session sound.consistent command moment is (lawful_texts session lawful);
+    records = step_keeps_records at s session sound.records command;
+    size = size at s session command sound.size;
+  },
+  step_keeps_lawful at s session command lawful,
+)
+
+all : (s : State) (session : Session) (lines : List Line) → All IsLine lines → IsLawful session → IsSound s → IsSound (all_after (s, session) lines).0 × IsLawful (all_after (s, session) lines).1
+all s session [] are lawful sound = (sound, lawful)
+all s session (line ∷ lines) are lawful sound =
+    let is = All-head IsLine line lines are in
+    let next = one line.0 s session line.1 is.0 is.1 lawful sound in
+    let to = step line.0 s session line.1 in
+    all to.state to.session lines (All-tail IsLine line lines are) next.1 next.0
+
 pub steps_stay_sound : StepsStaySound
 steps_stay_sound = record {
-  consistent = λ at s session command moment is lawful c. consistent at s session c command moment is lawful;
-  lawful = λ at s session command texts was. lawful at s session texts was command;
+  one = one;
+  all = all;
+  session = step_keeps_lawful;
+  begun = record { manifest = tt; context = tt };
+  consistent = λ at s session command moment is texts c. consistent at s session c command moment is texts;
+  texts = step_keeps_texts;
   size = size;
 }

@@ -1,5 +1,5 @@
 -- The step of an outcome, and the state with recipes pending.
-use Rattle.std.proofs.Common.{◌≡◌, ◌≤◌, ◌<◌, List, length, refl, sym, ap, ◌∙◌, subst, None, Some, Result, Ok, Err, IfOk, OnOk}
+use Rattle.std.proofs.Common.{◌≡◌, ◌≤◌, ◌<◌, List, length, refl, sym, ap, ◌∙◌, subst, Some, Result, Ok, Err, IfOk, OnOk}
 use Rattle.std.specs.Prelude.{IsErrOf}
 use Rattle.std.proofs.lemmas.Bool.{le-ltb, lt-ltb}
 use Rattle.recipe_reader.specs.declared.recipe.Recipe.{Recipe}
@@ -15,9 +15,10 @@ use Rattle.client_core.specs.declared.faults.StepFault.{StepFault}
 use Rattle.client_core.specs.declared.faults.StepFault.TheVariants.{StoreFull, OutOfMemory}
 use Rattle.client_core.specs.declared.prepared.Prepared.{Prepared}
 use Rattle.client_core.specs.declared.session.Session.{Session}
+use Rattle.client_core.specs.declared.session.SessionChange.TheVariants.{Stays}
 use Rattle.client_core.specs.Places.{IsFullFor}
 use Rattle.client_core.specs.Prepared.{changed, IsMadeOn, Leads, Prepares}
-use Rattle.client_core.specs.Sessions.{with_context}
+use Rattle.client_core.specs.Sessions.{changed_by}
 use Rattle.client_core.specs.Settings.{Setting}
 use Rattle.client_core.specs.Steps.{Outcome, Accepted, Refused, Step, outcome, done, step}
 use Rattle.client_core.proofs.Placing.{not_full}
@@ -67,8 +68,8 @@ leads_fits client (Ok p) to made leads = not_full client.journal.place client.st
 leads_fits client (Err fault) to made leads = tt
 
 -- a step that changes nothing is a refusal's
-pub leads_refusal : (client : Client) (p : Prepared) (refusal : Answer) → changed client.state p.change ≡ client.state → p.context ≡ None → p.answer ≡ refusal → Leads client p (done client.state client.session (Refused refusal))
-leads_refusal client p refusal state context answer = record { state = state; session = ap (with_context client.session) context; answer = answer }
+pub leads_refusal : (client : Client) (p : Prepared) (refusal : Answer) → changed client.state p.change ≡ client.state → p.session ≡ Stays → p.answer ≡ refusal → Leads client p (done client.state client.session (Refused refusal))
+leads_refusal client p refusal state stays answer = record { state = state; session = ap (changed_by client.session) stays; answer = answer }
 
 -- ---- what the calls of one command give
 
@@ -89,11 +90,21 @@ out_of_memory client asked result fault is free =
     subst (Prepares client asked) (sym (is ∙ ap Err free)) (record { made = tt; step = tt; full = λ full. absurd cc })
 
 -- a refusal changes nothing
-pub refused : (client : Client) (asked : Outcome) (p : Prepared) (refusal : Answer) → IsMadeOn client p → changed client.state p.change ≡ client.state → p.context ≡ None → p.answer ≡ refusal → Refused refusal ≡ asked
+pub refused : (client : Client) (asked : Outcome) (p : Prepared) (refusal : Answer) → IsMadeOn client p → changed client.state p.change ≡ client.state → p.session ≡ Stays → p.answer ≡ refusal → Refused refusal ≡ asked
     → Prepares client asked (Ok p)
-refused client asked p refusal made state context answer same = record {
+refused client asked p refusal made state stays answer same = record {
   made = made;
-  step = subst (λ (o : Outcome). Leads client p (done client.state client.session o)) same (leads_refusal client p refusal state context answer);
+  step = subst (λ (o : Outcome). Leads client p (done client.state client.session o)) same (leads_refusal client p refusal state stays answer);
+  full = λ full. absurd cc;
+}
+
+-- an answer that leaves all as it was
+pub answered : (client : Client) (asked : Outcome) (p : Prepared) (answer : Answer) → IsMadeOn client p → length (spelling client.state) ≤ max_size → changed client.state p.change ≡ client.state → p.session ≡ Stays → p.answer ≡ answer
+    → Accepted client.state client.session answer ≡ asked → Prepares client asked (Ok p)
+answered client asked p answer made small state stays is same = record {
+  made = made;
+  step = subst (λ (o : Outcome). Leads client p (done client.state client.session o)) same
+      (subst (λ (to : Step). Leads client p to) (sym (done-small client.state client.state client.session client.session answer small)) (record { state = state; session = ap (changed_by client.session) stays; answer = is }));
   full = λ full. absurd cc;
 }
 

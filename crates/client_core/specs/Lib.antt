@@ -3,12 +3,14 @@ pub mod Clients
 pub mod Fetching
 pub mod Finds
 pub mod Found
+pub mod Manifests
 pub mod Moments
 pub mod Opening
 pub mod OpenStore
 pub mod OptOuts
 pub mod Places
 pub mod Prepared
+pub mod ServedValues
 pub mod Sessions
 pub mod Settings
 pub mod Soundness

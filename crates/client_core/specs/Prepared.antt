@@ -11,7 +11,7 @@ use Rattle.client_core.specs.declared.session.Session.{Session}
 use Rattle.client_core.specs.declared.faults.StepFault.{StepFault}
 use Rattle.client_core.specs.declared.faults.StepFault.TheVariants.{StoreFull}
 use Rattle.client_core.specs.Places.{side_end, IsFullFor}
-use Rattle.client_core.specs.Sessions.{with_context}
+use Rattle.client_core.specs.Sessions.{changed_by}
 use Rattle.client_core.specs.Steps.{Outcome, Step, done}
 
 -- the state of a change, or that of before
@@ -25,7 +25,7 @@ next_state client prepared = changed client.state prepared.change
 
 -- the session that the step leaves
 abbrev pub next_session : Client → Prepared → Session
-next_session client prepared = with_context client.session prepared.context
+next_session client prepared = changed_by client.session prepared.session
 
 abbrev pub answer_in : Prepared → Answer
 answer_in prepared = prepared.answer

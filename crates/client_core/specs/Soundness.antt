@@ -1,5 +1,6 @@
--- A step keeps a state sound, whatever the command, the files and the moment.
-use Rattle.std.specs.Prelude.{◌≡◌, ◌≤◌, ℕ, List, length, Option, None, Some, Ok, IsUtf8}
+-- A step keeps a state sound and a session lawful, whatever the command, the files and the moment.
+use Rattle.std.specs.Prelude.{◌≡◌, ◌≤◌, List, [], ◌∷◌, length, All, Option, None, Some, Ok, IsUtf8}
+use Rattle.json_tree.specs.Json as json
 use Rattle.json_tree.specs.Json.{Json}
 use Rattle.app_context.specs.Contexts.{context_of}
 use Rattle.app_context.specs.declared.context.Context.{Context}
@@ -7,12 +8,14 @@ use Rattle.enrol_evolver.specs.Evolution.{version_of}
 use Rattle.enrol_states.specs.Consistent.{IsId, IsConsistent}
 use Rattle.enrol_states.specs.Statuses.{last_moment, IsSlug}
 use Rattle.enrol_states.specs.declared.state.State.{State}
-use Rattle.state_codec.specs.Sound.{max_size}
+use Rattle.state_codec.specs.Sound.{max_size, IsSound}
 use Rattle.state_codec.specs.Spelling.{spelling}
+use Rattle.fml_types.specs.declared.manifest.Manifest.{Manifest}
 use Rattle.client_core.specs.declared.command.Command.{Command}
 use Rattle.client_core.specs.declared.command.Command.TheVariants.{OptOut, OptIn, Reset}
 use Rattle.client_core.specs.declared.session.Session.{Session}
-use Rattle.client_core.specs.Fetching.{file_tree}
+use Rattle.client_core.specs.Manifests.{IsLinked}
+use Rattle.client_core.specs.Sessions.{no_session}
 use Rattle.client_core.specs.Settings.{Setting}
 use Rattle.client_core.specs.Steps.{step}
 
@@ -24,19 +27,50 @@ IsCommand (Reset id) = IsId id
 IsCommand command = Unit {0}
 
 -- what the type of a context's texts keeps, of the one that an apply puts into the state
+abbrev pub HasVersion : Option Context → Type 0
+HasVersion None = Unit {0}
+HasVersion (Some context) = IsUtf8 (version_of context)
+
+abbrev pub IsLawfulManifest : Option Manifest → Type 0
+IsLawfulManifest None = Unit {0}
+IsLawfulManifest (Some manifest) = IsLinked manifest
+
+-- what the types of a session's parts keep
+pub record IsSession (session : Session) : Type 0 where
+  pub manifest : IsLawfulManifest session.manifest
+  pub context : HasVersion session.context
+
+-- none, or the context that a tree is
 abbrev pub IsLawfulContext : Option Context → Type 0
 IsLawfulContext None = Unit {0}
-IsLawfulContext (Some context) = IsUtf8 (version_of context)
+IsLawfulContext (Some context) = (tree : Json) × json.IsSound tree × (context_of tree ≡ Ok context)
 
-abbrev pub IsLawful : Session → Type 0
-IsLawful session = IsLawfulContext session.context
+-- a session that steps can leave
+pub record IsLawful (session : Session) : Type 0 where
+  pub manifest : IsLawfulManifest session.manifest
+  pub context : IsLawfulContext session.context
 
--- and of those that are read from files
-abbrev pub HasTexts : Setting → Type 0
-HasTexts at = (file : List ℕ) (tree : Json) (context : Context) → file_tree file (at.files file) ≡ Ok tree → context_of tree ≡ Ok context → IsUtf8 (version_of context)
+-- ---- many commands
 
--- a step from a consistent state and a lawful session gives such a state and such a session; and a state that is no larger than a state may be, where it was none
+-- a command, with the files and the moment at which it comes
+abbrev pub Line : Type 0
+Line = Setting × Command
+
+-- it comes at a moment up to the last, and its parts are what their types keep
+abbrev pub IsLine : Line → Type 0
+IsLine line = (line.0.now ≤ last_moment) × IsCommand line.1
+
+-- the state and the session that these commands leave
+abbrev pub all_after : State × Session → List Line → State × Session
+all_after run [] = run
+all_after run (line ∷ lines) = let to = step line.0 run.0 run.1 line.1 in all_after (to.state, to.session) lines
+
+-- a step from a sound state and a lawful session gives such a state and such a session, and so do many; each part keeps itself, where the others may not hold
 pub record StepsStaySound : Type 0 where
-  pub consistent : (at : Setting) (s : State) (session : Session) (command : Command) → at.now ≤ last_moment → IsCommand command → IsLawful session → IsConsistent s → IsConsistent (step at s session command).state
-  pub lawful : (at : Setting) (s : State) (session : Session) (command : Command) → HasTexts at → IsLawful session → IsLawful (step at s session command).session
+  pub one : (at : Setting) (s : State) (session : Session) (command : Command) → at.now ≤ last_moment → IsCommand command → IsLawful session → IsSound s → IsSound (step at s session command).state × IsLawful (step at s session command).session
+  pub all : (s : State) (session : Session) (lines : List Line) → All IsLine lines → IsLawful session → IsSound s → IsSound (all_after (s, session) lines).0 × IsLawful (all_after (s, session) lines).1
+  pub session : (at : Setting) (s : State) (session : Session) (command : Command) → IsLawful session → IsLawful (step at s session command).session
+  pub begun : IsLawful no_session
+  pub consistent : (at : Setting) (s : State) (session : Session) (command : Command) → at.now ≤ last_moment → IsCommand command → IsSession session → IsConsistent s → IsConsistent (step at s session command).state
+  pub texts : (at : Setting) (s : State) (session : Session) (command : Command) → IsSession session → IsSession (step at s session command).session
   pub size : (at : Setting) (s : State) (session : Session) (command : Command) → length (spelling s) ≤ max_size → length (spelling (step at s session command).state) ≤ max_size

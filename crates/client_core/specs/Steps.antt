@@ -1,5 +1,5 @@
 -- One step of a client: what a command makes of the state and of the session, and its answer.
-use Rattle.std.specs.Prelude.{ℕ, Bool, nat_lt, List, [], length, count_by, is_some, Option, None, Some, Result, Ok, Err, if◌then◌else◌}
+use Rattle.std.specs.Prelude.{ℕ, Bool, nat_lt, List, length, count_by, is_some, Option, None, Some, Result, Ok, Err, if◌then◌else◌}
 use Rattle.json_tree.specs.Json.{Json}
 use Rattle.recipe_reader.specs.declared.payload.Payload.{Payload}
 use Rattle.recipe_reader.specs.declared.payload.PayloadFault.{PayloadFault}
@@ -12,6 +12,11 @@ use Rattle.app_context.specs.declared.context.Context.{Context}
 use Rattle.app_context.specs.declared.key.ContextKey.{ContextKey}
 use Rattle.enrol_evolver.specs.Evolution.{evolution}
 use Rattle.enrol_states.specs.Choices.{has_no_room}
+use Rattle.fml_types.specs.Coenrolling.{coenrolling}
+use Rattle.fml_types.specs.declared.manifest.Manifest.{Manifest}
+use Rattle.fml_value.specs.Trees.{tree_of}
+use Rattle.fml_value.specs.Typed.{TypedValue}
+use Rattle.feature_serving.specs.Serving.{served}
 use Rattle.enrol_states.specs.Commands.{after_participate, after_opt_out, after_opt_in, after_reset}
 use Rattle.enrol_states.specs.Recipes.{has_branch}
 use Rattle.enrol_states.specs.Statuses.{is_enrolled}
@@ -19,13 +24,15 @@ use Rattle.state_codec.specs.Spelling.{spelling}
 use Rattle.state_codec.specs.Sound.{max_size}
 use Rattle.client_core.specs.declared.session.Session.{Session}
 use Rattle.client_core.specs.declared.command.Command.{Command}
-use Rattle.client_core.specs.declared.command.Command.TheVariants.{Apply, Participate, OptOut, OptIn, Reset, Show, Fetch}
+use Rattle.client_core.specs.declared.command.Command.TheVariants.{Apply, Participate, OptOut, OptIn, Reset, Show, Feature, Fetch}
 use Rattle.client_core.specs.declared.command.Command.TheVariants as commands
 use Rattle.client_core.specs.declared.answer.Answer.{Answer}
-use Rattle.client_core.specs.declared.answer.Answer.TheVariants.{Okay, Fetched, Applied, Shown, NoContext, BadContext, NoData, TooManyRecipes, OptedOutLimit, NotParticipating, NoSuchExperiment, NoSuchBranch, FeatureTaken, StateTooLarge}
+use Rattle.client_core.specs.declared.answer.Answer.TheVariants.{Okay, Fetched, Applied, Value, Shown, NoManifest, NoContext, BadContext, NoData, TooManyRecipes, UnknownFeature, OptedOutLimit, NotParticipating, NoSuchExperiment, NoSuchBranch, FeatureTaken, StateTooLarge}
 use Rattle.client_core.specs.Choosing.{first_taker}
 use Rattle.client_core.specs.Fetching.{file_tree}
-use Rattle.client_core.specs.Sessions.{with_context}
+use Rattle.client_core.specs.Manifests.{manifest_of}
+use Rattle.fml_reader.specs.Trees.{tree_from}
+use Rattle.client_core.specs.Sessions.{with_manifest, with_context}
 use Rattle.client_core.specs.Settings.{Setting}
 
 -- what a command asks for: a new state and session with an answer, or a refusal
@@ -80,7 +87,7 @@ fetching s session (Err refusal) = Refused refusal
 
 -- `context`, where the file holds a value
 abbrev pub context_read : State → Session → Result Context ContextKey → Outcome
-context_read s session (Ok context) = Accepted s (with_context session (Some context)) Okay
+context_read s session (Ok context) = Accepted s (with_context session context) Okay
 context_read s session (Err key) = Refused (BadContext key)
 
 -- `context`
@@ -92,20 +99,42 @@ reading_context s session (Err refusal) = Refused refusal
 abbrev pub applied_answer : State → Answer
 applied_answer s = Applied (count_by (λ row. is_enrolled row.status) s.rows) (length s.rows)
 
--- `apply`, of the context that was read last. No feature may be shared
-abbrev pub applying : ℕ → State → Session → Option Context → Outcome
-applying now s session None = Refused NoContext
-applying now s session (Some context) = Accepted (evolution s context [] now) session (applied_answer (evolution s context [] now))
+-- the state after an apply: the features that may be shared are those of the manifest
+abbrev pub applied : ℕ → State → Manifest → Context → State
+applied now s manifest context = evolution s context (coenrolling manifest.features) now
+
+-- `apply`, of the manifest that was set last and the context that was read last
+abbrev pub applying : ℕ → State → Session → Option Manifest → Option Context → Outcome
+applying now s session None context = Refused NoManifest
+applying now s session (Some manifest) None = Refused NoContext
+applying now s session (Some manifest) (Some context) = Accepted (applied now s manifest context) session (applied_answer (applied now s manifest context))
+
+-- `manifest`
+abbrev pub setting_manifest : State → Session → Result Manifest Answer → Outcome
+setting_manifest s session (Ok manifest) = Accepted s (with_manifest session manifest) Okay
+setting_manifest s session (Err refusal) = Refused refusal
+
+-- `feature`, where the manifest has it
+abbrev pub valued : State → Session → Option TypedValue → Outcome
+valued s session None = Refused UnknownFeature
+valued s session (Some value) = Accepted s session (Value (tree_from (tree_of value)))
+
+-- `feature`, of the manifest that was set last
+abbrev pub serving : State → Session → List ℕ → Option Manifest → Outcome
+serving s session name None = Refused NoManifest
+serving s session name (Some manifest) = valued s session (served manifest s name)
 
 -- what each command asks for
 abbrev pub outcome : Setting → State → Session → Command → Outcome
+outcome at s session (commands.Manifest file channel) = setting_manifest s session (manifest_of at.files file channel)
 outcome at s session (commands.Context file) = reading_context s session (file_tree file (at.files file))
-outcome at s session Apply = applying at.now s session session.context
+outcome at s session Apply = applying at.now s session session.manifest session.context
 outcome at s session (Participate on) = participation s session on
 outcome at s session (OptOut slug) = opting_out s session slug
 outcome at s session (OptIn slug branch) = opting_in s session slug branch
 outcome at s session (Reset id) = resetting s session id
 outcome at s session Show = showing s session
+outcome at s session (Feature name) = serving s session name session.manifest
 outcome at s session (Fetch file) = fetching s session (file_tree file (at.files file))
 
 -- what a command leaves, and its answer

@@ -1,12 +1,13 @@
 // What a command is answered.
 use app_context::ContextKey;
 use enrol_states::Row;
+use json_tree::Tree;
 use plain_text::Slug;
 use recipe_reader::SkipReason;
 use sequences::{Sequence, Text};
 use uuid::Uuid;
 
-/// What a command is answered. From `NoContext` on each is a refusal, which changes nothing.
+/// What a command is answered. From `NoManifest` on each is a refusal, which changes nothing.
 #[derive(Drop)]
 pub enum Answer {
     /// The command is done.
@@ -22,6 +23,8 @@ pub enum Answer {
         enrolled: usize,
         rows: usize,
     },
+    /// The tree of the value that a feature has.
+    Value(Tree),
     /// The state.
     Shown {
         id: Uuid,
@@ -31,6 +34,8 @@ pub enum Answer {
         opted_out: Sequence<Slug>,
         rows: Sequence<Row>,
     },
+    /// No manifest was set in this run.
+    NoManifest,
     /// No context was read in this run.
     NoContext,
     /// There is no file of this name.
@@ -45,6 +50,28 @@ pub enum Answer {
     NoData,
     /// The payload has so many records, which is more than 2,000.
     TooManyRecipes(u64),
+    /// The file of this name is no module of a manifest: the path of the first place that hasn't its shape, as the keys
+    /// and indexes from the root, each after a `/`.
+    BadShape(Text, Text),
+    /// The file of this name asks for imports, which aren't built.
+    ImportsUnbuilt(Text),
+    /// The manifest has more than 64 files.
+    TooManyFiles,
+    /// Two enums or objects of the manifest, or two features, have this name: the first that was met before.
+    DuplicateName(Text),
+    /// A type names this, which is neither an enum nor an object, or is a map's key and no enum.
+    UnknownType(Text),
+    /// The least object whose height is above 32.
+    EndlessObject(Text),
+    /// The least object whose weight is above 16,384.
+    ObjectTooLarge(Text),
+    /// The channel is none of those of the manifest's first file.
+    UnknownChannel,
+    /// The object or feature of this name has a default that doesn't fit: the path of the first one, `/fields/NAME`,
+    /// `/variables/NAME` or `/defaults/INDEX`.
+    BadDefault(Text, Text),
+    /// The manifest has no feature of this name.
+    UnknownFeature,
     /// The slug isn't opted out, and 4,096 slugs are.
     OptedOutLimit,
     /// The client takes part in nothing.

@@ -7,11 +7,10 @@ ghost use Rattle.state_codec.specs.Sound.{IsSound};
 ghost use Rattle.client_core.specs.Moments.{WhileWritten};
 ghost use Rattle.client_core.specs.OpenStore.{IsSettled, AllKept, AllKeptEither, AllStand};
 ghost use Rattle.client_core.specs.Places.{place_after, bytes_for};
-ghost use Rattle.client_core.specs.Sessions.{with_context};
+ghost use Rattle.client_core.specs.Sessions.{changed_by};
 
 use crate::prepared::{Change, Prepared};
-use crate::session::Session;
-use app_context::Context;
+use crate::session::{Session, SessionChange};
 use enrol_states::State;
 use gate_journal::{AppendFault, Journal};
 use host_model::{DiskFailed, Host};
@@ -75,24 +74,24 @@ impl Client {
     {
         let Prepared {
             change,
-            context,
+            session,
             answer: _,
         } = prepared;
         match change {
-            Some(change) => self.write(host, change, context),
+            Some(change) => self.write(host, change, session),
             None => {
-                self.session.take_over(context);
+                self.session.take_over(session);
                 Ok(())
             }
         }
     }
 
-    /// Writes the record of another state, and takes the state and the context over.
+    /// Writes the record of another state, and takes the state and the session over.
     fn write<H: Host>(
         &mut self,
         host: &mut H,
         change: Change,
-        context: Option<Context>,
+        session: SessionChange,
     ) -> Result<(), DiskFailed>
         requires holds { H.tells → IsOpenOn H.Host self.old host.old }
         requires change { IsChange self.old.journal.place self.old.state (Some change) }
@@ -109,7 +108,7 @@ impl Client {
         ensures gate { OnOk result (H.tells → HasGateOn H.Host self.new host.new) }
 
         ensures state { OnOk result (self.new.state ≡ change.state) }
-        ensures session { OnOk result (self.new.session ≡ with_context self.old.session context) }
+        ensures session { OnOk result (self.new.session ≡ changed_by self.old.session session) }
         ensures place { OnOk result (self.new.journal.place ≡ self.old.journal.place + length change.frame + 5) }
         ensures same { OnErr result (self.new ≡ self.old) }
 
@@ -120,7 +119,7 @@ impl Client {
         match self.journal.append(host, &change.frame) {
             Ok(()) => {
                 self.state = change.state;
-                self.session.take_over(context);
+                self.session.take_over(session);
                 Ok(())
             }
             Err(AppendFault::DiskFault) => Err(DiskFailed),

@@ -5,6 +5,8 @@ use sequences::Text;
 /// What a client is asked for.
 #[derive(Drop)]
 pub enum Command {
+    /// The manifest of which this file is the first, for this channel, becomes that of the run.
+    Manifest { file: Text, channel: Text },
     /// The value of this file becomes the context of the run.
     Context { file: Text },
     /// The payload of this file becomes the pending recipes.
@@ -21,4 +23,6 @@ pub enum Command {
     Reset { id: [u8; 16] },
     /// The state, as an answer.
     Show,
+    /// The value that the feature of this name has, as an answer.
+    Feature { name: Text },
 }

@@ -17,6 +17,7 @@ use crate::answer::Answer;
 use crate::client::Client;
 use crate::faults::StepFault;
 use crate::prepared::Prepared;
+use crate::session::SessionChange;
 use app_context::{Context, ContextFault, read_context};
 use host_model::{Shelf, ShelfAnswer};
 use json_tree::{Tree, TreeFault, read};
@@ -55,7 +56,7 @@ impl Client {
     {
         Prepared {
             change: None,
-            context: Some(context),
+            session: SessionChange::Context(context),
             answer: Answer::Okay,
         }
     }

@@ -2,6 +2,7 @@
 ghost use Rattle.std.specs.Prelude.{◌≡◌, ℕ, List};
 ghost use Rattle.enrol_states.specs.declared.state.State.{State};
 ghost use Rattle.client_core.specs.OptOuts.{OptOutsHold};
+ghost use Rattle.client_core.specs.ServedValues.{ValuesAreServed, ValuesHaveTypes};
 ghost use Rattle.client_core.specs.Soundness.{StepsStaySound};
 ghost use Rattle.client_core.specs.Store.{StandsFor, KeptFor};
 
@@ -17,9 +18,21 @@ pub fn opt_outs_hold()
     ensures { OptOutsHold }
 {}
 
-/// A step from a consistent state and a lawful session gives such a state and such a session, for every command, files
-/// and moment; so features stay with one recipe of a kind, also where an apply changes recipes, their kinds or features.
-/// A state doesn't grow past the size that a state may have.
+/// A step from a sound state and a lawful session gives a sound state and a lawful session, for every command, files and
+/// moment, and so do any number of steps: features stay with one recipe of a kind, also where an apply changes recipes,
+/// their kinds, their features or what may be shared. Nothing is asked of what files hold.
 pub fn steps_stay_sound()
     ensures { StepsStaySound }
+{}
+
+/// A step is answered a value only where it asks for a feature, and that is the tree of the value which the session's
+/// manifest serves of it.
+pub fn values_are_served()
+    ensures { ValuesAreServed }
+{}
+
+/// That value has the type of the feature, where the manifest is lawful, its defaults have their types, and what the live
+/// recipes set is what the type of a tree keeps.
+pub fn values_have_types()
+    ensures { ValuesHaveTypes }
 {}

@@ -9,17 +9,20 @@ mod command;
 mod faults;
 mod fetching;
 mod laws;
+mod linked_manifest;
 mod making;
+mod manifests;
 mod opening;
 mod prepared;
 mod preparing;
+mod serving;
 mod session;
 
 pub use answer::Answer;
 pub use client::Client;
 pub use command::Command;
 pub use faults::{ClientFault, MakeFault, StepFault};
-pub use laws::{one_state, opt_outs_hold, steps_stay_sound};
+pub use laws::{one_state, opt_outs_hold, steps_stay_sound, values_are_served, values_have_types};
 pub use prepared::Prepared;
 pub use session::Session;
 

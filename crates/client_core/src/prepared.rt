@@ -2,7 +2,7 @@
 ghost use Rattle.std.specs.Prelude.{◌≡◌};
 
 use crate::answer::Answer;
-use app_context::Context;
+use crate::session::SessionChange;
 use enrol_states::State;
 use gate_journal::Frame;
 
@@ -17,8 +17,8 @@ pub struct Change {
 #[derive(Drop)]
 pub struct Prepared {
     pub(crate) change: Option<Change>,
-    /// The new context of the session, where the command read one.
-    pub(crate) context: Option<Context>,
+    /// What becomes of the session.
+    pub(crate) session: SessionChange,
     pub(crate) answer: Answer,
 }
 

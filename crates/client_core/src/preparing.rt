@@ -1,5 +1,5 @@
 // A step is prepared: its new state, the record of it and its answer are built before the first write.
-ghost use Rattle.std.specs.Prelude.{◌≡◌, ◌≤◌, List, ℕ, None, Some, Ok, count_by, IfOk, OnOk, IsErrOf};
+ghost use Rattle.std.specs.Prelude.{◌≡◌, ◌≤◌, List, ℕ, Some, Ok, count_by, IfOk, OnOk, IsErrOf};
 ghost use Rattle.host_model.specs.Causes.{Rose};
 ghost use Rattle.enrol_states.specs.Consistent.{IsConsistent};
 ghost use Rattle.enrol_states.specs.State.{last_moment};
@@ -9,6 +9,7 @@ ghost use Rattle.jexl_transforms.specs.Table.{names_of};
 ghost use Rattle.state_codec.specs.Sound.{IsSound};
 ghost use Rattle.state_codec.specs.Spelling.{spelling};
 ghost use Rattle.client_core.specs.Places.{IsFullFor};
+ghost use Rattle.client_core.specs.ServedValues.{IsTyped};
 ghost use Rattle.client_core.specs.Settings.{setting};
 ghost use Rattle.client_core.specs.Steps.{Accepted, applying, applied_answer, shown_answer, showing};
 
@@ -17,6 +18,7 @@ use crate::client::Client;
 use crate::command::Command;
 use crate::faults::StepFault;
 use crate::prepared::{Change, Prepared};
+use crate::session::SessionChange;
 use enrol_evolver::evolve;
 use enrol_states::{Row, State, Status};
 use gate_journal::{Frame, SIDE_END};
@@ -32,7 +34,7 @@ const MAX_STATE_BYTES: u128 = 16_777_216;
 
 impl Client {
     ghost use Rattle.client_core.specs.Clients.{state_of, session_of, end_of, step_of};
-    ghost use Rattle.client_core.specs.Prepared.{IsMadeOn, IsChange, Leads, Prepares, changed};
+    ghost use Rattle.client_core.specs.Prepared.{IsMadeOn, IsChange, Leads, Prepares, answer_in, changed};
 
     /// Prepares the step of a command at a moment, in whole seconds since 1970. It changes neither the state nor the
     /// session, and writes nothing. A command that is refused is `Ok` with its refusal as the answer. The table has the
@@ -58,11 +60,17 @@ impl Client {
         ensures fits { F.tells → OnOk result
             (IsFullFor (end_of self.now) (state_of self.now) (step_of self.now (setting F.Shelf shelf.old now) command.now).state → ⊥) }
 
+        // A value that is answered of a feature has the feature's type.
+        ensures typed { IfOk result (λ prepared. IsTyped (state_of self.now) (session_of self.now) command.now (answer_in prepared)) }
+
         ensures files { F.tells → (name : List ℕ) → F.file shelf.new name ≡ F.file shelf.old name }
         ensures cause { IsErrOf result StepFault.ShelfFault → Rose (F.faults shelf.old) (F.faults shelf.new) }
         ensures faults { F.faults shelf.old ≤ F.faults shelf.new }
     {
         match command {
+            Command::Manifest { file, channel } => {
+                self.setting_manifest(alloc, shelf, file, channel)
+            }
             Command::Context { file } => self.reading_context(alloc, shelf, file),
             Command::Fetch { file } => self.fetching(alloc, shelf, file),
             Command::Apply => self.applying(alloc, table, now),
@@ -71,6 +79,7 @@ impl Client {
             Command::OptIn { slug, branch } => self.opting_in(alloc, slug, branch),
             Command::Reset { id } => self.resetting(alloc, *id),
             Command::Show => self.showing(alloc),
+            Command::Feature { name } => self.serving(alloc, name),
         }
     }
 
@@ -78,12 +87,12 @@ impl Client {
     pub(crate) fn unchanged(&self, answer: Answer) -> Prepared
         ensures made { IsMadeOn self.now result }
         ensures answer { result.answer ≡ answer }
-        ensures session { result.context ≡ None }
+        ensures session { result.session ≡ SessionChange.Stays }
         ensures state { changed self.now.state result.change ≡ self.now.state }
     {
         Prepared {
             change: None,
-            context: None,
+            session: SessionChange::Stays,
             answer,
         }
     }
@@ -109,19 +118,16 @@ impl Client {
         requires moment { now ≤ last_moment }
         requires table { names_of table.now ≡ standard_names }
         ensures not_shelf { ¬ IsErrOf result StepFault.ShelfFault }
-        ensures prepares { Prepares self.now (applying now self.now.state self.now.session self.now.session.context) result }
+        ensures prepares { Prepares self.now (applying now self.now.state self.now.session self.now.session.manifest self.now.session.context) result }
     {
+        let Some(linked) = &self.session.manifest else {
+            return Ok(self.unchanged(Answer::NoManifest));
+        };
         let Some(context) = &self.session.context else {
             return Ok(self.unchanged(Answer::NoContext));
         };
-        let next = evolve(
-            alloc,
-            &self.state,
-            context,
-            Sequence::new(alloc),
-            table,
-            now,
-        )?;
+        let coenrolling = linked.coenrolling(alloc)?;
+        let next = evolve(alloc, &self.state, context, coenrolling, table, now)?;
         let answer = applied_answer(&next);
         self.accepted(alloc, next, answer)
     }
@@ -143,7 +149,7 @@ impl Client {
         }
         Ok(Prepared {
             change: self.change_to(alloc, next)?,
-            context: None,
+            session: SessionChange::Stays,
             answer,
         })
     }

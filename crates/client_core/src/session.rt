@@ -1,14 +1,28 @@
 // The session of a run.
 ghost use Rattle.std.specs.Prelude.{◌≡◌};
-ghost use Rattle.client_core.specs.Sessions.{no_session, with_context};
+ghost use Rattle.client_core.specs.Sessions.{no_session, changed_by};
 
+use crate::linked_manifest::LinkedManifest;
 use app_context::Context;
 
 /// What a run keeps beside the client's state, from one command to the next. It begins and ends with the run.
 #[derive(Drop)]
 pub struct Session {
+    /// The manifest that was set last.
+    pub(crate) manifest: Option<LinkedManifest>,
     /// The context that was read last.
     pub(crate) context: Option<Context>,
+}
+
+/// What a step makes of the session.
+#[derive(Drop)]
+pub(crate) enum SessionChange {
+    /// It is as before.
+    Stays,
+    /// This manifest is set.
+    Manifest(LinkedManifest),
+    /// This context is set.
+    Context(Context),
 }
 
 impl Session {
@@ -16,15 +30,20 @@ impl Session {
     pub(crate) fn new() -> Session
         ensures { result ≡ no_session }
     {
-        Session { context: None }
+        Session {
+            manifest: None,
+            context: None,
+        }
     }
 
-    /// Takes a context over, where there is one.
-    pub(crate) fn take_over(&mut self, context: Option<Context>)
-        ensures { self.new ≡ with_context self.old context }
+    /// Takes a change over.
+    pub(crate) fn take_over(&mut self, change: SessionChange)
+        ensures { self.new ≡ changed_by self.old change }
     {
-        if context.is_some() {
-            self.context = context;
+        match change {
+            SessionChange::Stays => {}
+            SessionChange::Manifest(manifest) => self.manifest = Some(manifest),
+            SessionChange::Context(context) => self.context = Some(context),
         }
     }
 }

@@ -1,10 +1,29 @@
 -- Each command's step is the defined one.
-use Rattle.std.proofs.Common.{ap, sym}
+use Rattle.std.proofs.Common.{ap, sym, subst, IfOk}
 use Rattle.client_core.specs.Fetching.{file_tree}
+use Rattle.client_core.specs.Manifests.{manifest_of}
+use Rattle.client_core.specs.declared.command.Command.{Command}
+use Rattle.client_core.specs.ServedValues.{IsTyped}
 use Rattle.client_core.specs.Settings.{setting}
-use Rattle.client_core.specs.Steps.{reading_context, fetching, applying, participation, opting_out, opting_in, resetting, showing, outcome}
+use Rattle.client_core.specs.Steps.{setting_manifest, reading_context, fetching, applying, participation, opting_out, opting_in, resetting, showing, serving, outcome}
+use Rattle.client_core.proofs.ServedValues.{untyped}
 use Rattle.client_core.proofs.Stepping.{leads, is_full, fits}
 use Rattle.client_core.proofs.client.Client.prepare.Goals as goal
+
+pub returns-in-Manifest-clause-step : goal.returns-in-Manifest-clause-step
+returns-in-Manifest-clause-step g c tells =
+    leads c.args.self.now (setting_manifest c.args.self.now.state c.args.self.now.session (manifest_of (g.F.Shelf.file c.args.shelf.now) c.in-Manifest.file c.in-Manifest.channel)) c.setting_manifest.result (c.setting_manifest.ensures.prepares tells) (setting g.F.Shelf c.args.shelf.now c.args.now) c.args.command.now
+    (ap (outcome (setting g.F.Shelf c.args.shelf.now c.args.now) c.args.self.now.state c.args.self.now.session) (sym c.in-Manifest.is))
+
+pub returns-in-Manifest-clause-full : goal.returns-in-Manifest-clause-full
+returns-in-Manifest-clause-full g c full tells =
+    is_full c.args.self.now (setting_manifest c.args.self.now.state c.args.self.now.session (manifest_of (g.F.Shelf.file c.args.shelf.now) c.in-Manifest.file c.in-Manifest.channel)) c.setting_manifest.result (c.setting_manifest.ensures.prepares tells) (setting g.F.Shelf c.args.shelf.now c.args.now) c.args.command.now
+    (ap (outcome (setting g.F.Shelf c.args.shelf.now c.args.now) c.args.self.now.state c.args.self.now.session) (sym c.in-Manifest.is)) full
+
+pub returns-in-Manifest-clause-fits : goal.returns-in-Manifest-clause-fits
+returns-in-Manifest-clause-fits g c tells =
+    fits c.args.self.now (setting_manifest c.args.self.now.state c.args.self.now.session (manifest_of (g.F.Shelf.file c.args.shelf.now) c.in-Manifest.file c.in-Manifest.channel)) c.setting_manifest.result (c.setting_manifest.ensures.prepares tells) (setting g.F.Shelf c.args.shelf.now c.args.now) c.args.command.now
+    (ap (outcome (setting g.F.Shelf c.args.shelf.now c.args.now) c.args.self.now.state c.args.self.now.session) (sym c.in-Manifest.is))
 
 pub returns-in-Context-clause-step : goal.returns-in-Context-clause-step
 returns-in-Context-clause-step g c tells =
@@ -38,17 +57,17 @@ returns-in-Fetch-clause-fits g c tells =
 
 pub returns-in-Apply-clause-step : goal.returns-in-Apply-clause-step
 returns-in-Apply-clause-step g c tells =
-    leads c.args.self.now (applying c.args.now c.args.self.now.state c.args.self.now.session c.args.self.now.session.context) c.applying.result (c.applying.ensures.prepares) (setting g.F.Shelf c.args.shelf.now c.args.now) c.args.command.now
+    leads c.args.self.now (applying c.args.now c.args.self.now.state c.args.self.now.session c.args.self.now.session.manifest c.args.self.now.session.context) c.applying.result (c.applying.ensures.prepares) (setting g.F.Shelf c.args.shelf.now c.args.now) c.args.command.now
     (ap (outcome (setting g.F.Shelf c.args.shelf.now c.args.now) c.args.self.now.state c.args.self.now.session) (sym c.in-Apply.is))
 
 pub returns-in-Apply-clause-full : goal.returns-in-Apply-clause-full
 returns-in-Apply-clause-full g c full tells =
-    is_full c.args.self.now (applying c.args.now c.args.self.now.state c.args.self.now.session c.args.self.now.session.context) c.applying.result (c.applying.ensures.prepares) (setting g.F.Shelf c.args.shelf.now c.args.now) c.args.command.now
+    is_full c.args.self.now (applying c.args.now c.args.self.now.state c.args.self.now.session c.args.self.now.session.manifest c.args.self.now.session.context) c.applying.result (c.applying.ensures.prepares) (setting g.F.Shelf c.args.shelf.now c.args.now) c.args.command.now
     (ap (outcome (setting g.F.Shelf c.args.shelf.now c.args.now) c.args.self.now.state c.args.self.now.session) (sym c.in-Apply.is)) full
 
 pub returns-in-Apply-clause-fits : goal.returns-in-Apply-clause-fits
 returns-in-Apply-clause-fits g c tells =
-    fits c.args.self.now (applying c.args.now c.args.self.now.state c.args.self.now.session c.args.self.now.session.context) c.applying.result (c.applying.ensures.prepares) (setting g.F.Shelf c.args.shelf.now c.args.now) c.args.command.now
+    fits c.args.self.now (applying c.args.now c.args.self.now.state c.args.self.now.session c.args.self.now.session.manifest c.args.self.now.session.context) c.applying.result (c.applying.ensures.prepares) (setting g.F.Shelf c.args.shelf.now c.args.now) c.args.command.now
     (ap (outcome (setting g.F.Shelf c.args.shelf.now c.args.now) c.args.self.now.state c.args.self.now.session) (sym c.in-Apply.is))
 
 pub returns-in-Participate-clause-step : goal.returns-in-Participate-clause-step
@@ -125,3 +144,48 @@ pub returns-in-Show-clause-fits : goal.returns-in-Show-clause-fits
 returns-in-Show-clause-fits g c tells =
     fits c.args.self.now (showing c.args.self.now.state c.args.self.now.session) c.showing.result (c.showing.ensures.prepares) (setting g.F.Shelf c.args.shelf.now c.args.now) c.args.command.now
     (ap (outcome (setting g.F.Shelf c.args.shelf.now c.args.now) c.args.self.now.state c.args.self.now.session) (sym c.in-Show.is))
+
+pub returns-in-Feature-clause-step : goal.returns-in-Feature-clause-step
+returns-in-Feature-clause-step g c tells =
+    leads c.args.self.now (serving c.args.self.now.state c.args.self.now.session c.in-Feature.name c.args.self.now.session.manifest) c.serving.result (c.serving.ensures.prepares) (setting g.F.Shelf c.args.shelf.now c.args.now) c.args.command.now
+    (ap (outcome (setting g.F.Shelf c.args.shelf.now c.args.now) c.args.self.now.state c.args.self.now.session) (sym c.in-Feature.is))
+
+pub returns-in-Feature-clause-full : goal.returns-in-Feature-clause-full
+returns-in-Feature-clause-full g c full tells =
+    is_full c.args.self.now (serving c.args.self.now.state c.args.self.now.session c.in-Feature.name c.args.self.now.session.manifest) c.serving.result (c.serving.ensures.prepares) (setting g.F.Shelf c.args.shelf.now c.args.now) c.args.command.now
+    (ap (outcome (setting g.F.Shelf c.args.shelf.now c.args.now) c.args.self.now.state c.args.self.now.session) (sym c.in-Feature.is)) full
+
+pub returns-in-Feature-clause-fits : goal.returns-in-Feature-clause-fits
+returns-in-Feature-clause-fits g c tells =
+    fits c.args.self.now (serving c.args.self.now.state c.args.self.now.session c.in-Feature.name c.args.self.now.session.manifest) c.serving.result (c.serving.ensures.prepares) (setting g.F.Shelf c.args.shelf.now c.args.now) c.args.command.now
+    (ap (outcome (setting g.F.Shelf c.args.shelf.now c.args.now) c.args.self.now.state c.args.self.now.session) (sym c.in-Feature.is))
+
+pub returns-in-Manifest-clause-typed : goal.returns-in-Manifest-clause-typed
+returns-in-Manifest-clause-typed g c = untyped c.args.self.now.state c.args.self.now.session c.args.command.now _ c.setting_manifest.result c.in-Manifest.is (λ answer. tt)
+
+pub returns-in-Context-clause-typed : goal.returns-in-Context-clause-typed
+returns-in-Context-clause-typed g c = untyped c.args.self.now.state c.args.self.now.session c.args.command.now _ c.reading_context.result c.in-Context.is (λ answer. tt)
+
+pub returns-in-Fetch-clause-typed : goal.returns-in-Fetch-clause-typed
+returns-in-Fetch-clause-typed g c = untyped c.args.self.now.state c.args.self.now.session c.args.command.now _ c.fetching.result c.in-Fetch.is (λ answer. tt)
+
+pub returns-in-Apply-clause-typed : goal.returns-in-Apply-clause-typed
+returns-in-Apply-clause-typed g c = untyped c.args.self.now.state c.args.self.now.session c.args.command.now _ c.applying.result c.in-Apply.is (λ answer. tt)
+
+pub returns-in-Participate-clause-typed : goal.returns-in-Participate-clause-typed
+returns-in-Participate-clause-typed g c = untyped c.args.self.now.state c.args.self.now.session c.args.command.now _ c.participating.result c.in-Participate.is (λ answer. tt)
+
+pub returns-in-OptOut-clause-typed : goal.returns-in-OptOut-clause-typed
+returns-in-OptOut-clause-typed g c = untyped c.args.self.now.state c.args.self.now.session c.args.command.now _ c.opting_out.result c.in-OptOut.is (λ answer. tt)
+
+pub returns-in-OptIn-clause-typed : goal.returns-in-OptIn-clause-typed
+returns-in-OptIn-clause-typed g c = untyped c.args.self.now.state c.args.self.now.session c.args.command.now _ c.opting_in.result c.in-OptIn.is (λ answer. tt)
+
+pub returns-in-Reset-clause-typed : goal.returns-in-Reset-clause-typed
+returns-in-Reset-clause-typed g c = untyped c.args.self.now.state c.args.self.now.session c.args.command.now _ c.resetting.result c.in-Reset.is (λ answer. tt)
+
+pub returns-in-Show-clause-typed : goal.returns-in-Show-clause-typed
+returns-in-Show-clause-typed g c = untyped c.args.self.now.state c.args.self.now.session c.args.command.now _ c.showing.result c.in-Show.is (λ answer. tt)
+
+pub returns-in-Feature-clause-typed : goal.returns-in-Feature-clause-typed
+returns-in-Feature-clause-typed g c = subst (λ (command : Command). IfOk c.serving.result (λ p. IsTyped c.args.self.now.state c.args.self.now.session command p.answer)) (sym c.in-Feature.is) c.serving.ensures.typed

@@ -1,0 +1,126 @@
+-- A step keeps the records of a state's recipes sound.
+use Rattle.std.proofs.Common.{ℕ, Bool, true, false, List, length, Option, Some, None, Result, Ok, Err, unwrap_or}
+use Rattle.std.specs.Prelude.{IfOk, nat_lt, if◌then◌else◌}
+use Rattle.json_tree.specs.Json.{Json, IsSound}
+use Rattle.recipe_reader.specs.Payloads.{payload_of, recipe_with}
+use Rattle.recipe_reader.specs.declared.payload.Payload.{Payload}
+use Rattle.recipe_reader.specs.declared.payload.PayloadFault.{PayloadFault}
+use Rattle.recipe_reader.specs.declared.payload.PayloadFault.TheVariants as payload
+use Rattle.recipe_reader.specs.declared.recipe.Recipe.{Recipe}
+use Rattle.app_context.specs.Contexts.{context_of}
+use Rattle.app_context.specs.declared.context.Context.{Context}
+use Rattle.app_context.specs.declared.key.ContextKey.{ContextKey}
+use Rattle.enrol_evolver.specs.Evolution.{evolution}
+use Rattle.enrol_states.specs.Choices.{has_no_room}
+use Rattle.enrol_states.specs.Commands.{after_opt_out}
+use Rattle.enrol_states.specs.Recipes.{has_branch}
+use Rattle.enrol_states.specs.declared.state.State.{State}
+use Rattle.state_codec.specs.Sound.{max_size, AreRecords, HaveRecords}
+use Rattle.state_codec.specs.Spelling.{pending_recipes, spelling}
+use Rattle.fml_types.specs.declared.manifest.Manifest.{Manifest}
+use Rattle.fml_value.specs.Typed.{TypedValue}
+use Rattle.feature_serving.specs.Serving.{served}
+use Rattle.client_core.specs.declared.answer.Answer.{Answer}
+use Rattle.client_core.specs.declared.answer.Answer.TheVariants.{Okay, OptedOutLimit, NotParticipating, NoSuchBranch}
+use Rattle.client_core.specs.declared.command.Command.{Command}
+use Rattle.client_core.specs.declared.command.Command.TheVariants.{Fetch, Apply, Participate, OptOut, OptIn, Reset, Show, Feature}
+use Rattle.client_core.specs.declared.command.Command.TheVariants as commands
+use Rattle.client_core.specs.declared.session.Session.{Session}
+use Rattle.client_core.specs.Choosing.{first_taker}
+use Rattle.client_core.specs.Fetching.{file_tree}
+use Rattle.client_core.specs.Manifests.{manifest_of}
+use Rattle.client_core.specs.Settings.{Setting}
+use Rattle.client_core.specs.Steps.{Outcome, Accepted, Refused, Step, taking, choosing, fetched, fetching, context_read, reading_context, setting_manifest, applying, valued, serving, outcome, done, step}
+use Rattle.client_core.proofs.ReadFiles.{file_sound}
+use Rattle.client_core.proofs.ReadRecords.{OfPayload, payload_records}
+
+either_step : (P : Step → Type 0) (b : Bool) (x y : Step) → P x → P y → P (if b then x else y)
+either_step P true x y here there = here
+either_step P false x y here there = there
+
+live_records : (pending : Option (List Recipe)) (live : List Recipe) → AreRecords (pending_recipes pending) → AreRecords live → AreRecords (unwrap_or pending live)
+live_records None live fetched_ones kept_ones = kept_ones
+live_records (Some recipes) live fetched_ones kept_ones = fetched_ones
+
+module _ (at : Setting) (s : State) (session : Session) (h : HaveRecords s) where
+  -- an accepted state has sound records
+  abbrev Keeps : Outcome → Type 0
+  Keeps (Accepted t next answer) = HaveRecords t
+  Keeps (Refused answer) = Unit {0}
+
+  done-keeps : (asked : Outcome) → Keeps asked → HaveRecords (done s session asked).state
+  done-keeps (Accepted t next answer) keeps = either_step (λ to. HaveRecords to.state) (nat_lt max_size (length (spelling t))) _ _ h keeps
+  done-keeps (Refused answer) keeps = h
+
+  context-keeps : (read : Result Context ContextKey) → Keeps (context_read s session read)
+  context-keeps (Ok context) = h
+  context-keeps (Err key) = tt
+
+  file-keeps : (read : Result Json Answer) → Keeps (reading_context s session read)
+  file-keeps (Ok tree) = context-keeps (context_of tree)
+  file-keeps (Err refusal) = tt
+
+  payload-keeps : (read : Result Payload PayloadFault) → OfPayload read → Keeps (fetched s session read)
+  payload-keeps (Ok found) records = record { live = h.live; pending = records }
+  payload-keeps (Err payload.NoData) records = tt
+  payload-keeps (Err (payload.TooManyRecipes count)) records = tt
+  payload-keeps (Err payload.OutOfMemory) records = tt
+
+  fetch-keeps : (read : Result Json Answer) → IfOk read IsSound → Keeps (fetching s session read)
+  fetch-keeps (Ok tree) sound = payload-keeps (payload_of tree) (payload_records tree sound)
+  fetch-keeps (Err refusal) sound = tt
+
+  manifest-keeps : (read : Result Manifest Answer) → Keeps (setting_manifest s session read)
+  manifest-keeps (Ok manifest) = h
+  manifest-keeps (Err refusal) = tt
+
+  apply-keeps : (manifest : Option Manifest) (context : Option Context) → Keeps (applying at.now s session manifest context)
+  unfolding evolution
+  apply-keeps None context = tt
+  apply-keeps (Some manifest) None = tt
+  apply-keeps (Some manifest) (Some context) = record { live = live_records s.pending s.live h.pending h.live; pending = tt }
+
+  value-keeps : (found : Option TypedValue) → Keeps (valued s session found)
+  value-keeps None = tt
+  value-keeps (Some value) = h
+
+  feature-keeps : (name : List ℕ) (manifest : Option Manifest) → Keeps (serving s session name manifest)
+  feature-keeps name None = tt
+  feature-keeps name (Some manifest) = value-keeps (served manifest s name)
+
+  out-keeps : (slug : List ℕ) (full : Bool) → Keeps (if full then Refused OptedOutLimit else Accepted (after_opt_out s slug) session Okay)
+  out-keeps slug true = tt
+  out-keeps slug false = record { live = h.live; pending = h.pending }
+
+  module _ (slug branch : List ℕ) where
+    taking-keeps : (taker : Option (List ℕ × List ℕ)) → Keeps (taking s session slug branch taker)
+    taking-keeps None = record { live = h.live; pending = h.pending }
+    taking-keeps (Some taker) = tt
+
+    branch-keeps : (r : Recipe) (has : Bool) → Keeps (if has then taking s session slug branch (first_taker s r s.rows) else Refused NoSuchBranch)
+    branch-keeps r true = taking-keeps (first_taker s r s.rows)
+    branch-keeps r false = tt
+
+    choosing-keeps : (found : Option Recipe) → Keeps (choosing s session slug branch found)
+    choosing-keeps None = tt
+    choosing-keeps (Some r) = branch-keeps r (has_branch r branch)
+
+    in-keeps : (on : Bool) → Keeps (if on then choosing s session slug branch (recipe_with slug s.live) else Refused NotParticipating)
+    in-keeps true = choosing-keeps (recipe_with slug s.live)
+    in-keeps false = tt
+
+  outcome-keeps : (command : Command) → Keeps (outcome at s session command)
+  outcome-keeps (commands.Manifest file channel) = manifest-keeps (manifest_of at.files file channel)
+  outcome-keeps (commands.Context file) = file-keeps (file_tree file (at.files file))
+  outcome-keeps (Fetch file) = fetch-keeps (file_tree file (at.files file)) (file_sound file (at.files file))
+  outcome-keeps Apply = apply-keeps session.manifest session.context
+  outcome-keeps (Participate on) = record { live = h.live; pending = h.pending }
+  outcome-keeps (OptOut slug) = out-keeps slug (has_no_room s.opted_out slug)
+  outcome-keeps (OptIn slug branch) = in-keeps slug branch s.participating
+  outcome-keeps (Reset id) = record { live = h.live; pending = h.pending }
+  outcome-keeps Show = h
+  outcome-keeps (Feature name) = feature-keeps name session.manifest
+
+  pub step_keeps_records : (command : Command) → HaveRecords (step at s session command).state
+  unfolding step
+  step_keeps_records command = done-keeps (outcome at s session command) (outcome-keeps command)

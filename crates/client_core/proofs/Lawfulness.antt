@@ -1,0 +1,145 @@
+-- A step keeps a session lawful, and its texts in UTF-8.
+use Rattle.std.proofs.Common.{◌≡◌, ℕ, Bool, true, false, List, length, Option, Some, None, Result, Ok, Err, IsUtf8, refl, subst}
+use Rattle.std.specs.Prelude.{IfOk, nat_lt, if◌then◌else◌}
+use Rattle.json_tree.specs.Json.{Json, IsSound}
+use Rattle.recipe_reader.specs.Payloads.{payload_of, recipe_with}
+use Rattle.recipe_reader.specs.declared.payload.Payload.{Payload}
+use Rattle.recipe_reader.specs.declared.payload.PayloadFault.{PayloadFault}
+use Rattle.recipe_reader.specs.declared.payload.PayloadFault.TheVariants as payload
+use Rattle.recipe_reader.specs.declared.recipe.Recipe.{Recipe}
+use Rattle.app_context.specs.Contexts.{context_of}
+use Rattle.app_context.specs.declared.context.Context.{Context}
+use Rattle.app_context.specs.declared.key.ContextKey.{ContextKey}
+use Rattle.enrol_evolver.specs.Evolution.{version_of}
+use Rattle.enrol_states.specs.Choices.{has_no_room}
+use Rattle.enrol_states.specs.Commands.{after_opt_out}
+use Rattle.enrol_states.specs.Recipes.{has_branch}
+use Rattle.enrol_states.specs.declared.state.State.{State}
+use Rattle.state_codec.specs.Sound.{max_size}
+use Rattle.state_codec.specs.Spelling.{spelling}
+use Rattle.fml_types.specs.declared.manifest.Manifest.{Manifest}
+use Rattle.fml_value.specs.Typed.{TypedValue}
+use Rattle.feature_serving.specs.Serving.{served}
+use Rattle.client_core.specs.declared.answer.Answer.{Answer}
+use Rattle.client_core.specs.declared.answer.Answer.TheVariants.{Okay, OptedOutLimit, NotParticipating, NoSuchBranch}
+use Rattle.client_core.specs.declared.command.Command.{Command}
+use Rattle.client_core.specs.declared.command.Command.TheVariants.{Fetch, Apply, Participate, OptOut, OptIn, Reset, Show, Feature}
+use Rattle.client_core.specs.declared.command.Command.TheVariants as commands
+use Rattle.client_core.specs.declared.session.Session.{Session}
+use Rattle.client_core.specs.Choosing.{first_taker}
+use Rattle.client_core.specs.Fetching.{file_tree}
+use Rattle.client_core.specs.Manifests.{manifest_of}
+use Rattle.client_core.specs.Sessions.{with_manifest, with_context}
+use Rattle.client_core.specs.Settings.{Setting}
+use Rattle.client_core.specs.Soundness.{HasVersion, IsSession, IsLawfulContext, IsLawful}
+use Rattle.client_core.specs.Steps.{Outcome, Accepted, Refused, Step, taking, choosing, fetched, fetching, context_read, reading_context, setting_manifest, applying, valued, serving, outcome, done, step}
+use Rattle.client_core.proofs.LinkedManifests.{manifest_linked}
+use Rattle.client_core.proofs.ReadContexts.{context_version}
+use Rattle.client_core.proofs.ReadFiles.{file_sound}
+
+either_step : (P : Step → Type 0) (b : Bool) (x y : Step) → P x → P y → P (if b then x else y)
+either_step P true x y here there = here
+either_step P false x y here there = there
+
+-- what each session keeps that has a manifest that links or the context of a sound tree, where it has others than before
+module _ (P : Session → Type 0) (at : Setting) (s : State) (session : Session) (was : P session) (links : (file channel : List ℕ) (manifest : Manifest) → manifest_of at.files file channel ≡ Ok manifest → P (with_manifest session manifest)) (takes : (tree : Json) (context : Context) → IsSound tree → context_of tree ≡ Ok context → P (with_context session context)) where
+  abbrev Carries : Outcome → Type 0
+  Carries (Accepted t next answer) = P next
+  Carries (Refused answer) = Unit {0}
+
+  done-carries : (asked : Outcome) → Carries asked → P (done s session asked).session
+  done-carries (Accepted t next answer) carries = either_step (λ to. P to.session) (nat_lt max_size (length (spelling t))) _ _ was carries
+  done-carries (Refused answer) carries = was
+
+  context-carries : (tree : Json) (read : Result Context ContextKey) → IsSound tree → context_of tree ≡ read → Carries (context_read s session read)
+  context-carries tree (Ok context) sound is = takes tree context sound is
+  context-carries tree (Err key) sound is = tt
+
+  file-carries : (read : Result Json Answer) → IfOk read IsSound → Carries (reading_context s session read)
+  file-carries (Ok tree) sound = context-carries tree (context_of tree) sound refl
+  file-carries (Err refusal) sound = tt
+
+  payload-carries : (read : Result Payload PayloadFault) → Carries (fetched s session read)
+  payload-carries (Ok found) = was
+  payload-carries (Err payload.NoData) = tt
+  payload-carries (Err (payload.TooManyRecipes count)) = tt
+  payload-carries (Err payload.OutOfMemory) = tt
+
+  fetch-carries : (read : Result Json Answer) → Carries (fetching s session read)
+  fetch-carries (Ok tree) = payload-carries (payload_of tree)
+  fetch-carries (Err refusal) = tt
+
+  manifest-carries : (file channel : List ℕ) (read : Result Manifest Answer) → manifest_of at.files file channel ≡ read → Carries (setting_manifest s session read)
+  manifest-carries file channel (Ok manifest) is = links file channel manifest is
+  manifest-carries file channel (Err refusal) is = tt
+
+  apply-carries : (manifest : Option Manifest) (context : Option Context) → Carries (applying at.now s session manifest context)
+  apply-carries None context = tt
+  apply-carries (Some manifest) None = tt
+  apply-carries (Some manifest) (Some context) = was
+
+  value-carries : (found : Option TypedValue) → Carries (valued s session found)
+  value-carries None = tt
+  value-carries (Some value) = was
+
+  feature-carries : (name : List ℕ) (manifest : Option Manifest) → Carries (serving s session name manifest)
+  feature-carries name None = tt
+  feature-carries name (Some manifest) = value-carries (served manifest s name)
+
+  out-carries : (slug : List ℕ) (full : Bool) → Carries (if full then Refused OptedOutLimit else Accepted (after_opt_out s slug) session Okay)
+  out-carries slug true = tt
+  out-carries slug false = was
+
+  module _ (slug branch : List ℕ) where
+    taking-carries : (taker : Option (List ℕ × List ℕ)) → Carries (taking s session slug branch taker)
+    taking-carries None = was
+    taking-carries (Some taker) = tt
+
+    branch-carries : (r : Recipe) (has : Bool) → Carries (if has then taking s session slug branch (first_taker s r s.rows) else Refused NoSuchBranch)
+    branch-carries r true = taking-carries (first_taker s r s.rows)
+    branch-carries r false = tt
+
+    choosing-carries : (found : Option Recipe) → Carries (choosing s session slug branch found)
+    choosing-carries None = tt
+    choosing-carries (Some r) = branch-carries r (has_branch r branch)
+
+    in-carries : (on : Bool) → Carries (if on then choosing s session slug branch (recipe_with slug s.live) else Refused NotParticipating)
+    in-carries true = choosing-carries (recipe_with slug s.live)
+    in-carries false = tt
+
+  outcome-carries : (command : Command) → Carries (outcome at s session command)
+  outcome-carries (commands.Manifest file channel) = manifest-carries file channel (manifest_of at.files file channel) refl
+  outcome-carries (commands.Context file) = file-carries (file_tree file (at.files file)) (file_sound file (at.files file))
+  outcome-carries (Fetch file) = fetch-carries (file_tree file (at.files file))
+  outcome-carries Apply = apply-carries session.manifest session.context
+  outcome-carries (Participate on) = was
+  outcome-carries (OptOut slug) = out-carries slug (has_no_room s.opted_out slug)
+  outcome-carries (OptIn slug branch) = in-carries slug branch s.participating
+  outcome-carries (Reset id) = was
+  outcome-carries Show = was
+  outcome-carries (Feature name) = feature-carries name session.manifest
+
+  step-carries : (command : Command) → P (step at s session command).session
+  unfolding step
+  step-carries command = done-carries (outcome at s session command) (outcome-carries command)
+
+version_of_tree : (tree : Json) (context : Context) → IsSound tree → context_of tree ≡ Ok context → IsUtf8 (version_of context)
+version_of_tree tree context sound is = subst (λ (read : Result Context ContextKey). IfOk read (λ c. IsUtf8 (version_of c))) is (context_version tree sound)
+
+pub step_keeps_texts : (at : Setting) (s : State) (session : Session) (command : Command) → IsSession session → IsSession (step at s session command).session
+step_keeps_texts at s session command was =
+    step-carries IsSession at s session was (λ file channel manifest is. record { manifest = manifest_linked at.files file channel manifest is; context = was.context })
+    (λ tree context sound is. record { manifest = was.manifest; context = version_of_tree tree context sound is }) command
+
+pub step_keeps_lawful : (at : Setting) (s : State) (session : Session) (command : Command) → IsLawful session → IsLawful (step at s session command).session
+step_keeps_lawful at s session command was =
+    step-carries IsLawful at s session was (λ file channel manifest is. record { manifest = manifest_linked at.files file channel manifest is; context = was.context })
+    (λ tree context sound is. record { manifest = was.manifest; context = (tree, sound, is) }) command
+
+has_version : (context : Option Context) → IsLawfulContext context → HasVersion context
+has_version None lawful = tt
+has_version (Some context) lawful = version_of_tree lawful.0 context lawful.1 lawful.2
+
+-- a lawful session has its texts in UTF-8
+pub lawful_texts : (session : Session) → IsLawful session → IsSession session
+lawful_texts session lawful = record { manifest = lawful.manifest; context = has_version session.context lawful.context }

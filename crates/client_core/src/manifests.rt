@@ -1,0 +1,121 @@
+// The manifest of a run is set.
+ghost use Rattle.std.specs.Prelude.{◌≡◌, ◌≤◌, List, ℕ, Result, Ok, Err, IfOk, IsErrOf};
+ghost use Rattle.host_model.specs.Causes.{Rose};
+ghost use Rattle.fml_types.specs.Sound.{IsSoundManifest};
+ghost use Rattle.fml_types.specs.declared.manifest.Manifest.{Manifest};
+ghost use Rattle.fml_link.specs.Outcome.{Gives};
+ghost use Rattle.fml_link.specs.declared.fault.LinkFault.{LinkFault};
+ghost use Rattle.fml_merge.specs.Faults.{bad_default};
+ghost use Rattle.state_codec.specs.Sound.{IsSound};
+ghost use Rattle.client_core.specs.Manifests.{link_refusal, where_fits, manifest_of};
+ghost use Rattle.client_core.specs.Steps.{setting_manifest};
+
+use crate::answer::Answer;
+use crate::client::Client;
+use crate::faults::StepFault;
+use crate::linked_manifest::LinkedManifest;
+use crate::prepared::Prepared;
+use crate::session::SessionChange;
+use fml_link::{LinkFault, link};
+use fml_merge::{DefaultFault, check_defaults};
+use fml_types::Manifest;
+use host_model::Shelf;
+use sequences::Text;
+use std::alloc::{AllocError, Global};
+
+impl Client {
+    ghost use Rattle.client_core.specs.Prepared.{IsMadeOn, Prepares};
+
+    /// The step of `manifest`.
+    pub(crate) fn setting_manifest<F: Shelf>(
+        &self,
+        alloc: Global,
+        shelf: &mut F,
+        file: &Text,
+        channel: &Text,
+    ) -> Result<Prepared, StepFault>
+        requires { IsSound self.now.state }
+        ensures made { IfOk result (λ prepared. IsMadeOn self.now prepared) }
+        ensures prepares { F.tells → Prepares self.now (setting_manifest self.now.state self.now.session (manifest_of (F.file shelf.old) file.now channel.now)) result }
+        ensures files { F.tells → (name : List ℕ) → F.file shelf.new name ≡ F.file shelf.old name }
+        ensures cause { IsErrOf result StepFault.ShelfFault → Rose (F.faults shelf.old) (F.faults shelf.new) }
+        ensures faults { F.faults shelf.old ≤ F.faults shelf.new }
+    {
+        match read_manifest(alloc, shelf, file, channel)? {
+            Ok(manifest) => Ok(self.with_manifest(manifest)),
+            Err(refusal) => Ok(self.unchanged(refusal)),
+        }
+    }
+
+    /// The step of `manifest` with the manifest of its files.
+    fn with_manifest(&self, manifest: LinkedManifest) -> Prepared
+        requires { IsSound self.now.state }
+        ensures made { IsMadeOn self.now result }
+        ensures prepares { Prepares self.now (setting_manifest self.now.state self.now.session (Ok manifest)) (Ok result) }
+    {
+        Prepared {
+            change: None,
+            session: SessionChange::Manifest(manifest),
+            answer: Answer::Okay,
+        }
+    }
+}
+
+/// The manifest of the files that start with the one of this name, or the refusal of the command.
+#[tactic(auto, unfolding(crate::specs::Manifests::manifest_of))]
+fn read_manifest<F: Shelf>(
+    alloc: Global,
+    shelf: &mut F,
+    name: &Text,
+    channel: &Text,
+) -> Result<Result<LinkedManifest, Answer>, StepFault>
+    ensures found { F.tells → IfOk result (λ found. found ≡ manifest_of (F.file shelf.old) name.now channel.now) }
+    ensures files { F.tells → (other : List ℕ) → F.file shelf.new other ≡ F.file shelf.old other }
+    ensures cause { IsErrOf result StepFault.ShelfFault → Rose (F.faults shelf.old) (F.faults shelf.new) }
+    ensures faults { F.faults shelf.old ≤ F.faults shelf.new }
+    ensures not_full { ¬ IsErrOf result StepFault.StoreFull }
+{
+    match link(alloc, shelf, name.as_str(), channel.as_str()) {
+        Ok(manifest) => Ok(checked(alloc, manifest)?),
+        Err(fault) => Ok(Err(refusal_of(fault)?)),
+    }
+}
+
+/// What is answered where the files don't link.
+fn refusal_of(fault: LinkFault) -> Result<Answer, StepFault>
+    ensures refusal { IfOk result (λ answer. answer ≡ link_refusal fault) }
+    ensures stated { IfOk result (λ _. (found : Result Manifest LinkFault) → Gives (Err fault) found → found ≡ Err fault) }
+    ensures shelf { IsErrOf result StepFault.ShelfFault → fault ≡ LinkFault.ShelfFault }
+    ensures not_full { ¬ IsErrOf result StepFault.StoreFull }
+{
+    match fault {
+        LinkFault::AbsentFile(name) => Ok(Answer::AbsentFile(name)),
+        LinkFault::FileTooLarge(name, length) => Ok(Answer::FileTooLarge(name, length)),
+        LinkFault::NotJson(name) => Ok(Answer::NotJson(name)),
+        LinkFault::BadShape(name, path) => Ok(Answer::BadShape(name, path)),
+        LinkFault::ImportsUnbuilt(name) => Ok(Answer::ImportsUnbuilt(name)),
+        LinkFault::TooManyFiles => Ok(Answer::TooManyFiles),
+        LinkFault::DuplicateName(name) => Ok(Answer::DuplicateName(name)),
+        LinkFault::UnknownType(name) => Ok(Answer::UnknownType(name)),
+        LinkFault::EndlessObject(name) => Ok(Answer::EndlessObject(name)),
+        LinkFault::ObjectTooLarge(name) => Ok(Answer::ObjectTooLarge(name)),
+        LinkFault::UnknownChannel => Ok(Answer::UnknownChannel),
+        LinkFault::ShelfFault => Err(StepFault::ShelfFault),
+        LinkFault::OutOfMemory => Err(StepFault::OutOfMemory),
+    }
+}
+
+/// A manifest that is linked, or the refusal of its first default that doesn't fit.
+fn checked(alloc: Global, manifest: Manifest) -> Result<Result<LinkedManifest, Answer>, AllocError>
+    requires { IsSoundManifest manifest }
+    ensures { IfOk result (λ found. found ≡ where_fits manifest (bad_default manifest)) }
+{
+    manifest.features.as_slice();
+    match check_defaults(alloc, &manifest) {
+        Ok(()) => Ok(Ok(LinkedManifest::new(manifest))),
+        Err(DefaultFault::BadDefault { owner, place }) => {
+            Ok(Err(Answer::BadDefault(owner, place)))
+        }
+        Err(DefaultFault::OutOfMemory) => Err(AllocError),
+    }
+}
