@@ -8,9 +8,11 @@ use Rattle.session_run.specs.declared.faults.RunFault.{RunFault}
 use Rattle.session_run.specs.declared.faults.RunFault.TheVariants as run
 use Rattle.session_run.specs.declared.script.ScriptFault.{ScriptFault}
 use Rattle.session_run.specs.declared.script.ScriptFault.TheVariants as script
+use Rattle.session_run.specs.declared.status.RunStatus.TheVariants.{Done}
 use Rattle.session_run.specs.Statuses.{of_run, of_script}
 use Rattle.session_run.specs.Steps.{RunState, run_after, answer, run_at, after, out}
 use Rattle.session_run.specs.Ends.{LineEnds, LinesEnd, RunEnds, StaysAmong}
+use Rattle.session_run.specs.Values.{AreTyped, IsAnswered}
 use Rattle.session_run.proofs.Running.{after-more, part}
 
 -- an error that is known
@@ -36,17 +38,19 @@ module _ {H : Type 0} (h : Ghosts H) (at : Setting) (s : State) (lines : List (L
   next_is = ap (λ (run : RunState). (run_after at run line).state) is ∙ sym (after-more at s lines i line within more)
 
   -- a line that isn't done and answered ends the run
-  pub line_ends : (fault : RunFault) → LineEnds {T = Unit {0}} h now.state (run_after at now line).state (answer at now line) (h.said mid) new (Err fault) → LinesEnd {T = Unit {0}} h at s lines (h.said start) new (Err fault)
-  line_ends run.StoreFull ends = record { k = i; within = within; kept = subst (AllKept h new) now_is ends.0; text = ends.1 ∙ said }
-  line_ends run.ShelfFault ends = record { k = i; within = within; kept = subst (AllKept h new) now_is ends.0; text = ends.1 ∙ said }
-  line_ends run.OutOfMemory ends = record { k = i; within = within; kept = subst (AllKept h new) now_is ends.0; text = ends.1 ∙ said }
-  line_ends run.DiskFault ends = record {
+  pub line_ends : (fault : RunFault) → AreTyped at s lines i → (IsAnswered {T = Unit {0}} (Err fault) → AreTyped at s lines (i + 1))
+      → LineEnds {T = Unit {0}} h now.state (run_after at now line).state (answer at now line) (h.said mid) new (Err fault) → LinesEnd {T = Unit {0}} h at s lines (h.said start) new (Err fault)
+  line_ends run.StoreFull before typed ends = record { k = i; within = within; kept = subst (AllKept h new) now_is ends.0; text = ends.1 ∙ said; typed = before }
+  line_ends run.ShelfFault before typed ends = record { k = i; within = within; kept = subst (AllKept h new) now_is ends.0; text = ends.1 ∙ said; typed = before }
+  line_ends run.OutOfMemory before typed ends = record { k = i; within = within; kept = subst (AllKept h new) now_is ends.0; text = ends.1 ∙ said; typed = before }
+  line_ends run.DiskFault before typed ends = record {
     k = i;
     within = within;
     kept = subst (λ (x : State). AllKeptEither h new x (after at s lines (i + 1))) now_is (subst (λ (x : State). AllKeptEither h new now.state x) next_is ends.0);
     text = ends.1 ∙ said;
+    typed = before;
   }
-  line_ends run.SayFault (kept, (n, text)) = record {
+  line_ends run.SayFault before typed (kept, (n, text)) = record {
     k = i;
     within = within;
     kept = subst (AllKept h new) next_is kept;
@@ -54,6 +58,7 @@ module _ {H : Type 0} (h : Ghosts H) (at : Setting) (s : State) (lines : List (L
     rest = drop n (answer at (run_at at s lines i) line);
     answers = part at s lines i line within more n;
     text = text ∙ ap (λ (u : List ℕ). u ++ take n (answer at now line)) said ∙ ap (λ (x : RunState). h.said start ++ out at s lines i ++ take n (answer at x line)) is;
+    typed = typed tt;
   }
 
 -- lines that end a run
@@ -70,3 +75,11 @@ pub no_script_ends : {H : Type 0} (h : Ghosts H) (states : List State) (at : Set
 no_script_ends h states at s lines said new script.TooLong stays = stays
 no_script_ends h states at s lines said new script.SourceFault stays = stays
 no_script_ends h states at s lines said new script.OutOfMemory stays = inr stays
+
+-- a fault is not the end of a run that did all
+pub never_done : (fault : RunFault) → of_run fault ≡ Done → ⊥
+never_done run.StoreFull is = absurd cc
+never_done run.ShelfFault is = absurd cc
+never_done run.OutOfMemory is = absurd cc
+never_done run.DiskFault is = absurd cc
+never_done run.SayFault is = absurd cc

@@ -13,3 +13,6 @@ mod Stepping
 mod Within
 mod WordLists
 mod OptOuts
+mod Manifests
+mod Values
+mod Said

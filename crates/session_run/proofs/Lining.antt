@@ -1,5 +1,5 @@
 -- A line of a run, over the setting of its start.
-use Rattle.std.proofs.Common.{◌≡◌, ◌≢◌, inl, inr, ◌+◌, ℕ, ◌<◌, List, [], ◌∷◌, ◌++◌, append_assoc, length, take, sym, ap, ◌∙◌, subst, arith, OnOk, Result, Err}
+use Rattle.std.proofs.Common.{◌≡◌, ◌≢◌, inl, inr, ◌+◌, ℕ, ◌<◌, List, [], ◌∷◌, ◌++◌, append_assoc, below_more, length, take, sym, ap, ◌∙◌, subst, arith, OnOk, Result, Err}
 use Rattle.std.specs.Prelude.{slice_get, Some}
 use Rattle.std.proofs.lemmas.Bool.{cases_eq}
 use Rattle.host_model.specs.declared.host.Host.{Ghosts}
@@ -12,8 +12,9 @@ use Rattle.session_run.specs.Steps.{RunState, begun, run_after, answer, run_at, 
 use Rattle.session_run.specs.Moments.{DuringLine, AfterPrefix}
 use Rattle.session_run.specs.Places.{all_places, IsFullAt, IsFullAtLine}
 use Rattle.session_run.specs.Ends.{LineEnds, LinesEnd}
+use Rattle.session_run.specs.Values.{IsTypedLine, IsTypedAt, AreTyped, IsAnswered}
 use Rattle.session_run.proofs.Ending.{line_ends}
-use Rattle.session_run.proofs.Placing.{all_places-push, full_at, fits_more}
+use Rattle.session_run.proofs.Placing.{some_same, all_places-push, full_at, fits_more}
 use Rattle.session_run.proofs.Running.{after-more, out-more, run-more, lines_met}
 
 -- the setting at the line is that of the start
@@ -39,6 +40,13 @@ module _ (at here : Setting) (same : here ≡ at) (s : State) (lines : List (Lis
   changes_here next left changed same_state =
       changed (sym (ap (λ (x : RunState). x.state) is) ∙ same_state ∙ ap (λ (x : RunState). x.state) (state_more next left))
 
+  -- where a line more is answered a value, that has its type
+  pub typed_more : slice_get lines i ≡ Some line → AreTyped at s lines i → IsTypedLine here now line → AreTyped at s lines (i + 1)
+  typed_more there before typed k below other is_other =
+      below_more (IsTypedAt at s lines) i before
+      (λ next is_next. subst (IsTypedLine at (run_at at s lines i)) (some_same line next (sym there ∙ is_next)) (subst (λ (x : RunState). IsTypedLine at x line) is (subst (λ (x : Setting). IsTypedLine x now line) same typed)))
+      k below other is_other
+
   module _ (place before : ℕ) (placed : before ≡ all_places at place (begun s) (take i lines)) (there : slice_get lines i ≡ Some line) where
     pub full_more : IsFullAt here before now line → IsFullAtLine at place s lines i
     full_more full = full_at at place s lines i line there before now placed is (subst (λ (x : Setting). IsFullAt x before now line) same full)
@@ -51,7 +59,8 @@ module _ (at here : Setting) (same : here ≡ at) (s : State) (lines : List (Lis
     met_more first second =
         lines_met at s lines i line within more h start mid new now is said first (subst (λ (x : Setting). MeetsAll h mid new (DuringLine (h.said mid) now.state (run_after x now line).state (answer x now line))) same second)
 
-    pub ends_more : (fault : RunFault) → LineEnds {T = Unit {0}} h now.state (run_after here now line).state (answer here now line) (h.said mid) new (Err fault) → LinesEnd {T = Unit {0}} h at s lines (h.said start) new (Err fault)
-    ends_more fault ends =
-        line_ends h at s lines i line within more start mid new now is said fault
+    pub ends_more : (fault : RunFault) → AreTyped at s lines i → (IsAnswered {T = Unit {0}} (Err fault) → AreTyped at s lines (i + 1))
+        → LineEnds {T = Unit {0}} h now.state (run_after here now line).state (answer here now line) (h.said mid) new (Err fault) → LinesEnd {T = Unit {0}} h at s lines (h.said start) new (Err fault)
+    ends_more fault before typed ends =
+        line_ends h at s lines i line within more start mid new now is said fault before typed
         (subst (λ (x : Setting). LineEnds {T = Unit {0}} h now.state (run_after x now line).state (answer x now line) (h.said mid) new (Err fault)) same ends)

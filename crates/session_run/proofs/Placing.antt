@@ -31,7 +31,7 @@ module _ (script : List ℕ) (spans : List (ℕ × ℕ)) (i : ℕ) (span : ℕ �
   pub line_at : slice_get (map (part_at script) spans) i ≡ Some line
   line_at = slice_get-get_or (map (part_at script) spans) i (part_at script span) line_within ∙ ap Some line_is
 
-some_same : {A : Type 0} (x y : A) → Some x ≡ Some y → x ≡ y
+pub some_same : {A : Type 0} (x y : A) → Some x ≡ Some y → x ≡ y
 some_same x y same = grind (arith, same)
 
 module _ (at : Setting) (place : ℕ) (s : State) (lines : List (List ℕ)) (i : ℕ) (line : List ℕ) (there : slice_get lines i ≡ Some line) (here : ℕ) (now : RunState) (here_is : here ≡ all_places at place (begun s) (take i lines)) (now_is : now ≡ run_at at s lines i) where

@@ -3,6 +3,7 @@ use Rattle.std.specs.Prelude.{ℕ, Bool, true, false, List, [], ◌∷◌, ◌++
 use Rattle.uuid.specs.Text.{hyphenated_text, lower}
 use Rattle.json_tree.specs.Json.{text}
 use Rattle.json_tree.specs.Bytes.{text_of}
+use Rattle.json_tree.specs.Tree.{json_of}
 use Rattle.app_context.specs.Keys.{name_of}
 use Rattle.recipe_reader.specs.declared.recipe.SkipReason.{SkipReason}
 use Rattle.recipe_reader.specs.declared.recipe.SkipReason.TheVariants as skip
@@ -18,7 +19,7 @@ use Rattle.enrol_states.specs.declared.status.DisqualifiedReason.TheVariants as 
 use Rattle.enrol_states.specs.declared.status.ErrorCause.{ErrorCause}
 use Rattle.enrol_states.specs.declared.status.ErrorCause.TheVariants as error
 use Rattle.client_core.specs.declared.answer.Answer.{Answer}
-use Rattle.client_core.specs.declared.answer.Answer.TheVariants.{Okay, Fetched, Applied, Shown, NoContext, AbsentFile, FileTooLarge, NotJson, BadContext, NoData, TooManyRecipes, OptedOutLimit, NotParticipating, NoSuchExperiment, NoSuchBranch, FeatureTaken, StateTooLarge}
+use Rattle.client_core.specs.declared.answer.Answer.TheVariants.{Okay, Fetched, Applied, Value, Shown, NoManifest, NoContext, AbsentFile, FileTooLarge, NotJson, BadContext, NoData, TooManyRecipes, BadShape, ImportsUnbuilt, TooManyFiles, DuplicateName, UnknownType, EndlessObject, ObjectTooLarge, UnknownChannel, BadDefault, UnknownFeature, OptedOutLimit, NotParticipating, NoSuchExperiment, NoSuchBranch, FeatureTaken, StateTooLarge}
 use Rattle.session_run.specs.declared.command.LineFault.{LineFault}
 use Rattle.session_run.specs.declared.command.LineFault.TheVariants.{LineTooLong, Blank, UnknownCommand, BadWords, BadSlug, BadId, OutOfMemory}
 
@@ -26,7 +27,7 @@ use Rattle.session_run.specs.declared.command.LineFault.TheVariants.{LineTooLong
 unfoldable pub hyphenated : List ℕ → List ℕ
 hyphenated id = hyphenated_text lower id
 
--- a file's name or a key, as canonical JSON
+-- the name of a file, a path or a key, as canonical JSON
 unfoldable pub quoted : List ℕ → List ℕ
 quoted name = text_of (text name)
 
@@ -105,7 +106,9 @@ unfoldable pub answer_lines : Answer → List ℕ
 answer_lines Okay = codes "ok\n"
 answer_lines (Fetched kept skipped) = fetched_lines kept skipped
 answer_lines (Applied enrolled rows) = codes "applied " ++ decimal enrolled ++ codes " of " ++ decimal rows ++ 10 ∷ []
+answer_lines (Value tree) = codes "value " ++ text_of (json_of tree) ++ 10 ∷ []
 answer_lines (Shown id participating pending opted_out rows) = shown_lines id participating pending opted_out rows
+answer_lines NoManifest = codes "refused NoManifest\n"
 answer_lines NoContext = codes "refused NoContext\n"
 answer_lines (AbsentFile name) = codes "refused AbsentFile " ++ quoted name ++ 10 ∷ []
 answer_lines (FileTooLarge name len) = codes "refused FileTooLarge " ++ quoted name ++ codes " " ++ decimal len ++ 10 ∷ []
@@ -113,6 +116,16 @@ answer_lines (NotJson name) = codes "refused NotJson " ++ quoted name ++ 10 ∷ 
 answer_lines (BadContext key) = codes "refused BadContext " ++ quoted (name_of key) ++ 10 ∷ []
 answer_lines NoData = codes "refused NoData\n"
 answer_lines (TooManyRecipes count) = codes "refused TooManyRecipes " ++ decimal count ++ 10 ∷ []
+answer_lines (BadShape name path) = codes "refused BadShape " ++ quoted name ++ codes " " ++ quoted path ++ 10 ∷ []
+answer_lines (ImportsUnbuilt name) = codes "refused ImportsUnbuilt " ++ quoted name ++ 10 ∷ []
+answer_lines TooManyFiles = codes "refused TooManyFiles\n"
+answer_lines (DuplicateName name) = codes "refused DuplicateName " ++ name ++ 10 ∷ []
+answer_lines (UnknownType name) = codes "refused UnknownType " ++ name ++ 10 ∷ []
+answer_lines (EndlessObject name) = codes "refused EndlessObject " ++ name ++ 10 ∷ []
+answer_lines (ObjectTooLarge name) = codes "refused ObjectTooLarge " ++ name ++ 10 ∷ []
+answer_lines UnknownChannel = codes "refused UnknownChannel\n"
+answer_lines (BadDefault owner path) = codes "refused BadDefault " ++ owner ++ codes " " ++ quoted path ++ 10 ∷ []
+answer_lines UnknownFeature = codes "refused UnknownFeature\n"
 answer_lines OptedOutLimit = codes "refused OptedOutLimit\n"
 answer_lines NotParticipating = codes "refused NotParticipating\n"
 answer_lines NoSuchExperiment = codes "refused NoSuchExperiment\n"

@@ -5,7 +5,7 @@ use Rattle.plain_text.specs.Names.{bad_place}
 use Rattle.plain_text.specs.Spans.{lines, words}
 use Rattle.uuid.specs.Text.{parsed}
 use Rattle.client_core.specs.declared.command.Command.{Command}
-use Rattle.client_core.specs.declared.command.Command.TheVariants.{Context, Fetch, Apply, Participate, OptOut, OptIn, Reset, Show}
+use Rattle.client_core.specs.declared.command.Command.TheVariants.{Manifest, Context, Fetch, Apply, Participate, OptOut, OptIn, Reset, Show, Feature}
 use Rattle.session_run.specs.declared.command.LineFault.{LineFault}
 use Rattle.session_run.specs.declared.command.LineFault.TheVariants.{LineTooLong, Blank, UnknownCommand, BadWords, BadSlug, BadId}
 
@@ -31,9 +31,9 @@ abbrev pub ◌>>=◌ : {A B : Type 0} → Result A LineFault → (A → Result B
 (Ok a) >>= f = f a
 (Err fault) >>= f = Err fault
 
--- a file's name, which is in UTF-8
-unfoldable pub file_name : List ℕ → Result (List ℕ) LineFault
-file_name word = if is_utf8 word then Ok word else Err BadWords
+-- the name of a file, a channel or a feature, which is in UTF-8
+unfoldable pub text_in : List ℕ → Result (List ℕ) LineFault
+text_in word = if is_utf8 word then Ok word else Err BadWords
 
 abbrev pub unless_bad : List ℕ → Option ℕ → Result (List ℕ) LineFault
 unless_bad word None = Ok word
@@ -51,16 +51,23 @@ id_read (Some id) = Ok id
 unfoldable pub id_in : List ℕ → Result (List ℕ) LineFault
 id_in word = id_read (parsed word)
 
+-- the words behind `manifest`: the name of the first file, and the channel
+abbrev pub manifest_file : List (List ℕ) → Result Command LineFault
+manifest_file [] = Err BadWords
+manifest_file (word ∷ []) = Err BadWords
+manifest_file (word ∷ next ∷ []) = text_in word >>= λ file. text_in next >>= λ channel. Ok (Manifest file channel)
+manifest_file (word ∷ next ∷ more ∷ rest) = Err BadWords
+
 -- the words behind `context`
 abbrev pub context_file : List (List ℕ) → Result Command LineFault
 context_file [] = Err BadWords
-context_file (word ∷ []) = file_name word >>= λ file. Ok (Context file)
+context_file (word ∷ []) = text_in word >>= λ file. Ok (Context file)
 context_file (word ∷ next ∷ more) = Err BadWords
 
 -- the words behind `fetch`
 abbrev pub fetching : List (List ℕ) → Result Command LineFault
 fetching [] = Err BadWords
-fetching (word ∷ []) = file_name word >>= λ file. Ok (Fetch file)
+fetching (word ∷ []) = text_in word >>= λ file. Ok (Fetch file)
 fetching (word ∷ next ∷ more) = Err BadWords
 
 -- the words behind a command that has none
@@ -93,10 +100,17 @@ resetting [] = Err BadWords
 resetting (word ∷ []) = id_in word >>= λ id. Ok (Reset id)
 resetting (word ∷ next ∷ more) = Err BadWords
 
+-- the words behind `feature`
+abbrev pub feature_name : List (List ℕ) → Result Command LineFault
+feature_name [] = Err BadWords
+feature_name (word ∷ []) = text_in word >>= λ name. Ok (Feature name)
+feature_name (word ∷ next ∷ more) = Err BadWords
+
 -- the command of this name, with the words behind it
 abbrev pub command_named : List ℕ → List (List ℕ) → Result Command LineFault
 command_named name arguments =
-    if bytes_eq name (codes "context") then context_file arguments
+    if bytes_eq name (codes "manifest") then manifest_file arguments
+    else if bytes_eq name (codes "context") then context_file arguments
     else if bytes_eq name (codes "fetch") then fetching arguments
     else if bytes_eq name (codes "apply") then alone Apply arguments
     else if bytes_eq name (codes "participate") then participation arguments
@@ -104,6 +118,7 @@ command_named name arguments =
     else if bytes_eq name (codes "opt-in") then opting_in arguments
     else if bytes_eq name (codes "reset") then resetting arguments
     else if bytes_eq name (codes "show") then alone Show arguments
+    else if bytes_eq name (codes "feature") then feature_name arguments
     else Err UnknownCommand
 
 -- the command of these words

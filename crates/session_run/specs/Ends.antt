@@ -10,6 +10,7 @@ use Rattle.session_run.specs.declared.faults.RunFault.TheVariants as run
 use Rattle.session_run.specs.declared.status.RunStatus.{RunStatus}
 use Rattle.session_run.specs.declared.status.RunStatus.TheVariants.{Done, Usage, ScriptTooLong, NoStore, AlreadyStore, BadStore, StoreFull, SourceFault, ShelfFault, DiskFault, SayFault, OutOfMemory}
 use Rattle.session_run.specs.Steps.{after, out}
+use Rattle.session_run.specs.Values.{AreTyped}
 
 -- a line that leads from s to t, with its answer
 abbrev pub LineEnds : {H T : Type 0} → Ghosts H → State → State → List ℕ → List ℕ → H → Result T RunFault → Type 0
@@ -20,9 +21,11 @@ LineEnds h s t text said host (Err run.OutOfMemory) = AllKept h host s × (h.sai
 LineEnds h s t text said host (Err run.DiskFault) = AllKeptEither h host s t × (h.said host ≡ said)
 LineEnds h s t text said host (Err run.SayFault) = AllKept h host t × ((n : ℕ) × (h.said host ≡ said ++ take n text))
 
--- all lines are done and answered
-abbrev pub EndsWhole : {H : Type 0} → Ghosts H → Setting → State → List (List ℕ) → List ℕ → H → Type 0
-EndsWhole h at s lines said host = AllKept h host (after at s lines (length lines)) × (h.said host ≡ said ++ out at s lines (length lines))
+-- all lines are done and answered, each value that was said with its type
+pub record EndsWhole {H : Type 0} (h : Ghosts H) (at : Setting) (s : State) (lines : List (List ℕ)) (said : List ℕ) (host : H) : Type 0 where
+  pub kept : AllKept h host (after at s lines (length lines))
+  pub text : h.said host ≡ said ++ out at s lines (length lines)
+  pub typed : AreTyped at s lines (length lines)
 
 -- the first k lines are done and answered, and the next one is not done
 pub record EndsBefore {H : Type 0} (h : Ghosts H) (at : Setting) (s : State) (lines : List (List ℕ)) (said : List ℕ) (host : H) : Type 0 where
@@ -30,6 +33,7 @@ pub record EndsBefore {H : Type 0} (h : Ghosts H) (at : Setting) (s : State) (li
   pub within : k < length lines
   pub kept : AllKept h host (after at s lines k)
   pub text : h.said host ≡ said ++ out at s lines k
+  pub typed : AreTyped at s lines k
 
 -- the first k lines are done and answered. The next one is done or not, and it is not answered
 pub record EndsWithin {H : Type 0} (h : Ghosts H) (at : Setting) (s : State) (lines : List (List ℕ)) (said : List ℕ) (host : H) : Type 0 where
@@ -37,6 +41,7 @@ pub record EndsWithin {H : Type 0} (h : Ghosts H) (at : Setting) (s : State) (li
   pub within : k < length lines
   pub kept : AllKeptEither h host (after at s lines k) (after at s lines (k + 1))
   pub text : h.said host ≡ said ++ out at s lines k
+  pub typed : AreTyped at s lines k
 
 -- the first k lines are done and answered. The next one is done, and a part of its answer is said
 pub record EndsInAnswer {H : Type 0} (h : Ghosts H) (at : Setting) (s : State) (lines : List (List ℕ)) (said : List ℕ) (host : H) : Type 0 where
@@ -47,6 +52,7 @@ pub record EndsInAnswer {H : Type 0} (h : Ghosts H) (at : Setting) (s : State) (
   pub rest : List ℕ
   pub answers : out at s lines k ++ part ++ rest ≡ out at s lines (k + 1)
   pub text : h.said host ≡ said ++ out at s lines k ++ part
+  pub typed : AreTyped at s lines (k + 1)
 
 abbrev pub LinesEnd : {H T : Type 0} → Ghosts H → Setting → State → List (List ℕ) → List ℕ → H → Result T RunFault → Type 0
 LinesEnd h at s lines said host (Ok done) = EndsWhole h at s lines said host

@@ -10,3 +10,4 @@ pub mod Statuses
 pub mod Steps
 pub mod Words
 pub mod OptOuts
+pub mod Values

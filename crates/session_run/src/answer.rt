@@ -1,10 +1,12 @@
 // The text of an answer.
-ghost use Rattle.std.specs.Prelude.{◌≡◌, ◌≢◌, ◌++◌, [], ◌∷◌, IfOk};
-ghost use Rattle.std.specs.Fmt.{decimal};
-ghost use Rattle.session_run.specs.Answers.{yes_or_no, quoted, shown_lines, fetched_lines, answer_lines, fault_answer};
+ghost use Rattle.std.specs.Prelude.{◌≡◌, ◌≢◌, IfOk};
+ghost use Rattle.session_run.specs.Answers.{yes_or_no, shown_lines, fetched_lines, answer_lines, fault_answer};
 ghost use Rattle.session_run.specs.Answers as spec;
 
 use crate::command::LineFault;
+use crate::refusals::{
+    counted, default_text, file_length_text, named, quoted_name, shape_text, taken_text,
+};
 use crate::rows::{push_out_lines, push_row_lines, push_skipped_lines};
 use client_core::Answer;
 use enrol_states::Row;
@@ -25,6 +27,7 @@ pub fn answer_text(alloc: Global, answer: &Answer) -> Result<Text, AllocError>
         Answer::Okay => Text::new(alloc, "ok\n"),
         Answer::Fetched { kept, skipped } => fetched_text(alloc, *kept, skipped),
         Answer::Applied { enrolled, rows } => applied_text(alloc, *enrolled, *rows),
+        Answer::Value(tree) => value_text(alloc, tree),
         Answer::Shown {
             id,
             participating,
@@ -32,17 +35,30 @@ pub fn answer_text(alloc: Global, answer: &Answer) -> Result<Text, AllocError>
             opted_out,
             rows,
         } => shown_text(alloc, *id, *participating, *pending, opted_out, rows),
+        Answer::NoManifest => Text::new(alloc, "refused NoManifest\n"),
         Answer::NoContext => Text::new(alloc, "refused NoContext\n"),
-        Answer::AbsentFile(name) => named(alloc, "refused AbsentFile ", name.as_str(), "\n"),
-        Answer::FileTooLarge(name, length) => too_large(alloc, name, *length),
-        Answer::NotJson(name) => named(alloc, "refused NotJson ", name.as_str(), "\n"),
-        Answer::BadContext(key) => named(alloc, "refused BadContext ", key.name(), "\n"),
+        Answer::AbsentFile(name) => quoted_name(alloc, "refused AbsentFile ", name.as_str()),
+        Answer::FileTooLarge(name, length) => file_length_text(alloc, name, *length),
+        Answer::NotJson(name) => quoted_name(alloc, "refused NotJson ", name.as_str()),
+        Answer::BadContext(key) => quoted_name(alloc, "refused BadContext ", key.name()),
         Answer::NoData => Text::new(alloc, "refused NoData\n"),
         Answer::TooManyRecipes(count) => counted(
             alloc,
             "refused TooManyRecipes ",
             u128::from(*count),
         ),
+        Answer::BadShape(name, path) => shape_text(alloc, name, path),
+        Answer::ImportsUnbuilt(name) => {
+            quoted_name(alloc, "refused ImportsUnbuilt ", name.as_str())
+        }
+        Answer::TooManyFiles => Text::new(alloc, "refused TooManyFiles\n"),
+        Answer::DuplicateName(name) => named(alloc, "refused DuplicateName ", name),
+        Answer::UnknownType(name) => named(alloc, "refused UnknownType ", name),
+        Answer::EndlessObject(name) => named(alloc, "refused EndlessObject ", name),
+        Answer::ObjectTooLarge(name) => named(alloc, "refused ObjectTooLarge ", name),
+        Answer::UnknownChannel => Text::new(alloc, "refused UnknownChannel\n"),
+        Answer::BadDefault(owner, path) => default_text(alloc, owner, path),
+        Answer::UnknownFeature => Text::new(alloc, "refused UnknownFeature\n"),
         Answer::OptedOutLimit => Text::new(alloc, "refused OptedOutLimit\n"),
         Answer::NotParticipating => Text::new(alloc, "refused NotParticipating\n"),
         Answer::NoSuchExperiment => Text::new(alloc, "refused NoSuchExperiment\n"),
@@ -77,46 +93,6 @@ pub(crate) fn hyphenated(alloc: Global, id: Uuid) -> Result<Text, AllocError>
     Text::new(alloc, id.hyphenated().encode_lower(&mut buffer))
 }
 
-/// A file's name or a key, as canonical JSON.
-#[tactic(auto, unfolding(crate::specs::Answers::quoted))]
-fn quoted(alloc: Global, name: &str) -> Result<Text, AllocError>
-    ensures { IfOk result (λ text. text ≡ spec.quoted name.now) }
-{
-    let tree = Tree::Text(Text::new(alloc, name)?);
-    write(alloc, &tree)
-}
-
-/// What is said of a file or a key.
-fn named(alloc: Global, front: &str, name: &str, end: &str) -> Result<Text, AllocError>
-    ensures { IfOk result (λ text. text ≡ front.now ++ quoted name.now ++ end.now) }
-{
-    let mut text = String::from_str(alloc, front)?;
-    text.push_str(quoted(alloc, name)?.as_str())?;
-    text.push_str(end)?;
-    Ok(Text::from_string(text))
-}
-
-/// What is said of a file that is too long.
-#[tactic(auto, unfolding(crate::specs::Answers::answer_lines))]
-fn too_large(alloc: Global, name: &Text, length: u64) -> Result<Text, AllocError>
-    ensures { IfOk result (λ text. text ≡ answer_lines (Answer.FileTooLarge name.now length)) }
-{
-    let mut text = named(alloc, "refused FileTooLarge ", name.as_str(), " ")?.into_string();
-    text.push_str(Buffer::new().format(length))?;
-    text.push_str("\n")?;
-    Ok(Text::from_string(text))
-}
-
-/// What is said of a number.
-fn counted(alloc: Global, front: &str, number: u128) -> Result<Text, AllocError>
-    ensures { IfOk result (λ text. text ≡ front.now ++ decimal number ++ 10 ∷ []) }
-{
-    let mut text = String::from_str(alloc, front)?;
-    text.push_str(Buffer::new().format(number))?;
-    text.push_str("\n")?;
-    Ok(Text::from_string(text))
-}
-
 /// What `fetch` says.
 #[tactic(auto, unfolding(crate::specs::Answers::fetched_lines))]
 fn fetched_text(
@@ -148,15 +124,13 @@ fn applied_text(alloc: Global, enrolled: usize, rows: usize) -> Result<Text, All
     Ok(Text::from_string(text))
 }
 
-/// What is said of a feature that another recipe holds.
+/// What `feature` says.
 #[tactic(auto, unfolding(crate::specs::Answers::answer_lines))]
-fn taken_text(alloc: Global, holder: &Slug, feature: &Text) -> Result<Text, AllocError>
-    ensures { IfOk result (λ text. text ≡ answer_lines (Answer.FeatureTaken holder.now feature.now)) }
+fn value_text(alloc: Global, tree: &Tree) -> Result<Text, AllocError>
+    ensures { IfOk result (λ text. text ≡ answer_lines (Answer.Value tree.now)) }
 {
-    let mut text = String::from_str(alloc, "refused FeatureTaken ")?;
-    text.push_str(holder.text())?;
-    text.push_str(" ")?;
-    text.push_str(feature.as_str())?;
+    let mut text = String::from_str(alloc, "value ")?;
+    text.push_str(write(alloc, tree)?.as_str())?;
     text.push_str("\n")?;
     Ok(Text::from_string(text))
 }

@@ -1,6 +1,6 @@
 // The words behind the name of a command.
 ghost use Rattle.std.specs.Prelude.{◌≡◌, ◌⊎◌, List, ℕ, Err, All, map, length};
-ghost use Rattle.session_run.specs.Commands.{file_name, slug_in, id_in, context_file, fetching, participation, opting_out, opting_in, resetting, part_at, IsWithin};
+ghost use Rattle.session_run.specs.Commands.{text_in, slug_in, id_in, manifest_file, context_file, fetching, feature_name, participation, opting_out, opting_in, resetting, part_at, IsWithin};
 ghost use Rattle.session_run.specs.Commands as spec;
 
 use crate::command::{LineFault, part};
@@ -10,6 +10,23 @@ use sequences::Text;
 use std::alloc::Global;
 use std::str;
 use uuid::Uuid;
+
+/// The words behind `manifest`: the name of its first file, and the channel, both in UTF-8.
+pub(crate) fn manifest_file(
+    alloc: Global,
+    line: &[u8],
+    arguments: &[(usize, usize)],
+) -> Result<Command, LineFault>
+    requires { All (IsWithin (length line.now)) arguments.now }
+    ensures { (result ≡ manifest_file (map (part_at line.now) arguments.now)) ⊎ (result ≡ Err LineFault.OutOfMemory) }
+{
+    let [word, next] = arguments else {
+        return Err(LineFault::BadWords);
+    };
+    let file = text_in(alloc, part(line, *word))?;
+    let channel = text_in(alloc, part(line, *next))?;
+    Ok(Command::Manifest { file, channel })
+}
 
 /// The words behind `context`: the one name of a file, in UTF-8.
 pub(crate) fn context_file(
@@ -23,7 +40,7 @@ pub(crate) fn context_file(
     let [word] = arguments else {
         return Err(LineFault::BadWords);
     };
-    let file = file_name(alloc, part(line, *word))?;
+    let file = text_in(alloc, part(line, *word))?;
     Ok(Command::Context { file })
 }
 
@@ -39,7 +56,7 @@ pub(crate) fn fetching(
     let [word] = arguments else {
         return Err(LineFault::BadWords);
     };
-    let file = file_name(alloc, part(line, *word))?;
+    let file = text_in(alloc, part(line, *word))?;
     Ok(Command::Fetch { file })
 }
 
@@ -116,11 +133,27 @@ pub(crate) fn resetting(line: &[u8], arguments: &[(usize, usize)]) -> Result<Com
     Ok(Command::Reset { id })
 }
 
+/// The words behind `feature`: the one name of a feature, in UTF-8.
+pub(crate) fn feature_name(
+    alloc: Global,
+    line: &[u8],
+    arguments: &[(usize, usize)],
+) -> Result<Command, LineFault>
+    requires { All (IsWithin (length line.now)) arguments.now }
+    ensures { (result ≡ feature_name (map (part_at line.now) arguments.now)) ⊎ (result ≡ Err LineFault.OutOfMemory) }
+{
+    let [word] = arguments else {
+        return Err(LineFault::BadWords);
+    };
+    let name = text_in(alloc, part(line, *word))?;
+    Ok(Command::Feature { name })
+}
+
 // ---- words
 
-/// A file's name, where the word is in UTF-8.
-fn file_name(alloc: Global, word: &[u8]) -> Result<Text, LineFault>
-    ensures { (result ≡ file_name word.now) ⊎ (result ≡ Err LineFault.OutOfMemory) }
+/// The name of a file, a channel or a feature, where the word is in UTF-8.
+fn text_in(alloc: Global, word: &[u8]) -> Result<Text, LineFault>
+    ensures { (result ≡ text_in word.now) ⊎ (result ≡ Err LineFault.OutOfMemory) }
 {
     match str::from_utf8(word) {
         Ok(name) => Ok(Text::new(alloc, name)?),

@@ -4,7 +4,8 @@ ghost use Rattle.plain_text.specs.Spans.{words};
 ghost use Rattle.session_run.specs.Commands.{command_of, command_of_words, words_of, part_at, IsWithin};
 
 use crate::arguments::{
-    alone, context_file, fetching, opting_in, opting_out, participation, resetting,
+    alone, context_file, feature_name, fetching, manifest_file, opting_in, opting_out,
+    participation, resetting,
 };
 use client_core::Command;
 use plain_text::words;
@@ -23,7 +24,7 @@ pub enum LineFault {
     /// The first word is no command.
     UnknownCommand,
     /// The words behind the first are not those of the command: there are more or fewer, one that tells yes or no
-    /// does neither, or a file's name isn't in UTF-8.
+    /// does neither, or the name of a file, a channel or a feature isn't in UTF-8.
     BadWords,
     /// A word that stands for a slug fails to be one at this place: the first such word.
     BadSlug(usize),
@@ -77,7 +78,9 @@ fn named(
     requires { All (IsWithin (length line.now)) arguments.now }
     ensures { (result ≡ command_of_words (name.now ∷ map (part_at line.now) arguments.now)) ⊎ (result ≡ Err LineFault.OutOfMemory) }
 {
-    if name == b"context".as_slice() {
+    if name == b"manifest".as_slice() {
+        manifest_file(alloc, line, arguments)
+    } else if name == b"context".as_slice() {
         context_file(alloc, line, arguments)
     } else if name == b"fetch".as_slice() {
         fetching(alloc, line, arguments)
@@ -93,6 +96,8 @@ fn named(
         resetting(line, arguments)
     } else if name == b"show".as_slice() {
         alone(Command::Show, arguments)
+    } else if name == b"feature".as_slice() {
+        feature_name(alloc, line, arguments)
     } else {
         Err(LineFault::UnknownCommand)
     }

@@ -1,5 +1,5 @@
 // The top call.
-ghost use Rattle.std.specs.Prelude.{◌≡◌, ◌≢◌, ◌⊎◌, ◌↔◌, ◌<◌, ◌≤◌, ◌+◌, ◌^◌, ◌++◌, [], ◌∷◌, List, ℕ, length, map, string_bytes};
+ghost use Rattle.std.specs.Prelude.{◌≡◌, ◌≢◌, ◌⊎◌, ◌↔◌, ◌<◌, ◌≤◌, ◌+◌, ◌^◌, ◌++◌, [], ◌∷◌, List, ℕ, Some, length, map, slice_get, string_bytes};
 ghost use Rattle.host_model.specs.Causes.{Rose};
 ghost use Rattle.host_model.specs.Hosts.{MeetsAll};
 ghost use Rattle.gate_journal.specs.Records.{place_of};
@@ -12,13 +12,14 @@ ghost use Rattle.client_core.specs.OpenStore.{AllKept, AllKeptAmong, AllStand};
 ghost use Rattle.client_core.specs.Settings.{setting};
 ghost use Rattle.client_core.specs.Store.{StandsFor, KeptFor, IsStore, IsAbsent};
 ghost use Rattle.session_run.specs.Commands.{lines_of};
-ghost use Rattle.session_run.specs.Steps.{after, out};
+ghost use Rattle.session_run.specs.Steps.{answer, run_at, after, out};
 ghost use Rattle.session_run.specs.Moments.{AfterPrefix, AmongThenAfter};
 ghost use Rattle.session_run.specs.Making.{ready, DuringMaking};
 ghost use Rattle.session_run.specs.OptOuts.{IsHeldOut, IsOut};
 ghost use Rattle.session_run.specs.Places.{IsFullAtLine};
 ghost use Rattle.session_run.specs.Ends.{RunEnds};
 ghost use Rattle.session_run.specs.Finds.{RunFinds, InitFinds, RunJudges, InitJudges};
+ghost use Rattle.session_run.specs.Values.{value_line, IsServedValue};
 ghost use Rattle.session_run.specs.Words.{IsRun, IsInit, IsInitOf, HasForm};
 
 use crate::making::init;
@@ -78,6 +79,16 @@ pub fn nimbus<S: Source, F: Shelf, H: Host>(
     ensures reopened_ends { IsRun (map string_bytes words.now) → S.tells → F.tells → H.tells → (states : List State) (s : State)
         → AllKeptAmong H.Host host.old states → KeptFor (H.reads host.old Side.Left) (H.reads host.old Side.Right) s
         → RunEnds H.Host states (setting F.Shelf shelf.old now) s (lines_of (S.left source.old)) (H.said host.old) host.new result }
+
+    // Each value that is said has the type of its feature. Where a line is answered `value TEXT` and any of that was said,
+    // it asks for a feature of the manifest that the run had set last, and the text is that of the value which this
+    // manifest serves of it to the client's state, and which has the types of the feature's variables.
+    ensures values { IsRun (map string_bytes words.now) → S.tells → F.tells → H.tells → (states : List State) (s : State)
+        → AllKeptAmong H.Host host.old states → KeptFor (H.reads host.old Side.Left) (H.reads host.old Side.Right) s
+        → (k : ℕ) (line text new : List ℕ) → slice_get (lines_of (S.left source.old)) k ≡ Some line
+        → answer (setting F.Shelf shelf.old now) (run_at (setting F.Shelf shelf.old now) s (lines_of (S.left source.old)) k) line ≡ value_line text
+        → H.said host.new ≡ H.said host.old ++ new → length (out (setting F.Shelf shelf.old now) s (lines_of (S.left source.old)) k) < length new
+        → IsServedValue (setting F.Shelf shelf.old now) s (lines_of (S.left source.old)) k line text }
 
     // Without a crash: where it answers Done the source was read to its end, all answers were said, and each pair of
     // images stands for the state after all lines. It is kept for it where a line changed the state.

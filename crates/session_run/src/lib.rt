@@ -10,6 +10,7 @@ mod laws;
 mod line;
 mod lines;
 mod making;
+mod refusals;
 mod rows;
 mod run;
 mod saying;

@@ -9,12 +9,14 @@ ghost use Rattle.jexl_transforms.specs.Table.{names_of};
 ghost use Rattle.client_core.specs.Clients.{state_of, session_of, end_of, IsOpenOn, HasGateOn, step_of};
 ghost use Rattle.client_core.specs.Places.{place_after, IsFullFor};
 ghost use Rattle.client_core.specs.Prepared.{IsMadeOn, next_state, next_session};
+ghost use Rattle.client_core.specs.ServedValues.{IsTyped};
 ghost use Rattle.client_core.specs.Settings.{setting};
 ghost use Rattle.session_run.specs.Answers.{answer_lines, fault_answer};
 ghost use Rattle.session_run.specs.Steps.{run_of, run_after, answer};
 ghost use Rattle.session_run.specs.Moments.{DuringLine};
 ghost use Rattle.session_run.specs.Places.{IsFullAt};
 ghost use Rattle.session_run.specs.Ends.{LineEnds};
+ghost use Rattle.session_run.specs.Values.{IsTypedLine, IsAnswered};
 
 use crate::answer::{answer_text, line_text};
 use crate::command::{LineFault, read_command};
@@ -93,6 +95,8 @@ fn run_command<F: Shelf, H: Host>(
     ensures state { F.tells → OnOk result (state_of client.new ≡ (step_of client.old (setting F.Shelf shelf.old now) command.now).state) }
     ensures session { F.tells → OnOk result (session_of client.new ≡ (step_of client.old (setting F.Shelf shelf.old now) command.now).session) }
     ensures sound { OnOk result (IsSound (state_of client.new)) }
+    ensures typed { F.tells → IsAnswered result → IsTyped (state_of client.old) (session_of client.old) command.now
+        (step_of client.old (setting F.Shelf shelf.old now) command.now).answer }
     ensures place { OnOk result (end_of client.new ≡ place_after (end_of client.old) (state_of client.old) (state_of client.new)) }
     ensures full { IsErrOf result RunFault.StoreFull → F.tells
         → IsFullFor (end_of client.old) (state_of client.old) (step_of client.old (setting F.Shelf shelf.old now) command.now).state }
@@ -171,6 +175,7 @@ pub(crate) fn run_line<F: Shelf, H: Host>(
 
     ensures state { F.tells → OnOk result (run_of client.new ≡ run_after (setting F.Shelf shelf.old now) (run_of client.old) line.now) }
     ensures sound { OnOk result (IsSound (state_of client.new)) }
+    ensures typed { F.tells → IsAnswered result → IsTypedLine (setting F.Shelf shelf.old now) (run_of client.old) line.now }
     ensures place { OnOk result (end_of client.new ≡ place_after (end_of client.old) (state_of client.old) (state_of client.new)) }
     ensures full { IsErrOf result RunFault.StoreFull → F.tells → IsFullAt (setting F.Shelf shelf.old now) (end_of client.old) (run_of client.old) line.now }
     ensures fits { F.tells → OnOk result (IsFullAt (setting F.Shelf shelf.old now) (end_of client.old) (run_of client.old) line.now → ⊥) }

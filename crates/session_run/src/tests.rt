@@ -270,6 +270,11 @@ fn script_limits(rt: HostRuntime) -> Result<(), Fail> {
         alloc,
         &script_of(alloc, b'a', 4097)?,
         b"refused LineTooLong\n",
+    )?;
+    answers(
+        alloc,
+        b"opt-out Alpha\nreset 12\nmanifest a b c\nfeature\n",
+        b"refused BadSlug 0\nrefused BadId\nrefused BadWords\nrefused BadWords\n",
     )
 }
 
@@ -403,21 +408,35 @@ fn mixed_payload(alloc: Global) -> Result<String, Fail> {
     Ok(text)
 }
 
-// Runs this script over this host with this file alone.
-fn run_with_file(
+// Runs this script over this host with these files alone.
+fn run_with_files(
     alloc: Global,
     host: &mut MemHost,
-    name: &str,
-    bytes: &[u8],
+    files: &[(&str, &[u8])],
     script: &[u8],
 ) -> Result<RunStatus, Fail> {
     let mut shelf = MemShelf::new(alloc, &[])?;
-    shelf.add(alloc, name, bytes)?;
+    for (name, bytes) in files {
+        shelf.add(alloc, name, bytes)?;
+    }
     let mut source = MemSource::new(alloc, script, 4096, &[])?;
     call_over(alloc, host, &["run"], &mut source, &mut shelf)
 }
 
-// Over a new store the script is answered so, with this file alone.
+// Over a new store the script is answered so, with these files alone.
+fn answers_with_files(
+    alloc: Global,
+    files: &[(&str, &[u8])],
+    script: &[u8],
+    said: &[u8],
+) -> Result<(), Fail> {
+    let left = made(alloc)?;
+    let mut host = host_of(alloc, &left, b"\x00", &[])?;
+    let status = run_with_files(alloc, &mut host, files, script)?;
+    check(status == RunStatus::Done && has_said(&host, said))
+}
+
+// The same with one file alone.
 fn answers_with_file(
     alloc: Global,
     name: &str,
@@ -425,10 +444,7 @@ fn answers_with_file(
     script: &[u8],
     said: &[u8],
 ) -> Result<(), Fail> {
-    let left = made(alloc)?;
-    let mut host = host_of(alloc, &left, b"\x00", &[])?;
-    let status = run_with_file(alloc, &mut host, name, bytes, script)?;
-    check(status == RunStatus::Done && has_said(&host, said))
+    answers_with_files(alloc, &[(name, bytes)], script, said)
 }
 
 #[test]
@@ -457,9 +473,9 @@ fn second_fetch_is_quiet(alloc: Global) -> Result<(), Fail> {
     let left = made(alloc)?;
     let mut host = host_of(alloc, &left, b"\x00", &[])?;
     let once = b"fetch a.json\n";
-    run_with_file(alloc, &mut host, "a.json", payload.as_bytes(), once)?;
+    run_with_files(alloc, &mut host, &[("a.json", payload.as_bytes())], once)?;
     let first = image(alloc, &host, Side::Left, Choice::New)?;
-    run_with_file(alloc, &mut host, "a.json", payload.as_bytes(), once)?;
+    run_with_files(alloc, &mut host, &[("a.json", payload.as_bytes())], once)?;
     let second = image(alloc, &host, Side::Left, Choice::New)?;
     check(first.len() > left.len() && first.as_slice() == second.as_slice())
 }
@@ -519,6 +535,13 @@ fn file_refusals(rt: HostRuntime) -> Result<(), Fail> {
         b"fetch\nfetch a b\nfetch \xff\n",
         b"refused BadWords\nrefused BadWords\nrefused BadWords\n",
     )?;
+    answers_with_file(
+        alloc,
+        "a.json",
+        b"{\"features\":[]}",
+        b"manifest none.json x\nmanifest a.json x\nmanifest a.json\nmanifest a.json \xff\nfeature \xff\n",
+        b"refused AbsentFile \"none.json\"\nrefused BadShape \"a.json\" \"/features\"\nrefused BadWords\nrefused BadWords\nrefused BadWords\n",
+    )?;
     second_fetch_is_quiet(alloc)
 }
 
@@ -530,4 +553,40 @@ fn shelf_fails(alloc: Global) -> Result<(), Fail> {
     let mut source = MemSource::new(alloc, b"show\ncontext c.json\nshow\n", 4096, &[])?;
     let status = call_over(alloc, &mut host, &["run"], &mut source, &mut shelf)?;
     check(status == RunStatus::ShelfFault && status.code() == 9 && has_said(&host, SHOWN_IN))
+}
+
+/// Two features, one of which has an object and a map among its variables, for two channels.
+const MANIFEST: &[u8] =
+    b"{\"channels\":[\"release\",\"nightly\"],\"features\":{\"homescreen\":{\"description\":\"Home\",\"variables\":{\"card\":{\"description\":\"Card\",\"type\":\"Card\",\"default\":{}},\"sections-enabled\":{\"description\":\"Sections\",\"type\":\"Map<HomeSection, Boolean>\",\"default\":{\"top-sites\":true,\"pocket\":false}}},\"defaults\":[{\"channel\":\"nightly\",\"value\":{\"sections-enabled\":{\"pocket\":true}}}]},\"messaging\":{\"description\":\"Messages\",\"allow-coenrollment\":true,\"variables\":{\"limit\":{\"description\":\"Limit\",\"type\":\"Int\",\"default\":3}}}},\"enums\":{\"HomeSection\":{\"description\":\"Sections\",\"variants\":{\"top-sites\":{\"description\":\"a\"},\"pocket\":{\"description\":\"b\"}}}},\"objects\":{\"Card\":{\"description\":\"A card\",\"fields\":{\"title\":{\"type\":\"Text\",\"description\":\"t\",\"default\":\"Hello\"},\"note\":{\"type\":\"Option<Text>\",\"description\":\"n\",\"default\":null}}}}}";
+
+const CONTEXT: &[u8] =
+    b"{\"app_name\":\"fenix\",\"channel\":\"release\",\"app_version\":\"110.1.0\",\"locale\":\"en-US\"}";
+
+/// A record whose treatment has fields of wrong types and unknown ones.
+const ILL_TYPED_FIELDS: &[u8] =
+    b"{\"data\":[{\"slug\":\"alpha\",\"schemaVersion\":\"1.12.0\",\"appName\":\"fenix\",\"channel\":\"release\",\"isEnrollmentPaused\":false,\"isRollout\":false,\"bucketConfig\":{\"randomizationUnit\":\"nimbus_id\",\"namespace\":\"ns\",\"start\":0,\"count\":10000,\"total\":10000},\"branches\":[{\"slug\":\"control\",\"ratio\":0,\"features\":[{\"featureId\":\"homescreen\",\"value\":{}}]},{\"slug\":\"treatment\",\"ratio\":1,\"features\":[{\"featureId\":\"homescreen\",\"value\":{\"card\":{\"title\":\"Hi\",\"note\":5,\"extra\":1},\"sections-enabled\":{\"pocket\":true,\"bogus\":true}}}]}]}]}";
+
+#[test]
+fn ill_typed_fields_fall_back(rt: HostRuntime) -> Result<(), Fail> {
+    answers_with_files(
+        rt.alloc(),
+        &[
+            ("m.json", MANIFEST),
+            ("c.json", CONTEXT),
+            ("alpha.json", ILL_TYPED_FIELDS),
+        ],
+        b"manifest m.json nightly\nfeature homescreen\nmanifest m.json release\ncontext c.json\nfetch alpha.json\napply\nfeature homescreen\n",
+        b"ok\nvalue {\"card\":{\"note\":null,\"title\":\"Hello\"},\"sections-enabled\":{\"pocket\":true,\"top-sites\":true}}\nok\nok\nfetched 1 skipped 0\napplied 1 of 1\nvalue {\"card\":{\"note\":null,\"title\":\"Hi\"},\"sections-enabled\":{\"pocket\":true,\"top-sites\":true}}\n",
+    )
+}
+
+#[test]
+fn missing_setup_refusals(rt: HostRuntime) -> Result<(), Fail> {
+    answers_with_file(
+        rt.alloc(),
+        "m.json",
+        MANIFEST,
+        b"apply\nfeature homescreen\nmanifest m.json beta\napply\nmanifest m.json release\napply\nfeature nothing\n",
+        b"refused NoManifest\nrefused NoManifest\nrefused UnknownChannel\nrefused NoManifest\nok\nrefused NoContext\nrefused UnknownFeature\n",
+    )
 }

@@ -1,6 +1,9 @@
 -- What the words ask for is done.
 use Rattle.std.proofs.Common.{inl, inr, ap, arith, refl, Some}
+use Rattle.client_core.specs.Settings.{setting}
+use Rattle.session_run.specs.Commands.{lines_of}
 use Rattle.session_run.proofs.OptOuts.{is_out}
+use Rattle.session_run.proofs.Said.{typed_at, served_at}
 use Rattle.session_run.proofs.Judging.{run_judges, init_judges, run_complete, init_complete}
 use Rattle.session_run.proofs.entry.nimbus.Goals as goal
 
@@ -42,3 +45,11 @@ returns-in-Some-Run-clause-opted_out g c s k slug l r within kept held = is_out 
 
 pub returns-in-None-clause-opted_out : goal.returns-in-None-clause-opted_out
 returns-in-None-clause-opted_out g c s k slug l r within kept held = is_out _ s _ k slug l r within kept held
+
+pub returns-in-Some-Run-clause-values : goal.returns-in-Some-Run-clause-values
+returns-in-Some-Run-clause-values g c is_run source_tells shelf_tells tells states s all kept k line text new is_line answered said begins =
+    let h = g.H.Host in
+    let at = setting g.F.Shelf c.args.shelf.now c.args.now in
+    let lines = lines_of (g.S.Source.left c.args.source.now) in
+    served_at at s lines k line text is_line
+    (typed_at at s lines (h.said c.args.host.now) h states c.run.new.host k new said begins c.run.result (c.run.ensures.reopened_ends source_tells shelf_tells tells states s all kept)) answered

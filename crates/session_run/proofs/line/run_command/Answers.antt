@@ -5,11 +5,13 @@ use Rattle.client_core.specs.declared.session.Session.{Session}
 use Rattle.client_core.specs.Clients.{state_of, session_of, end_of, step_of}
 use Rattle.client_core.specs.Places.{place_after}
 use Rattle.client_core.specs.Prepared.{next_state, answer_in}
+use Rattle.client_core.specs.ServedValues.{IsTyped}
 use Rattle.client_core.specs.Settings.{setting}
 use Rattle.client_core.proofs.Holding.{all_kept}
 use Rattle.session_run.specs.Answers.{answer_lines}
 use Rattle.session_run.proofs.Outcomes.{on_ok, both_ok, always_ok, unwritten_met, unprepared_ends, unanswered_ends}
 use Rattle.session_run.proofs.Answering.{met_as, ends_as}
+use Rattle.session_run.proofs.Values.{unprepared, unwritten}
 use Rattle.session_run.proofs.line.run_command.Goals as goal
 
 pub returns-in_err-prepared-clause-any_moment : goal.returns-in_err-prepared-clause-any_moment
@@ -81,3 +83,14 @@ returns-clause-place g c =
 
 pub returns-clause-fits : goal.returns-clause-fits
 returns-clause-fits g c shelf_tells = always_ok c.commit.result (c.in_ok-prepared.ensures.fits shelf_tells)
+
+pub returns-in_err-prepared-clause-typed : goal.returns-in_err-prepared-clause-typed
+returns-in_err-prepared-clause-typed g c shelf_tells answered = absurd (unprepared c.in_err-prepared.field-0.0 c.from_residual.result c.from_residual.ensures.1 answered)
+
+pub returns-in_err-text-clause-typed : goal.returns-in_err-text-clause-typed
+returns-in_err-text-clause-typed g c shelf_tells answered = absurd (unwritten c.from_residual-in_err-text.result c.from_residual-in_err-text.ensures.1 answered)
+
+pub returns-clause-typed : goal.returns-clause-typed
+returns-clause-typed g c shelf_tells answered =
+    let client = c.args.client.now in
+    subst (IsTyped (state_of client) (session_of client) c.args.command.now) (c.in_ok-prepared.ensures.step shelf_tells).answer c.in_ok-prepared.ensures.typed

@@ -11,6 +11,7 @@ use Rattle.session_run.specs.Commands.{command_of}
 use Rattle.session_run.specs.Steps.{RunState, run_of, run_after, answer}
 use Rattle.session_run.proofs.Answering.{met_as, ends_as}
 use Rattle.session_run.proofs.Outcomes.{always_ok, on_ok, both_ok, run_same, read_ok, read_err, after-command, answer-command, after-fault, answer-fault}
+use Rattle.session_run.proofs.Values.{typed_line, refused_line}
 use Rattle.session_run.proofs.line.run_line.Goals as goal
 
 -- ---- a command
@@ -68,6 +69,11 @@ returns-in-Ok-clause-fits g c shelf_tells =
     on_ok c.run_command.result (c.run_command.ensures.fits shelf_tells)
     (λ fits full. fits (subst (λ (run : RunState). IsFullFor (end_of client) (state_of client) run.state) (sym (after-command at (run_of client) line c.in-Ok.command is)) full))
 
+pub returns-in-Ok-clause-typed : goal.returns-in-Ok-clause-typed
+returns-in-Ok-clause-typed g c shelf_tells answered =
+    let line = c.args.line.now in
+    typed_line (setting g.F.Shelf c.args.shelf.now c.args.now) (run_of c.args.client.now) line c.in-Ok.command (read_ok c.in-Ok.command (command_of line) c.in-Ok.ensures) (c.run_command.ensures.typed shelf_tells answered)
+
 -- ---- no command
 
 pub returns-in-Err-clause-any_moment : goal.returns-in-Err-clause-any_moment
@@ -122,3 +128,9 @@ returns-in-Err-clause-fits g c shelf_tells =
     let other : c.in-Err.fault ≢ OutOfMemory = search rules in
     let is = read_err c.in-Err.fault (command_of line) c.in-Err.ensures other in
     always_ok c.refuse.result (λ full. full.changes (ap (λ (run : RunState). run.state) (after-fault (setting g.F.Shelf c.args.shelf.now c.args.now) (run_of c.args.client.now) line c.in-Err.fault is)))
+
+pub returns-in-Err-clause-typed : goal.returns-in-Err-clause-typed
+returns-in-Err-clause-typed g c shelf_tells answered =
+    let line = c.args.line.now in
+    let other : c.in-Err.fault ≢ OutOfMemory = search rules in
+    refused_line (setting g.F.Shelf c.args.shelf.now c.args.now) (run_of c.args.client.now) line c.in-Err.fault (read_err c.in-Err.fault (command_of line) c.in-Err.ensures other)

@@ -14,8 +14,9 @@ use Rattle.session_run.specs.Commands.{part_at}
 use Rattle.session_run.specs.Steps.{RunState, run_of, after, out}
 use Rattle.session_run.specs.Moments.{AfterPrefix}
 use Rattle.session_run.specs.Ends.{LinesEnd}
+use Rattle.session_run.specs.Values.{AreTyped}
 use Rattle.session_run.proofs.Ending.{err_is}
-use Rattle.session_run.proofs.Lining.{state_more, said_more, place_more, changes_here, full_more, fit_more, met_more, ends_more}
+use Rattle.session_run.proofs.Lining.{state_more, said_more, place_more, changes_here, full_more, fit_more, typed_more, met_more, ends_more}
 use Rattle.session_run.proofs.Placing.{line_within, line_more, line_at, at_within}
 use Rattle.session_run.proofs.Running.{some_at_start}
 use Rattle.session_run.proofs.Stepping.{same_setting}
@@ -39,6 +40,7 @@ loop-span-init g c =
       any_moment = λ shelf_tells tells gate. started h.moment h.might start (AfterPrefix at s lines (h.said start)) (λ l r u met.
           let now = g.met.H.Host.only_now start l r u tells met in
           some_at_start at s lines (h.said start) l r u (all_kept h c.args.client.now.journal start s (c.requires.holds tells) gate l r now.0 now.1) now.2);
+      typed = λ tells k below. absurd (omega (arith, below));
       place = λ tells. refl;
       fits = λ tells k below full. absurd (omega (arith, below));
       shelf_faults = omega arith;
@@ -71,7 +73,11 @@ returns-in_err-run_line-clause-ends g c shelf_tells tells gate =
     subst (λ (r : Result (Unit {0}) RunFault). LinesEnd h at s (map (part_at script) spans) (h.said c.args.host.now) new r) (sym (err_is c.from_residual.result fault c.from_residual.ensures.1))
     (ends_more at _ (same_setting g.F.Shelf c.args.shelf.now c.loop-span.shelf c.args.now (inv.files shelf_tells)) s (map (part_at script) spans) i c.part.result.now
     (line_within script spans i _ c.part.result.now c.loop-span-test.true c.part.ensures) (line_more script spans i _ c.part.result.now c.loop-span-test.true c.part.ensures) (run_of c.loop-span.client) (inv.state shelf_tells)
-    h c.args.host.now c.loop-span.host new (inv.said shelf_tells tells) fault (c.in_err-run_line.ensures.ends shelf_tells tells (inv.gate tells gate)))
+    h c.args.host.now c.loop-span.host new (inv.said shelf_tells tells) fault (inv.typed shelf_tells)
+    (λ answered. typed_more at _ (same_setting g.F.Shelf c.args.shelf.now c.loop-span.shelf c.args.now (inv.files shelf_tells)) s (map (part_at script) spans) i c.part.result.now
+    (line_within script spans i _ c.part.result.now c.loop-span-test.true c.part.ensures) (line_more script spans i _ c.part.result.now c.loop-span-test.true c.part.ensures) (run_of c.loop-span.client) (inv.state shelf_tells)
+    (line_at script spans i _ c.part.result.now c.loop-span-test.true c.part.ensures) (inv.typed shelf_tells) (c.in_err-run_line.ensures.typed shelf_tells answered))
+    (c.in_err-run_line.ensures.ends shelf_tells tells (inv.gate tells gate)))
 
 pub returns-in_err-run_line-clause-full : goal.returns-in_err-run_line-clause-full
 returns-in_err-run_line-clause-full g c is shelf_tells =
@@ -121,6 +127,7 @@ loop-span-preserved g c =
         | inr past ↦ done.gate tells (inv.gate_made shelf_tells tells k (omega (arith, below, past)) changed)
       ];
       any_moment = λ shelf_tells tells gate. met_more at here (same shelf_tells) s lines i line within more now (inv.state shelf_tells) h c.args.host.now c.loop-span.host new (inv.said shelf_tells tells) (inv.any_moment shelf_tells tells gate) (done.any_moment shelf_tells tells (inv.gate tells gate));
+      typed = λ tells. typed_more at here (same tells) s lines i line within more now (inv.state tells) there (inv.typed tells) (done.typed tells tt);
       place = λ tells. place_more at here (same tells) s lines i line within more now (inv.state tells) (end_of c.args.client.now) (end_of c.loop-span.client) (end_of c.run_line.new.client) next (done.state tells) (inv.place tells) done.place;
       fits = λ tells. fit_more at here (same tells) s lines i line within more now (inv.state tells) (end_of c.args.client.now) (end_of c.loop-span.client) (inv.place tells) there (inv.fits tells) (done.fits tells);
       shelf_faults = omega (arith, inv.shelf_faults, done.shelf_faults);
@@ -138,10 +145,12 @@ returns-clause-ends g c shelf_tells tells gate =
     let inv = c.loop-span.invariant in
     let client = c.loop-span.client in
     let whole : i ≡ length lines = omega (arith, length-map c.args.spans.now (part_at c.args.script.now)) in
-    let kept = subst (AllKept h c.loop-span.host) (ap (λ (run : RunState). run.state) (inv.state shelf_tells)) (all_kept h client.journal c.loop-span.host client.state (inv.holds tells) (inv.gate tells gate)) in (
-      subst (λ (n : ℕ). AllKept h c.loop-span.host (after at s lines n)) whole kept,
-      subst (λ (n : ℕ). h.said c.loop-span.host ≡ h.said c.args.host.now ++ out at s lines n) whole (inv.said shelf_tells tells),
-    )
+    let kept = subst (AllKept h c.loop-span.host) (ap (λ (run : RunState). run.state) (inv.state shelf_tells)) (all_kept h client.journal c.loop-span.host client.state (inv.holds tells) (inv.gate tells gate)) in
+    record {
+      kept = subst (λ (n : ℕ). AllKept h c.loop-span.host (after at s lines n)) whole kept;
+      text = subst (λ (n : ℕ). h.said c.loop-span.host ≡ h.said c.args.host.now ++ out at s lines n) whole (inv.said shelf_tells tells);
+      typed = subst (AreTyped at s lines) whole (inv.typed shelf_tells);
+    }
 
 pub returns-clause-stands : goal.returns-clause-stands
 returns-clause-stands g c shelf_tells tells =

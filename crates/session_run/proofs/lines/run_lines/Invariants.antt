@@ -8,6 +8,7 @@ use Rattle.session_run.specs.Commands.{part_at}
 use Rattle.session_run.specs.Steps.{run_of, begun, run_at, after, out}
 use Rattle.session_run.specs.Moments.{AfterPrefix}
 use Rattle.session_run.specs.Places.{all_places, IsFullAtLine}
+use Rattle.session_run.specs.Values.{AreTyped}
 use Rattle.session_run.proofs.lines.run_lines.Given as goal
 
 abbrev pub invariant-loop-span : goal.invariant-loop-span
@@ -27,6 +28,7 @@ invariant-loop-span g l =
       gate : h.tells → HasGateOn h l.fn.client l.fn.host → HasGateOn h l.client l.host;
       gate_made : f.tells → h.tells → (k : ℕ) → k < i → after at s lines k ≢ after at s lines (k + 1) → HasGateOn h l.client l.host;
       any_moment : f.tells → h.tells → HasGateOn h l.fn.client l.fn.host → MeetsAll h l.fn.host l.host (AfterPrefix at s lines (h.said l.fn.host));
+      typed : f.tells → AreTyped at s lines i;
       place : f.tells → end_of l.client ≡ all_places at (end_of l.fn.client) (begun s) (take i lines);
       fits : f.tells → (k : ℕ) → k < i → IsFullAtLine at (end_of l.fn.client) s lines k → ⊥;
       shelf_faults : f.faults l.fn.shelf ≤ f.faults l.shelf;

@@ -10,7 +10,7 @@ use Rattle.session_run.specs.declared.faults.RunFault.TheVariants as run
 use Rattle.session_run.specs.Commands.{IsWithin, part_at, lines_of}
 use Rattle.session_run.specs.Ends.{RunEnds}
 use Rattle.session_run.specs.Finds.{RunFinds}
-use Rattle.session_run.proofs.Ending.{run_ends}
+use Rattle.session_run.proofs.Ending.{run_ends, never_done}
 use Rattle.session_run.proofs.Opened.{opening_met, run_met, lines_ended, all_stand_after, all_kept_after, said_after, changes_there, full_there, full_here, not_opened_ends, run_finds, lines_find}
 use Rattle.session_run.proofs.Within.{lines-within, lines_at}
 use Rattle.session_run.proofs.run.run_store.Goals as goal
@@ -120,6 +120,9 @@ returns-in-Ok-run_lines-clause-fits g c is shelf_tells tells s stands k full =
     c.in-Ok-run_lines.ensures.fits shelf_tells k
     (full_here h (setting g.F.Shelf c.args.shelf.now c.args.now) c.args.host.now c.open.new.host s (state_of client) lines (lines_of script) lines_are (opened.known tells s stands) (opened.text tells)
     (end_of client) (place_of stands.payloads) (opened.place tells s stands) k full)
+
+pub returns-in-Ok-open-clause-stands : goal.returns-in-Ok-open-clause-stands
+returns-in-Ok-open-clause-stands g c is = absurd (never_done c.in-Err-run_lines.fault (sym c.into.ensures ∙ is))
 
 pub returns-in-Ok-open-clause-full : goal.returns-in-Ok-open-clause-full
 returns-in-Ok-open-clause-full g c is shelf_tells tells s stands =

@@ -4,19 +4,19 @@ use Rattle.std.specs.Prelude.{IsUtf8}
 use Rattle.std.specs.Str.{is_utf8}
 use Rattle.std.proofs.lemmas.Str.{IsUtf8-from_is_utf8, is_utf8-from_IsUtf8}
 use Rattle.session_run.specs.declared.command.LineFault.TheVariants.{BadWords}
-use Rattle.session_run.specs.Commands.{file_name}
-use Rattle.session_run.proofs.arguments.file_name.Goals as goal
+use Rattle.session_run.specs.Commands.{text_in}
+use Rattle.session_run.proofs.arguments.text_in.Goals as goal
 
-named-valid : (word : List ℕ) → IsUtf8 word → file_name word ≡ Ok word
-unfolding file_name
+named-valid : (word : List ℕ) → IsUtf8 word → text_in word ≡ Ok word
+unfolding text_in
 named-valid word valid = rw (is_utf8-from_IsUtf8 word valid) refl
 
 test_false : (word : List ℕ) (b : Bool) → is_utf8 word ≡ b → (IsUtf8 word → ⊥) → b ≡ false
 test_false word true is never = absurd (never (IsUtf8-from_is_utf8 word is))
 test_false word false is never = refl
 
-named-invalid : (word : List ℕ) → (IsUtf8 word → ⊥) → file_name word ≡ Err BadWords
-unfolding file_name
+named-invalid : (word : List ℕ) → (IsUtf8 word → ⊥) → text_in word ≡ Err BadWords
+unfolding text_in
 named-invalid word never = rw (test_false word (is_utf8 word) refl never) refl
 
 pub returns-in_ok-new-in-Ok : goal.returns-in_ok-new-in-Ok
