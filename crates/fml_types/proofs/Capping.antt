@@ -1,6 +1,7 @@
 -- Heights and weights over fields whose numbers are capped.
-use Rattle.std.proofs.Common.{◌≡◌, ℕ, zero, suc, ◌+◌, ◌*◌, ◌<◌, ◌≤◌, List, [], ◌∷◌, length, map, Bool, true, false, Option, Some, None, inl, inr, refl, sym, ap, ap₂, ◌∙◌, arith}
+use Rattle.std.proofs.Common.{◌≡◌, ℕ, zero, suc, ◌+◌, ◌*◌, ◌<◌, ◌≤◌, List, [], ◌∷◌, length, map, Bool, true, false, Option, Some, None, inl, inr, refl, sym, ap, ap₂, ◌∙◌, subst, arith}
 use Rattle.std.proofs.lemmas.Bool.{cases_lt}
+use Rattle.std.proofs.lemmas.List.{length-map}
 use Rattle.std.proofs.lemmas.List.Sums.{sum_by-cons}
 use Rattle.std.proofs.Math.Nat.{zero-mul, mul-zero}
 use Rattle.std.proofs.lemmas.Nat.{mul-le}
@@ -9,12 +10,11 @@ use Rattle.std.specs.Prelude.{max, nat_lt, if◌then◌else◌}
 use Rattle.fml_types.specs.Capped.{cap, capped}
 use Rattle.fml_types.specs.CappedWeights.{next_capped, capped_weight_up_to}
 use Rattle.fml_types.specs.Graph.{graph_of}
-use Rattle.fml_types.specs.Ground.{parts_at, greatest, at, farther, reached, reached_all, value_of_need, needed, higher, next_heights, height_up_to, share, heavier, weight_up_to, first_above, endless, too_large}
+use Rattle.fml_types.specs.Ground.{parts_at, greatest, at, farther, reached, reached_all, needed, higher, next_heights, height_up_to, share, heavier, weight_up_to, first_above, endless, too_large}
 use Rattle.fml_types.specs.Values.{value_in, table}
-use Rattle.fml_types.specs.declared.graph.Need.{Need}
-use Rattle.fml_types.specs.declared.graph.Need.TheVariants.{Nothing, Mentioned, Reached}
 use Rattle.fml_types.specs.declared.graph.Part.{Part}
 use Rattle.fml_types.specs.declared.manifest.ObjectDefinition.{ObjectDefinition}
+use Rattle.fml_types.proofs.Bounding.{needed-up_to, reached-up_to}
 use Rattle.fml_types.proofs.Rounds.{height_past, weight_past}
 use Rattle.fml_types.proofs.Tables.{value_in-table}
 
@@ -57,28 +57,8 @@ capped-heights g (suc k) =
 
 -- ---- weights
 
-greatest-cap : (f h : Part → ℕ) → ((p : Part) → h p ≡ cap (f p)) → (ps : List Part) → greatest h ps ≡ cap (greatest f ps)
-greatest-cap f h same [] = refl
-greatest-cap f h same (p ∷ ps) = omega (arith, same p, greatest-cap f h same ps)
-
 abbrev cap_all : (ℕ → ℕ) → ℕ → ℕ
 cap_all v i = cap (v i)
-
-at-cap : (v : ℕ → ℕ) (o : Option ℕ) → at (cap_all v) o ≡ cap (at v o)
-at-cap v None = refl
-at-cap v (Some i) = refl
-
-reached-cap : (g : List (List Part)) (v : ℕ → ℕ) (n i : ℕ) → reached g (cap_all v) n i ≡ cap (reached g v n i)
-reached-cap g v zero i = refl
-reached-cap g v (suc n) i =
-    let below : reached g (cap_all v) n ≡ cap_all (reached g v n) = λ k j. reached-cap g v n j k in
-    let far = greatest-cap (λ (p : Part). at (reached g v n) p.mentions) (λ (p : Part). at (cap_all (reached g v n)) p.mentions) (λ p. at-cap (reached g v n) p.mentions) (parts_at g i) in
-    ap (λ r. max (cap (v i)) (greatest (λ (p : Part). at r p.mentions) (parts_at g i))) below ∙ omega (arith, far)
-
-need-cap : (v r : ℕ → ℕ) (o : Option ℕ) (n : Need) → value_of_need (cap_all v) (cap_all r) o n ≡ cap (value_of_need v r o n)
-need-cap v r o Nothing = refl
-need-cap v r o Mentioned = at-cap v o
-need-cap v r o Reached = at-cap r o
 
 above_times : (t w : ℕ) → 16385 ≤ t → 0 < w → 16385 ≤ t * w
 above_times t w h k = let low = mul-le 16385 1 t w h (omega arith) in omega (arith, low)
@@ -102,7 +82,7 @@ share-cap : (v r : ℕ → ℕ) (p : Part) → cap (share (cap_all v) (cap_all r
 share-cap v r p =
     let n = needed v r p in
     let product = cap-mul p.times n in
-    ap (λ m. cap (cap p.size + cap p.times * m)) (need-cap v r p.mentions p.need) ∙ sums (cap p.times * cap n) (p.times * n) p.size product
+    ap (λ m. cap (cap p.size + cap p.times * m)) (needed-up_to 16385 v r p) ∙ sums (cap p.times * cap n) (p.times * n) p.size product
   where
     sums : (a b s : ℕ) → cap a ≡ cap b → cap (cap s + a) ≡ cap (s + b)
     sums a b s e = omega (arith, e)
@@ -125,7 +105,7 @@ capped-weights g zero i = refl
 capped-weights g (suc k) i =
     let w = weight_up_to g k in
     let below : capped_weight_up_to (all_capped g) k ≡ cap_all w = λ j m. capped-weights g k m j in
-    let far : reached_all (all_capped g) (cap_all w) ≡ cap_all (reached_all g w) = capped-reached_all g (cap_all w) ∙ (λ j m. reached-cap g w (length g) m j) in
+    let far : reached_all (all_capped g) (cap_all w) ≡ cap_all (reached_all g w) = capped-reached_all g (cap_all w) ∙ (λ j m. reached-up_to g 16385 w (length g) m j) in
     let parts = parts_at g i in
     ap (λ v. next_capped (all_capped g) v i) below ∙ ap (λ r. cap (heavier (all_capped g) (cap_all w) r i)) far
     ∙ ap₂ (λ n ps. cap (if nat_lt i n then 2 + sum_by (share (cap_all w) (cap_all (reached_all g w))) ps else 0)) (capped-length g) (capped-parts g i)
@@ -147,6 +127,35 @@ above-cap n =
 first-cap : {T : Type 0} (v : ℕ → ℕ) (i : ℕ) (names : List (List ℕ × T)) → first_above 16384 (cap_all v) i names ≡ first_above 16384 v i names
 first-cap v i [] = refl
 first-cap v i (o ∷ os) = ap₂ (λ b rest. if b then Some o.0 else rest) (above-cap (v i)) (first-cap v (suc i) os)
+
+-- no object is too high
+not_above : {T : Type 0} (v : ℕ → ℕ) (j : ℕ) (names : List (List ℕ × T)) → first_above 32 v j names ≡ None → (i : ℕ) → j ≤ i → i < j + length names → v i ≤ 32
+not_above v j [] h i low high = absurd (omega arith)
+not_above v j (o ∷ os) h i low high =
+    let parts = neither (nat_lt 32 (v j)) o.0 (first_above 32 v (suc j) os) h in
+    elim (cases_lt j i) [
+      | inl later ↦ not_above v (suc j) os parts.1 i later (omega arith)
+      | inr here ↦ let same : i ≡ j = omega arith in subst (λ k. v k ≤ 32) (sym same) (not_less (v j) parts.0)
+    ]
+  where
+    neither : (b : Bool) (n : List ℕ) (rest : Option (List ℕ)) → (if b then Some n else rest) ≡ None → (b ≡ false) × (rest ≡ None)
+    neither true n rest e = absurd cc
+    neither false n rest e = (refl, e)
+
+    not_less : (n : ℕ) → nat_lt 32 n ≡ false → n ≤ 32
+    not_less n e = grind arith
+
+graph-length : (objects : List (List ℕ × ObjectDefinition)) → length (graph_of objects) ≡ length objects
+graph-length objects = length-map objects _
+
+pub low_heights : (objects : List (List ℕ × ObjectDefinition)) (graph : List (List Part)) → graph ≡ all_capped (graph_of objects) → endless objects ≡ None → (i : ℕ) → height_up_to graph 33 i ≤ 32
+low_heights objects graph capped_graph none i =
+    let v = height_up_to (graph_of objects) 33 in
+    let same : height_up_to graph 33 ≡ v = ap (λ g. height_up_to g 33) capped_graph ∙ capped-heights (graph_of objects) 33 in
+    subst (λ (f : ℕ → ℕ). f i ≤ 32) (sym same) (elim (cases_lt i (length objects)) [
+      | inl within ↦ not_above v 0 objects none i (omega arith) (omega arith)
+      | inr beyond ↦ let e = height_past (graph_of objects) 33 i (let len = graph-length objects in omega (arith, len)) in omega (arith, e)
+    ])
 
 pub endless_found : (objects : List (List ℕ × ObjectDefinition)) (graph : List (List Part)) (hs : List ℕ) → graph ≡ all_capped (graph_of objects) → hs ≡ table (height_up_to graph 33) (length graph) → first_above 32 (value_in hs) 0 objects ≡ endless objects
 endless_found objects graph hs capped_graph made =

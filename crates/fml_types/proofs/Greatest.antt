@@ -1,5 +1,5 @@
 -- The greatest of values, one more at a time.
-use Rattle.std.proofs.Common.{◌≡◌, ℕ, ◌+◌, ◌<◌, ◌≤◌, List, [], ◌∷◌, ◌++◌, length, get_or, take, refl, sym, ap, ◌∙◌, arith}
+use Rattle.std.proofs.Common.{◌≡◌, ℕ, ◌+◌, ◌<◌, List, [], ◌∷◌, ◌++◌, length, get_or, take, refl, sym, ap, ◌∙◌, arith}
 use Rattle.std.specs.Prelude.{max}
 use Rattle.std.proofs.lemmas.List.{take_more}
 use Rattle.fml_types.specs.Ground.{greatest}
@@ -10,7 +10,3 @@ greatest_push f (y ∷ ys) x = omega (arith, greatest_push f ys x)
 
 pub greatest_more : {A : Type 0} (f : A → ℕ) (xs : List A) (i : ℕ) (d : A) → i < length xs → max (f (get_or xs i d)) (greatest f (take i xs)) ≡ greatest f (take (i + 1) xs)
 greatest_more f xs i d h = sym (ap (greatest f) (take_more xs i d h) ∙ greatest_push f (take i xs) (get_or xs i d))
-
-pub greatest_le : {A : Type 0} (f : A → ℕ) (bound : ℕ) → ((x : A) → f x ≤ bound) → (xs : List A) → greatest f xs ≤ bound
-greatest_le f bound h [] = omega arith
-greatest_le f bound h (x ∷ xs) = omega (arith, h x, greatest_le f bound h xs)

@@ -6,6 +6,9 @@ pub mod Greatest
 pub mod Tables
 pub mod Counting
 pub mod Rounds
+pub mod Bounding
+pub mod HeightRounds
+pub mod WeightRounds
 pub mod Capping
 pub mod Reaching
 pub mod Mentioned

@@ -1,7 +1,7 @@
--- Values of objects as lists, and rounds that change nothing more.
+-- Values of objects as lists.
 use Rattle.std.proofs.Common.{◌≡◌, ℕ, zero, suc, ◌<◌, ◌≤◌, List, [], ◌∷◌, ◌++◌, length, inl, inr, refl, sym, ap, ◌∙◌, arith, subst}
 use Rattle.std.proofs.lemmas.Bool.{cases_lt}
-use Rattle.std.proofs.lemmas.List.{get_or_append_left}
+use Rattle.std.proofs.lemmas.List.{ext_get_or, get_or_append_left}
 use Rattle.fml_types.specs.Values.{value_in, table}
 
 pub table-length : (f : ℕ → ℕ) (n : ℕ) → length (table f n) ≡ n
@@ -53,15 +53,12 @@ same_tables = tables
 value_more : (xs : List ℕ) (x i : ℕ) → i < length xs → value_in (xs ++ x ∷ []) i ≡ value_in xs i
 value_more xs x i h = get_or_append_left xs (x ∷ []) 0 i h
 
--- functions with one list are one
-pub same_functions : (f g : ℕ → ℕ) (n : ℕ) → ((i : ℕ) → n ≤ i → f i ≡ 0) → ((i : ℕ) → n ≤ i → g i ≡ 0) → table f n ≡ table g n → f ≡ g
-same_functions f g n f-none g-none e = sym (value_in-table f n f-none) ∙ ap value_in e ∙ value_in-table g n g-none
+-- a list whose values are the function's, as many as the table has
+pub is_table : (f : ℕ → ℕ) (n : ℕ) (xs : List ℕ) → length xs ≡ n → ((i : ℕ) → i < n → value_in xs i ≡ f i) → xs ≡ table f n
+is_table f n xs count same =
+    let len = table-length f n in
+    ext_get_or 0 xs (table f n) (omega (arith, len, count)) (λ i h. same i (omega (arith, h, count)) ∙ sym (within f n i (omega (arith, h, count))))
 
--- what a round doesn't change no later round changes
-pub stable : {X : Type 0} (step : X → X) (rounds : ℕ → X) → ((m : ℕ) → rounds (suc m) ≡ step (rounds m)) → (n : ℕ) → rounds (suc n) ≡ rounds n → (m : ℕ) → n ≤ m → rounds m ≡ rounds n
-stable step rounds steps n settled zero h = ap rounds (omega arith)
-stable step rounds steps n settled (suc m) h =
-    elim (cases_lt n (suc m)) [
-      | inl less ↦ steps m ∙ ap step (stable step rounds steps n settled m (omega arith)) ∙ sym (steps n) ∙ settled
-      | inr least ↦ let same : suc m ≡ n = omega arith in ap rounds same
-    ]
+-- the values that follow from these, where there is none past the objects
+pub values_next : (step : (ℕ → ℕ) → ℕ → ℕ) (n : ℕ) (xs ys : List ℕ) → ((v : ℕ → ℕ) (i : ℕ) → n ≤ i → step v i ≡ 0) → ys ≡ table (step (value_in xs)) n → value_in ys ≡ step (value_in xs)
+values_next step n xs ys none made = ap value_in made ∙ value_in-table (step (value_in xs)) n (none (value_in xs))

@@ -7,6 +7,7 @@ pub mod TypeTexts
 pub mod Graph
 pub mod Capped
 pub mod Ground
+pub mod CappedHeights
 pub mod CappedWeights
 pub mod Values
 pub mod Reach

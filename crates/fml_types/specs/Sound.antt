@@ -1,12 +1,16 @@
 -- Which tables of types and which manifests are sound: what each manifest that links keeps.
-use Rattle.std.specs.Prelude.{◌≡◌, ◌<◌, ℕ, Bool, true, false, ◌&&◌, ◌||◌, not, List, length, Option, Some, None, Ok, All, IsTrue, if◌then◌else◌}
+use Rattle.std.specs.Prelude.{◌≡◌, ◌<◌, ℕ, Bool, true, false, ◌&&◌, ◌||◌, not, List, length, Option, Some, None, Ok, ⊤, All, IsTrue, if◌then◌else◌}
 use Rattle.std.specs.Option.{option_or}
+use Rattle.json_tree.specs.Json.{IsSound}
+use Rattle.json_tree.specs.Tree.{json_of}
+use Rattle.json_tree.specs.declared.tree.Tree.{Tree}
 use Rattle.plain_text.specs.Names.{is_name}
 use Rattle.fml_types.specs.Ground.{grounding}
 use Rattle.fml_types.specs.Named.{has_name}
 use Rattle.fml_types.specs.Shape.{Shape, boolean, int, string, text, image, option, list, map, named}
 use Rattle.fml_types.specs.Shapes.{shape_of}
 use Rattle.fml_types.specs.TypeTexts.{is_option}
+use Rattle.fml_types.specs.declared.manifest.DefaultEntry.{DefaultEntry}
 use Rattle.fml_types.specs.declared.manifest.Field.{Field}
 use Rattle.fml_types.specs.declared.manifest.FeatureDefinition.{FeatureDefinition}
 use Rattle.fml_types.specs.declared.manifest.Manifest.{Manifest}
@@ -41,10 +45,23 @@ pub record IsSoundType (types : TypeTable) (s : Shape) : Type 0 where
   pub known : unknown_name types s ≡ None
   pub options : IsTrue (has_single_options s)
 
-abbrev pub AreSoundFields : TypeTable → List (List ℕ × Field) → Type 0
-AreSoundFields types fields = All (λ (f : List ℕ × Field). IsSoundType types (shape_of f.1.field_type)) fields
+-- a default that is absent, or a sound JSON value
+abbrev pub IsSoundDefault : Option Tree → Type 0
+IsSoundDefault None = ⊤
+IsSoundDefault (Some tree) = IsSound (json_of tree)
 
--- each enum has a variant, no name is both an enum's and an object's, and the types of the objects' fields are sound
+pub record IsSoundField (types : TypeTable) (f : Field) : Type 0 where
+  pub of_type : IsSoundType types (shape_of f.field_type)
+  pub default : IsSoundDefault f.default
+
+abbrev pub AreSoundFields : TypeTable → List (List ℕ × Field) → Type 0
+AreSoundFields types fields = All (λ (f : List ℕ × Field). IsSoundField types f.1) fields
+
+-- the value of each entry is a sound JSON value
+abbrev pub AreSoundEntries : List DefaultEntry → Type 0
+AreSoundEntries entries = All (λ (e : DefaultEntry). IsSound (json_of e.value)) entries
+
+-- each enum has a variant, no name is both an enum's and an object's, and the objects' fields are sound
 pub record IsSoundTable (types : TypeTable) : Type 0 where
   pub variants : All (λ e. 0 < length e.1.variants) types.enums
   pub apart : All (λ e. has_name e.0 types.objects ≡ false) types.enums
@@ -60,3 +77,4 @@ pub record IsSoundManifest (m : Manifest) : Type 0 where
   pub grounded : IsGrounded m.types
   pub names : All (λ f. IsTrue (is_name f.0)) m.features
   pub variables : All (λ f. AreSoundFields m.types f.1.variables) m.features
+  pub defaults : All (λ f. AreSoundEntries f.1.defaults) m.features

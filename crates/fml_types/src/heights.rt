@@ -1,6 +1,7 @@
 // How high objects are.
-ghost use Rattle.std.specs.Prelude.{◌≡◌, ◌≤◌, ℕ, length, bytes_eq, IfOk};
-ghost use Rattle.fml_types.specs.Ground.{greatest, at, needed, higher, next_heights, height_up_to};
+ghost use Rattle.std.specs.Prelude.{◌≡◌, length, suc, min, bytes_eq, IfOk};
+ghost use Rattle.fml_types.specs.Ground.{greatest, at, needed, height_up_to};
+ghost use Rattle.fml_types.specs.CappedHeights.{capped_higher, next_capped};
 ghost use Rattle.fml_types.specs.Reach.{AreMentioned};
 ghost use Rattle.fml_types.specs.Values.{value_in, table};
 
@@ -11,16 +12,22 @@ use std::alloc::{AllocError, Global};
 
 const ROUNDS: usize = 33;
 
-/// The heights of the objects, which count up to 33.
+/// One above the greatest height that an object may have. Greater heights count as this one.
+pub const HEIGHT_CAP: u64 = 33;
+
+/// The heights of the objects, which count up to the cap. The first values may be any: where they
+/// are the heights, one round is all.
 pub fn heights(
     alloc: Global,
     graph: &[Sequence<Part>],
     mentioned_by: &[Sequence<usize>],
+    first: Vec<u64>,
 ) -> Result<Vec<u64>, AllocError>
-    requires { AreMentioned graph.now mentioned_by.now }
+    requires count { length first.items ≡ length graph.now }
+    requires mentioned { AreMentioned graph.now mentioned_by.now }
     ensures { IfOk result (λ hs. hs.items ≡ table (height_up_to graph.now 33) (length graph.now)) }
 {
-    let mut heights = zeros(alloc, graph.len())?;
+    let mut heights = first;
     for _ in 0..ROUNDS {
         let next = next_heights(alloc, graph, mentioned_by, &heights)?;
         if same(&next, &heights) {
@@ -40,23 +47,11 @@ fn next_heights(
 ) -> Result<Vec<u64>, AllocError>
     requires count { length heights.now ≡ length graph.now }
     requires mentioned { AreMentioned graph.now mentioned_by.now }
-    requires height { (i : ℕ) → value_in heights.now i ≤ 33 }
-    ensures { IfOk result (λ hs. hs.items ≡ table (next_heights graph.now (value_in heights.now)) (length graph.now)) }
+    ensures { IfOk result (λ hs. hs.items ≡ table (next_capped graph.now (value_in heights.now)) (length graph.now)) }
 {
     let reached = reached(alloc, graph, mentioned_by, heights)?;
     let next = higher(alloc, graph, heights, &reached)?;
     Ok(next)
-}
-
-/// So many zeros.
-pub fn zeros(alloc: Global, count: usize) -> Result<Vec<u64>, AllocError>
-    ensures { IfOk result (λ zs. zs.items ≡ table (λ i. 0) count) }
-{
-    let mut zeros = Vec::with_capacity(alloc, count)?;
-    for _ in 0..count {
-        zeros.push(0)?;
-    }
-    Ok(zeros)
 }
 
 pub fn same(left: &[u64], right: &[u64]) -> bool
@@ -65,23 +60,28 @@ pub fn same(left: &[u64], right: &[u64]) -> bool
     left == right
 }
 
-/// One more than the greatest height of what each object needs.
 fn higher(
     alloc: Global,
     graph: &[Sequence<Part>],
     heights: &[u64],
     reached: &[u64],
 ) -> Result<Vec<u64>, AllocError>
-    requires height { (i : ℕ) → value_in heights.now i ≤ 33 }
-    requires far { (i : ℕ) → value_in reached.now i ≤ 33 }
-    ensures { IfOk result (λ hs. hs.items ≡ table (higher graph.now (value_in heights.now) (value_in reached.now)) (length graph.now)) }
+    ensures { IfOk result (λ hs. hs.items ≡ table (capped_higher graph.now (value_in heights.now) (value_in reached.now)) (length graph.now)) }
 {
     let mut next = Vec::with_capacity(alloc, graph.len())?;
     for place in 0..graph.len() {
-        let needed = greatest_needed(heights, reached, graph[place].as_slice());
-        next.push(needed + 1)?;
+        next.push(height(heights, reached, graph[place].as_slice()))?;
     }
     Ok(next)
+}
+
+/// The height of an object with these fields: one more than the greatest that they need.
+pub fn height(heights: &[u64], reached: &[u64], parts: &[Part]) -> u64
+    ensures { result ≡ min (suc (greatest (needed (value_in heights.now) (value_in reached.now)) parts.now)) 33 }
+{
+    greatest_needed(heights, reached, parts)
+        .saturating_add(1)
+        .min(HEIGHT_CAP)
 }
 
 #[tactic(auto, using(crate::proofs::Greatest::greatest_more))]
@@ -106,7 +106,7 @@ pub fn needed(values: &[u64], reached: &[u64], part: &Part) -> u64
     }
 }
 
-fn value_at(values: &[u64], place: Option<usize>) -> u64
+pub fn value_at(values: &[u64], place: Option<usize>) -> u64
     ensures { result ≡ at (value_in values.now) place }
 {
     match place {

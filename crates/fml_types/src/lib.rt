@@ -9,6 +9,7 @@ mod graph;
 mod grounding;
 mod heights;
 mod manifest;
+mod one_pass;
 mod reach;
 mod type_text;
 mod weights;

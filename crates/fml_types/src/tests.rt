@@ -1,6 +1,9 @@
 // Texts of types, tables of objects and features. Each check is a small function of its own.
 use super::*;
 use crate::graph::graph_of;
+use crate::grounding::endless;
+use crate::heights::heights;
+use crate::one_pass::first_values;
 use crate::reach::mentioned_by;
 use crate::weights::weights;
 use json_tree::read;
@@ -224,12 +227,75 @@ fn grounds(rt: HostRuntime) -> Result<(), Fail> {
     has_row(alloc, 200_032, "endless a")
 }
 
+// Whether the rounds of heights begin with the heights.
+fn begins_right(alloc: Global, rows: &str) -> Result<(), Fail> {
+    let types = objects_of(alloc, rows)?;
+    let graph = graph_of(alloc, &types.objects)?;
+    let parts = graph.as_slice();
+    let mentioned_by = mentioned_by(alloc, parts)?;
+    let first = first_values(alloc, parts, &mentioned_by)?;
+    let begun = Vec::from_slice(alloc, &first.heights)?;
+    let found = heights(alloc, parts, &mentioned_by, first.heights)?;
+    check(found.as_slice() == begun.as_slice())
+}
+
+// The objects from one number up to another, each with a field whose type and default are these
+// texts around the name of the next object.
+fn numbered(
+    alloc: Global,
+    rows: &mut String,
+    start: u64,
+    end: u64,
+    before: &str,
+    after: &str,
+) -> Result<(), Fail> {
+    for place in start..end {
+        let next = place + 1;
+        let row = format!(in alloc; "o{place}/f/{before}o{next}{after}\n")?;
+        rows.push_str(row.as_str())?;
+    }
+    Ok(())
+}
+
+#[test]
+fn first_values_are_right(rt: HostRuntime) -> Result<(), Fail> {
+    let alloc = rt.alloc();
+    for rows in [
+        "A/b/B/\nB/a/A/",
+        "A/b/B/\nB/a/Option<A>/",
+        "B/b/B/null\nC/c/B/",
+        "A/a/List<A>/[{}]",
+        "A/b/Option<B>/{}\nB/a/Option<A>/",
+        "A/b/List<B>/[{}]\nB/a/List<A>/[{}]",
+        "A/b/List<B>/[]\nB/a/List<A>/[{}]\nC/a/A/\nD/c/Option<C>/{}",
+        "A/b/List<B>/[]\nB/a/A/\nC/a/Option<A>/{}\nD/c/C/",
+    ] {
+        begins_right(alloc, rows)?;
+    }
+    let mut rows = String::new(alloc);
+    numbered(alloc, &mut rows, 10_000, 12_000, "", "/")?;
+    begins_right(alloc, rows.as_str())?;
+    rows.push_str("o12000/f/o10000/\n")?;
+    begins_right(alloc, rows.as_str())?;
+    let mut rows = String::new(alloc);
+    numbered(alloc, &mut rows, 10_000, 10_030, "Option<", ">/{}")?;
+    numbered(alloc, &mut rows, 10_030, 12_000, "List<", ">/")?;
+    begins_right(alloc, rows.as_str())?;
+    rows.push_str("o12000/f/List<o10030>/\n")?;
+    begins_right(alloc, rows.as_str())
+}
+
 fn weighs(alloc: Global, rows: &str, want: &[u64]) -> Result<(), Fail> {
     let types = objects_of(alloc, rows)?;
     let graph = graph_of(alloc, &types.objects)?;
     let parts = graph.as_slice();
     let mentioned_by = mentioned_by(alloc, parts)?;
-    let found = weights(alloc, parts, &mentioned_by)?;
+    let first = first_values(alloc, parts, &mentioned_by)?;
+    check(first.weights.as_slice() == want)?;
+    if let Some(_) = endless(alloc, parts, &mentioned_by, first.heights, &types.objects)? {
+        return Err(Fail::from("an object is endless"));
+    }
+    let found = weights(alloc, parts, &mentioned_by, first.weights)?;
     check(found.as_slice() == want)
 }
 

@@ -1,30 +1,34 @@
 // How heavy objects are.
-ghost use Rattle.std.specs.Prelude.{◌≡◌, ◌+◌, length, IfOk};
+ghost use Rattle.std.specs.Prelude.{◌≡◌, ◌≤◌, ◌+◌, ℕ, length, IfOk};
 ghost use Rattle.std.specs.List.{sum_by};
-ghost use Rattle.fml_types.specs.Ground.{share};
+ghost use Rattle.fml_types.specs.Ground.{height_up_to, share};
 ghost use Rattle.fml_types.specs.Capped.{cap};
 ghost use Rattle.fml_types.specs.Reach.{AreMentioned};
 ghost use Rattle.fml_types.specs.Values.{value_in, table};
 ghost use Rattle.fml_types.specs.CappedWeights.{capped_heavier, next_capped, capped_weight_up_to};
 
 use crate::graph::{CAP, Part, capped_sum};
-use crate::heights::{needed, same, zeros};
+use crate::heights::{needed, same};
 use crate::reach::reached;
 use sequences::Sequence;
 use std::alloc::{AllocError, Global};
 
 const ROUNDS: usize = 32;
 
-/// The weights of objects that are at most 32 high. They count up to the cap.
+/// The weights of objects, all of which are at most 32 high. They count up to the cap. The first
+/// values may be any: where they are the weights, one round is all.
 pub fn weights(
     alloc: Global,
     graph: &[Sequence<Part>],
     mentioned_by: &[Sequence<usize>],
+    first: Vec<u64>,
 ) -> Result<Vec<u64>, AllocError>
-    requires { AreMentioned graph.now mentioned_by.now }
+    requires count { length first.items ≡ length graph.now }
+    requires mentioned { AreMentioned graph.now mentioned_by.now }
+    requires low { (i : ℕ) → height_up_to graph.now 33 i ≤ 32 }
     ensures { IfOk result (λ ws. ws.items ≡ table (capped_weight_up_to graph.now 32) (length graph.now)) }
 {
-    let mut weights = zeros(alloc, graph.len())?;
+    let mut weights = first;
     for _ in 0..ROUNDS {
         let next = next_weights(alloc, graph, mentioned_by, &weights)?;
         if same(&next, &weights) {
@@ -67,7 +71,7 @@ fn heavier(
 }
 
 /// The weight of an object with these fields.
-fn weight(weights: &[u64], reached: &[u64], parts: &[Part]) -> u64
+pub fn weight(weights: &[u64], reached: &[u64], parts: &[Part]) -> u64
     ensures { result ≡ cap (2 + sum_by (share (value_in weights.now) (value_in reached.now)) parts.now) }
 {
     let mut weight = 2;

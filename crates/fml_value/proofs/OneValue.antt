@@ -128,7 +128,7 @@ mutual
   fields-found : (types : TypeTable) → IsSoundTable types → (fields : List (List ℕ × Field)) (es : TypedEntries) → AreSoundFields types fields → AreFields types fields es → fields_from types fields (members_of es) ≡ es
   fields-found types table [] no_entries sound h = refl
   fields-found types table (f ∷ fs) (entry name v es) sound h =
-      ap₂ (entry name) (value-found types table (shape_of f.1.field_type) v (sound 0 f (omega arith)).options h.1) (fields-found types table fs es (λ k d less. sound (suc k) d (omega arith)) h.2)
+      ap₂ (entry name) (value-found types table (shape_of f.1.field_type) v (sound 0 f (omega arith)).of_type.options h.1) (fields-found types table fs es (λ k d less. sound (suc k) d (omega arith)) h.2)
   fields-found types table fields es sound h = absurd h
 
 pub one_value : (types : TypeTable) (t : Shape) (v w : TypedValue) → IsSoundTable types → IsSoundType types t → HasType types t v → HasType types t w → tree_of v ≡ tree_of w → v ≡ w
