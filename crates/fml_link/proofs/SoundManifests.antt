@@ -8,7 +8,7 @@ use Rattle.plain_text.specs.Names.{is_name}
 use Rattle.fml_types.specs.Ground.{grounding}
 use Rattle.fml_types.specs.Named.{has_name, with_name}
 use Rattle.fml_types.specs.Shapes.{shape_of}
-use Rattle.fml_types.specs.Sound.{unknown_name, AreSoundFields, IsSoundManifest}
+use Rattle.fml_types.specs.Sound.{unknown_name, AreSoundEntries, AreSoundFields, IsSoundManifest}
 use Rattle.fml_types.specs.declared.grounding.GroundFault.{GroundFault}
 use Rattle.fml_types.specs.declared.grounding.GroundFault.TheVariants as ground_faults
 use Rattle.fml_types.specs.declared.manifest.EnumDefinition.{EnumDefinition}
@@ -21,7 +21,7 @@ use Rattle.fml_reader.specs.declared.module.Module.{Module}
 use Rattle.fml_link.specs.Files.{is_among}
 use Rattle.fml_link.specs.Linking.{first_found, unknown_in, manifest_with, unknown_of, all_known, all_grounded, root_channels, channel_known, defined, joined}
 use Rattle.fml_link.specs.Outcome.{◌>>=◌, Gives, each}
-use Rattle.fml_link.specs.Sound.{HaveSingleOptions, HaveVariants, HaveReadFields, HaveNames, HaveReadVariables, IsReadModule}
+use Rattle.fml_link.specs.Sound.{AreReadFields, HaveVariants, HaveReadFields, HaveNames, HaveReadVariables, HaveSoundEntries, IsReadModule}
 use Rattle.fml_link.specs.Tables.{Tables, no_tables, with_enum, with_object, with_feature, with_module, tables_of}
 use Rattle.fml_link.specs.declared.fault.LinkFault.{LinkFault}
 use Rattle.fml_link.specs.declared.fault.LinkFault.TheVariants as faults
@@ -80,6 +80,7 @@ record AreSoundTables (t : Tables) : Type 0 where
   pub fields : HaveReadFields t.objects
   pub names : HaveNames t.features
   pub variables : HaveReadVariables t.features
+  pub entries : HaveSoundEntries t.features
 
 added : {A : Type 0} (b : Bool) (e : LinkFault) (t u : A) → (if b then Err e else Ok t) ≡ Ok u → (b ≡ false) × (t ≡ u)
 added true e t u h = absurd cc
@@ -95,22 +96,24 @@ enum_keeps t u e sound one h =
       fields = sound.fields;
       names = sound.names;
       variables = sound.variables;
+      entries = sound.entries;
     })
 
-object_keeps : (t u : Tables) (o : List ℕ × ObjectDefinition) → AreSoundTables t → HaveSingleOptions o.1.fields → with_object t o ≡ Ok u → AreSoundTables u
+object_keeps : (t u : Tables) (o : List ℕ × ObjectDefinition) → AreSoundTables t → AreReadFields o.1.fields → with_object t o ≡ Ok u → AreSoundTables u
 object_keeps t u o sound one h =
     let new = added (has_name o.0 t.enums || has_name o.0 t.objects) (faults.DuplicateName o.0) (record t { objects = with_name o t.objects }) u h in
     subst AreSoundTables new.1 (record {
       variants = sound.variants;
       apart = apart_with o t.objects t.enums (left_false (has_name o.0 t.enums) (has_name o.0 t.objects) new.0) sound.apart;
-      fields = all_with (λ (x : List ℕ × ObjectDefinition). HaveSingleOptions x.1.fields) o t.objects one sound.fields;
+      fields = all_with (λ (x : List ℕ × ObjectDefinition). AreReadFields x.1.fields) o t.objects one sound.fields;
       names = sound.names;
       variables = sound.variables;
+      entries = sound.entries;
     })
 
 -- a feature that is read
 IsReadFeature : List ℕ × FeatureDefinition → Type 0
-IsReadFeature f = IsTrue (is_name f.0) × HaveSingleOptions f.1.variables
+IsReadFeature f = IsTrue (is_name f.0) × AreReadFields f.1.variables × AreSoundEntries f.1.defaults
 
 feature_keeps : (t u : Tables) (f : List ℕ × FeatureDefinition) → AreSoundTables t → IsReadFeature f → with_feature t f ≡ Ok u → AreSoundTables u
 unfolding IsReadFeature
@@ -121,12 +124,13 @@ feature_keeps t u f sound one h =
       apart = sound.apart;
       fields = sound.fields;
       names = all_with (λ (x : List ℕ × FeatureDefinition). IsTrue (is_name x.0)) f t.features one.0 sound.names;
-      variables = all_with (λ (x : List ℕ × FeatureDefinition). HaveSingleOptions x.1.variables) f t.features one.1 sound.variables;
+      variables = all_with (λ (x : List ℕ × FeatureDefinition). AreReadFields x.1.variables) f t.features one.1 sound.variables;
+      entries = all_with (λ (x : List ℕ × FeatureDefinition). AreSoundEntries x.1.defaults) f t.features one.2 sound.entries;
     })
 
 features_read : (m : Module) → IsReadModule m → All IsReadFeature m.features
 unfolding IsReadFeature
-features_read m sound k d h = (sound.names k d h, sound.variables k d h)
+features_read m sound k d h = (sound.names k d h, sound.variables k d h, sound.entries k d h)
 
 module_keeps : (t u : Tables) (m : Module) → AreSoundTables t → IsReadModule m → with_module t m ≡ Ok u → AreSoundTables u
 unfolding with_module
@@ -137,8 +141,8 @@ module_keeps t u m sound read h =
     let d = bind_ok (each with_object c.0 m.types_objects) _ u c.2 in
     let sound_a = each_keeps AreSoundTables (λ (x : List ℕ × EnumDefinition). 0 < length x.1.variants) with_enum enum_keeps m.enums t a.0 read.variants sound a.1 in
     let sound_b = each_keeps AreSoundTables (λ (x : List ℕ × EnumDefinition). 0 < length x.1.variants) with_enum enum_keeps m.types_enums a.0 b.0 read.types_variants sound_a b.1 in
-    let sound_c = each_keeps AreSoundTables (λ (x : List ℕ × ObjectDefinition). HaveSingleOptions x.1.fields) with_object object_keeps m.objects b.0 c.0 read.fields sound_b c.1 in
-    let sound_d = each_keeps AreSoundTables (λ (x : List ℕ × ObjectDefinition). HaveSingleOptions x.1.fields) with_object object_keeps m.types_objects c.0 d.0 read.types_fields sound_c d.1 in
+    let sound_c = each_keeps AreSoundTables (λ (x : List ℕ × ObjectDefinition). AreReadFields x.1.fields) with_object object_keeps m.objects b.0 c.0 read.fields sound_b c.1 in
+    let sound_d = each_keeps AreSoundTables (λ (x : List ℕ × ObjectDefinition). AreReadFields x.1.fields) with_object object_keeps m.types_objects c.0 d.0 read.types_fields sound_c d.1 in
     each_keeps AreSoundTables IsReadFeature with_feature feature_keeps m.features d.0 u (features_read m read) sound_d d.2
 
 nothing_sound : AreSoundTables no_tables
@@ -146,9 +150,10 @@ unfolding AreApart
 nothing_sound = record {
   variants = all_nil (λ (x : List ℕ × EnumDefinition). 0 < length x.1.variants);
   apart = all_nil (λ (x : List ℕ × EnumDefinition). has_name {T = ObjectDefinition} x.0 [] ≡ false);
-  fields = all_nil (λ (x : List ℕ × ObjectDefinition). HaveSingleOptions x.1.fields);
+  fields = all_nil (λ (x : List ℕ × ObjectDefinition). AreReadFields x.1.fields);
   names = all_nil (λ (x : List ℕ × FeatureDefinition). IsTrue (is_name x.0));
-  variables = all_nil (λ (x : List ℕ × FeatureDefinition). HaveSingleOptions x.1.variables);
+  variables = all_nil (λ (x : List ℕ × FeatureDefinition). AreReadFields x.1.variables);
+  entries = all_nil (λ (x : List ℕ × FeatureDefinition). AreSoundEntries x.1.defaults);
 }
 
 tables_sound : (modules : List Module) (t : Tables) → All IsReadModule modules → tables_of modules ≡ Ok t → AreSoundTables t
@@ -174,17 +179,20 @@ grounded_ok (Err (ground_faults.EndlessObject name)) u h = absurd cc
 grounded_ok (Err (ground_faults.ObjectTooLarge name)) u h = absurd cc
 grounded_ok (Err ground_faults.OutOfMemory) u h = absurd cc
 
-sound_fields : (types : TypeTable) (fields : List (List ℕ × Field)) → unknown_in types fields ≡ None → HaveSingleOptions fields → AreSoundFields types fields
-sound_fields types fields known single k d h = record {
-  known = none_found (λ (f : List ℕ × Field). unknown_name types (shape_of f.1.field_type)) fields known k d h;
-  options = single k d h;
+sound_fields : (types : TypeTable) (fields : List (List ℕ × Field)) → unknown_in types fields ≡ None → AreReadFields fields → AreSoundFields types fields
+sound_fields types fields known read k d h = record {
+  of_type = record {
+    known = none_found (λ (f : List ℕ × Field). unknown_name types (shape_of f.1.field_type)) fields known k d h;
+    options = (read k d h).options;
+  };
+  default = (read k d h).default;
 }
 
 sound_objects : (types : TypeTable) (objects : List (List ℕ × ObjectDefinition)) → All (λ (o : List ℕ × ObjectDefinition). unknown_in types o.1.fields ≡ None) objects → HaveReadFields objects → All (λ (o : List ℕ × ObjectDefinition). AreSoundFields types o.1.fields) objects
-sound_objects types objects known single k d h = sound_fields types _ (known k d h) (single k d h)
+sound_objects types objects known read k d h = sound_fields types _ (known k d h) (read k d h)
 
 sound_features : (types : TypeTable) (features : List (List ℕ × FeatureDefinition)) → All (λ (f : List ℕ × FeatureDefinition). unknown_in types f.1.variables ≡ None) features → HaveReadVariables features → All (λ (f : List ℕ × FeatureDefinition). AreSoundFields types f.1.variables) features
-sound_features types features known single k d h = sound_fields types _ (known k d h) (single k d h)
+sound_features types features known read k d h = sound_fields types _ (known k d h) (read k d h)
 
 checked_sound : (t : Tables) (channel : List ℕ) → AreSoundTables t → unknown_of (manifest_with t channel) ≡ None → grounding (manifest_with t channel).types ≡ Ok tt → IsSoundManifest (manifest_with t channel)
 unfolding AreApart
@@ -196,6 +204,7 @@ checked_sound t channel sound known grounded =
       grounded = grounded;
       names = sound.names;
       variables = sound_features types t.features (none_found (λ (f : List ℕ × FeatureDefinition). unknown_in types f.1.variables) t.features both.1) sound.variables;
+      defaults = sound.entries;
     }
 
 pub joined_sound : (modules : List Module) (channel : List ℕ) (m : Manifest) → All IsReadModule modules → joined modules channel ≡ Ok m → IsSoundManifest m

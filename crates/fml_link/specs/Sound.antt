@@ -2,29 +2,36 @@
 use Rattle.std.specs.Prelude.{ℕ, ◌<◌, List as Seq, length, All, IsTrue}
 use Rattle.plain_text.specs.Names.{is_name}
 use Rattle.fml_types.specs.Shapes.{shape_of}
-use Rattle.fml_types.specs.Sound.{has_single_options}
+use Rattle.fml_types.specs.Sound.{has_single_options, AreSoundEntries, IsSoundDefault}
 use Rattle.fml_types.specs.declared.manifest.EnumDefinition.{EnumDefinition}
 use Rattle.fml_types.specs.declared.manifest.ObjectDefinition.{ObjectDefinition}
 use Rattle.fml_types.specs.declared.manifest.FeatureDefinition.{FeatureDefinition}
 use Rattle.fml_types.specs.declared.manifest.Field.{Field}
 use Rattle.fml_reader.specs.declared.module.Module.{Module}
 
--- no option stands directly in an option
-abbrev pub HaveSingleOptions : Seq (Seq ℕ × Field) → Type 0
-HaveSingleOptions fields = All (λ (f : Seq ℕ × Field). IsTrue (has_single_options (shape_of f.1.field_type))) fields
+-- no option stands directly in an option, and a default is a sound JSON value
+pub record IsReadField (f : Field) : Type 0 where
+  pub options : IsTrue (has_single_options (shape_of f.field_type))
+  pub default : IsSoundDefault f.default
+
+abbrev pub AreReadFields : Seq (Seq ℕ × Field) → Type 0
+AreReadFields fields = All (λ (f : Seq ℕ × Field). IsReadField f.1) fields
 
 -- each enum has a variant
 abbrev pub HaveVariants : Seq (Seq ℕ × EnumDefinition) → Type 0
 HaveVariants enums = All (λ (e : Seq ℕ × EnumDefinition). 0 < length e.1.variants) enums
 
 abbrev pub HaveReadFields : Seq (Seq ℕ × ObjectDefinition) → Type 0
-HaveReadFields objects = All (λ (o : Seq ℕ × ObjectDefinition). HaveSingleOptions o.1.fields) objects
+HaveReadFields objects = All (λ (o : Seq ℕ × ObjectDefinition). AreReadFields o.1.fields) objects
 
 abbrev pub HaveNames : Seq (Seq ℕ × FeatureDefinition) → Type 0
 HaveNames features = All (λ (f : Seq ℕ × FeatureDefinition). IsTrue (is_name f.0)) features
 
 abbrev pub HaveReadVariables : Seq (Seq ℕ × FeatureDefinition) → Type 0
-HaveReadVariables features = All (λ (f : Seq ℕ × FeatureDefinition). HaveSingleOptions f.1.variables) features
+HaveReadVariables features = All (λ (f : Seq ℕ × FeatureDefinition). AreReadFields f.1.variables) features
+
+abbrev pub HaveSoundEntries : Seq (Seq ℕ × FeatureDefinition) → Type 0
+HaveSoundEntries features = All (λ (f : Seq ℕ × FeatureDefinition). AreSoundEntries f.1.defaults) features
 
 pub record IsReadModule (m : Module) : Type 0 where
   pub variants : HaveVariants m.enums
@@ -33,3 +40,4 @@ pub record IsReadModule (m : Module) : Type 0 where
   pub types_fields : HaveReadFields m.types_objects
   pub names : HaveNames m.features
   pub variables : HaveReadVariables m.features
+  pub entries : HaveSoundEntries m.features

@@ -122,6 +122,7 @@ fn module_in(alloc: Global, name: &Text, tree: &Tree) -> Result<Module, LinkFaul
     ensures sound { IfOk result (λ m. IsReadModule m) }
     ensures not_shelf { ¬ IsErrOf result LinkFault.ShelfFault }
 {
+    tree.keeps();
     match read_module(alloc, tree) {
         Ok(module) => Ok(module),
         Err(ModuleFault::BadShape(path)) => Err(LinkFault::BadShape(name.clone()?, path)),
