@@ -3,7 +3,7 @@ use Rattle.std.proofs.Common.{◌≡◌, ℕ, zero, suc, ◌+◌, ◌<◌, ◌�
 use Rattle.std.proofs.lemmas.List.{length-map}
 use Rattle.std.proofs.lemmas.Str.{IsUtf8-nil}
 use Rattle.std.specs.Cmp.Lexicographic.{bytes_decides}
-use Rattle.std.specs.Prelude.{nat_lt, ◌&&◌, ◌||◌, All, bytes_eq, option_and_then, if◌then◌else◌}
+use Rattle.std.specs.Prelude.{nat_lt, ◌&&◌, ◌||◌, bytes_eq, option_and_then, if◌then◌else◌}
 use Rattle.json_tree.specs.Json as json
 use Rattle.json_tree.specs.Json.{Json, IsSound}
 use Rattle.json_tree.specs.Tree.{json_of}
@@ -11,10 +11,11 @@ use Rattle.json_tree.specs.declared.tree.Tree.{Tree}
 use Rattle.fml_types.specs.Graph.{mention, is_named, is_list, is_map, is_empty, is_empty_json, has_no_items, has_no_members, need_of, part_of, graph_of}
 use Rattle.fml_types.specs.Ground.{parts_at, greatest, at, reached_all, value_of_need, needed, height_up_to, first_above, endless, too_large, verdict, grounding}
 use Rattle.fml_types.specs.Named.{found, has_name, place}
+use Rattle.fml_types.specs.Reach.{Mentions}
 use Rattle.fml_types.specs.Shape as shape
 use Rattle.fml_types.specs.Shape.{Shape}
 use Rattle.fml_types.specs.Shapes.{shape_of}
-use Rattle.fml_types.specs.Sound.{IsSoundTable, IsSoundType, AreSoundFields, IsGrounded, where_unknown}
+use Rattle.fml_types.specs.Sound.{IsSoundTable, IsSoundType, IsSoundDefault, AreSoundFields, IsGrounded, where_unknown}
 use Rattle.fml_types.specs.declared.graph.Need.TheVariants.{Nothing, Mentioned}
 use Rattle.fml_types.specs.declared.graph.Part.{Part}
 use Rattle.fml_types.specs.declared.manifest.EnumDefinition.{EnumDefinition}
@@ -22,6 +23,8 @@ use Rattle.fml_types.specs.declared.manifest.Field.{Field}
 use Rattle.fml_types.specs.declared.manifest.ObjectDefinition.{ObjectDefinition}
 use Rattle.fml_types.specs.declared.manifest.TypeTable.{TypeTable}
 use Rattle.fml_types.proofs.Places.{found_none, place_within}
+use Rattle.fml_types.proofs.Reaching.{mentions_now, mentions_later, base_le, reached_all_closed}
+use Rattle.fml_value.proofs.OneValue.{all_found}
 use Rattle.fml_value.specs.HasType.{HasType, AreFields}
 use Rattle.fml_value.specs.Kinds.{is_variant_of}
 use Rattle.fml_value.specs.Takes.{takes_named}
@@ -29,10 +32,7 @@ use Rattle.fml_value.specs.Typed as typed
 use Rattle.fml_value.specs.Typed.{TypedValue, entries_of}
 use Rattle.fml_merge.specs.Overlay.{fields_of, pairs_in, overlay_with}
 use Rattle.fml_merge.specs.Zero.{least, zero_named, zero_within, object_zero, with_default, initial, HasZeros}
-use Rattle.fml_merge.proofs.Reaching.{Mentions, mentions_now, mentions_later, base_le, reached_all_closed}
 use Rattle.fml_merge.proofs.Typing.{IsScope, over_typed, sound_fields, sound_field, sound_scope, to_object, entries_kept}
-use Rattle.fml_merge.specs.Trees.{SoundDefault, AreSoundDefaults}
-use Rattle.fml_value.proofs.OneValue.{all_found}
 
 -- ---- the graph of a table
 
@@ -219,17 +219,18 @@ module _ (types : TypeTable) (table : IsSoundTable types) where
         let scoped : (u : Shape) → Within v k u → HasType types u (zero_within types k u) = λ u p. zero_typed u p.0 (let under = at_le v (reached_all graph v) (λ i. base_le graph v (length graph) i) (mentioned types.objects u) in omega (arith, under, p.1)) in
         over_typed types (zero_within types k) (Within v k) (within_scope v k) scoped t (zero_within types k t) (json_of tree) (sound, low) (scoped t (sound, low)) tree_sound
 
-    default_typed : (f : Field) → IsSoundType types (shape_of f.field_type) → (d : Maybe Tree) → SoundDefault d → value_of_need v (reached_all graph v) (mentioned types.objects (shape_of f.field_type)) (need_of (shape_of f.field_type) (is_empty (shape_of f.field_type) d)) ≤ k
+    default_typed : (f : Field) → IsSoundType types (shape_of f.field_type) → (d : Maybe Tree) → IsSoundDefault d → value_of_need v (reached_all graph v) (mentioned types.objects (shape_of f.field_type)) (need_of (shape_of f.field_type) (is_empty (shape_of f.field_type) d)) ≤ k
         → HasType types (shape_of f.field_type) (with_default (zero_within types k) types (shape_of f.field_type) d)
     default_typed f sound None d low = needs_itself (shape_of f.field_type) sound low
     default_typed f sound (Some tree) d low = tree_typed (shape_of f.field_type) tree sound d (is_empty_json (shape_of f.field_type) (json_of tree)) refl low
 
-    initial_typed : (fs : Seq (Seq ℕ × Field)) → AreSoundFields types fs → AreSoundDefaults fs → greatest (needed v (reached_all graph v)) (over (part_of types.objects) fs) ≤ k → AreFields types fs (entries_of (initial (zero_within types k) types fs))
+    initial_typed : (fs : Seq (Seq ℕ × Field)) → AreSoundFields types fs → greatest (needed v (reached_all graph v)) (over (part_of types.objects) fs) ≤ k → AreFields types fs (entries_of (initial (zero_within types k) types fs))
     unfolding part_of
-    initial_typed [] sound trees low = tt
-    initial_typed (f ∷ fs) sound trees low =
+    initial_typed [] sound low = tt
+    initial_typed (f ∷ fs) sound low =
         let parts = first_greatest (needed v (reached_all graph v)) (part_of types.objects f) (over (part_of types.objects) fs) k low in
-        (refl, default_typed f.1 (sound 0 f (omega arith)) f.1.default (trees 0 f (omega arith)) parts.0, initial_typed fs (λ j d less. sound (suc j) d (omega arith)) (λ j d less. trees (suc j) d (omega arith)) parts.1)
+        let here = sound 0 f (omega arith) in
+        (refl, default_typed f.1 here.of_type f.1.default here.default parts.0, initial_typed fs (λ j d less. sound (suc j) d (omega arith)) parts.1)
 
   -- ---- all levels
 
@@ -252,45 +253,44 @@ module _ (types : TypeTable) (table : IsSoundTable types) where
       ap (λ b. if b then suc (greatest (needed (height_up_to graph k) (reached_all graph (height_up_to graph k))) (parts_at graph i)) else 0) less ∙ ap (λ ps. suc (greatest (needed (height_up_to graph k) (reached_all graph (height_up_to graph k))) ps)) here in
       omega (arith, high, low)
 
-  module _ (trees : All (λ (o : Seq ℕ × ObjectDefinition). AreSoundDefaults o.1.fields) types.objects) where
-    pub zero_typed : (k : ℕ) (t : Shape) → IsSoundType types t → at (height_up_to graph (suc k)) (mentioned types.objects t) ≤ k → HasType types t (zero_within types k t)
-    zero_typed k shape.boolean sound low = simple_zero k shape.boolean refl
-    zero_typed k shape.int sound low = simple_zero k shape.int refl
-    zero_typed k shape.string sound low = simple_zero k shape.string refl
-    zero_typed k shape.text sound low = simple_zero k shape.text refl
-    zero_typed k shape.image sound low = simple_zero k shape.image refl
-    zero_typed k (shape.option t) sound low = tt
-    zero_typed k (shape.list t) sound low = tt
-    zero_typed k (shape.map key t) sound low = (tt, tt)
-    zero_typed zero (shape.named n) sound low = bottom (found n types.enums) refl
-      where
-        bottom : (e : Maybe EnumDefinition) → found n types.enums ≡ e → HasType types (shape.named n) (zero_named e (object_zero types zero n))
-        bottom (Some e) is = variant_zero n e (object_zero types zero n) is
-        bottom None is = let o = known_object n sound is (found n types.objects) refl in absurd (let high = low_parts zero n o.0 o.1 (place n types.objects) refl low in omega (arith, high))
-    zero_typed (suc k) (shape.named n) sound low = one (found n types.enums) refl (zero_typed k)
-      where
-        one : (e : Maybe EnumDefinition) → found n types.enums ≡ e → ((u : Shape) → IsSoundType types u → at (height_up_to graph (suc k)) (mentioned types.objects u) ≤ k → HasType types u (zero_within types k u))
-            → HasType types (shape.named n) (zero_named e (object_zero types (suc k) n))
-        one (Some e) is below = variant_zero n e (object_zero types (suc k) n) is
-        one None is below =
-            let o = known_object n sound is (found n types.objects) refl in
-            let low_o = low_parts (suc k) n o.0 o.1 (place n types.objects) refl low in
-            let fs = o.0.fields in
-            let done = initial_typed k (height_up_to graph (suc k)) below fs (sound_fields types table n o.0 o.1) (all_found (λ (d : ObjectDefinition). AreSoundDefaults d.fields) n types.objects o.0 trees o.1) (omega (arith, low_o)) in
-            to_object types (found n types.enums) (found n types.objects) (λ gs. AreFields types gs (entries_of (initial (zero_within types k) types (fields_of (found n types.objects))))) o.0 is o.1
-            (subst (λ (d : Maybe ObjectDefinition). AreFields types fs (entries_of (initial (zero_within types k) types (fields_of d)))) (sym o.1) done)
+  pub zero_typed : (k : ℕ) (t : Shape) → IsSoundType types t → at (height_up_to graph (suc k)) (mentioned types.objects t) ≤ k → HasType types t (zero_within types k t)
+  zero_typed k shape.boolean sound low = simple_zero k shape.boolean refl
+  zero_typed k shape.int sound low = simple_zero k shape.int refl
+  zero_typed k shape.string sound low = simple_zero k shape.string refl
+  zero_typed k shape.text sound low = simple_zero k shape.text refl
+  zero_typed k shape.image sound low = simple_zero k shape.image refl
+  zero_typed k (shape.option t) sound low = tt
+  zero_typed k (shape.list t) sound low = tt
+  zero_typed k (shape.map key t) sound low = (tt, tt)
+  zero_typed zero (shape.named n) sound low = bottom (found n types.enums) refl
+    where
+      bottom : (e : Maybe EnumDefinition) → found n types.enums ≡ e → HasType types (shape.named n) (zero_named e (object_zero types zero n))
+      bottom (Some e) is = variant_zero n e (object_zero types zero n) is
+      bottom None is = let o = known_object n sound is (found n types.objects) refl in absurd (let high = low_parts zero n o.0 o.1 (place n types.objects) refl low in omega (arith, high))
+  zero_typed (suc k) (shape.named n) sound low = one (found n types.enums) refl (zero_typed k)
+    where
+      one : (e : Maybe EnumDefinition) → found n types.enums ≡ e → ((u : Shape) → IsSoundType types u → at (height_up_to graph (suc k)) (mentioned types.objects u) ≤ k → HasType types u (zero_within types k u))
+          → HasType types (shape.named n) (zero_named e (object_zero types (suc k) n))
+      one (Some e) is below = variant_zero n e (object_zero types (suc k) n) is
+      one None is below =
+          let o = known_object n sound is (found n types.objects) refl in
+          let low_o = low_parts (suc k) n o.0 o.1 (place n types.objects) refl low in
+          let fs = o.0.fields in
+          let done = initial_typed k (height_up_to graph (suc k)) below fs (sound_fields types table n o.0 o.1) (omega (arith, low_o)) in
+          to_object types (found n types.enums) (found n types.objects) (λ gs. AreFields types gs (entries_of (initial (zero_within types k) types (fields_of (found n types.objects))))) o.0 is o.1
+          (subst (λ (d : Maybe ObjectDefinition). AreFields types fs (entries_of (initial (zero_within types k) types (fields_of d)))) (sym o.1) done)
 
-    at_place : ((i : ℕ) → i < length types.objects → height_up_to graph 33 i ≤ 32) → (n : Seq ℕ) (q : Maybe ℕ) → place n types.objects ≡ q → at (height_up_to graph 33) q ≤ 32
-    at_place low n None e = omega arith
-    at_place low n (Some i) e = low i (place_within n types.objects i e)
+  at_place : ((i : ℕ) → i < length types.objects → height_up_to graph 33 i ≤ 32) → (n : Seq ℕ) (q : Maybe ℕ) → place n types.objects ≡ q → at (height_up_to graph 33) q ≤ 32
+  at_place low n None e = omega arith
+  at_place low n (Some i) e = low i (place_within n types.objects i e)
 
-    -- the zeros of a grounded table
-    pub zeros_typed : ((i : ℕ) → i < length types.objects → height_up_to graph 33 i ≤ 32) → HasZeros types
-    zeros_typed low t sound = zero_typed 32 t sound (all_low (mention t))
-      where
-        all_low : (m : Maybe (Seq ℕ)) → at (height_up_to graph 33) (option_and_then (λ n. place n types.objects) m) ≤ 32
-        all_low None = omega arith
-        all_low (Some n) = at_place low n (place n types.objects) refl
+  -- the zeros of a grounded table
+  pub zeros_typed : ((i : ℕ) → i < length types.objects → height_up_to graph 33 i ≤ 32) → HasZeros types
+  zeros_typed low t sound = zero_typed 32 t sound (all_low (mention t))
+    where
+      all_low : (m : Maybe (Seq ℕ)) → at (height_up_to graph 33) (option_and_then (λ n. place n types.objects) m) ≤ 32
+      all_low None = omega arith
+      all_low (Some n) = at_place low n (place n types.objects) refl
 
 -- ---- what grounded says
 

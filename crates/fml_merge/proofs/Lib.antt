@@ -4,5 +4,6 @@ pub mod Pieces
 pub mod Firsts
 pub mod Typing
 pub mod Results
-pub mod Reaching
+pub mod Fields
 pub mod Levels
+pub mod Variables

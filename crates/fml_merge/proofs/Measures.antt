@@ -55,6 +55,10 @@ fields_weight types fields = greatest (λ f. field_weight types f.1) fields
 pub level : TypeTable → ℕ
 level types = greatest (λ o. fields_weight types o.1.fields) types.objects + 4
 
+-- the greater of two numbers
+abbrev pub greater : ℕ → ℕ → ℕ
+greater a b = a + (b - a)
+
 -- ---- what is within them
 
 pub step_most : (types : TypeTable) → 8 * highest types + 20 ≤ step types
@@ -76,6 +80,10 @@ object_level types name o e = omega (arith, found_one (λ (p : List ℕ × Objec
 pub one_field : (types : TypeTable) (fields : List (List ℕ × Field)) (i : ℕ) (d : List ℕ × Field) → i < length fields → field_weight types (get_or fields i d).1 ≤ fields_weight types fields
 unfolding fields_weight
 one_field types fields i d h = one_of (λ (p : List ℕ × Field). field_weight types p.1) fields i d h
+
+pub one_type : (fields : List (List ℕ × Field)) (i : ℕ) (d : List ℕ × Field) → i < length fields → height (shape_of (get_or fields i d).1.field_type) ≤ highest_type fields
+unfolding highest_type
+one_type fields i d h = one_of (λ (p : List ℕ × Field). height (shape_of p.1.field_type)) fields i d h
 
 pub with_tree : (types : TypeTable) (f : Field) (tree : Tree) → f.default ≡ Some tree → step types * depth (json_of tree) + 8 * height (shape_of f.field_type) + 10 ≡ field_weight types f
 unfolding field_weight

@@ -18,7 +18,6 @@ use Rattle.fml_value.specs.Takes.{takes}
 use Rattle.fml_value.specs.Typed.{TypedValue, item, items_of, entries_of}
 use Rattle.fml_value.specs.declared.value.Value.{Value}
 use Rattle.fml_merge.specs.Overlay.{pairs_of, held, laid, items_laid, put, with_member}
-use Rattle.fml_merge.specs.Zero.{initial}
 use Rattle.fml_merge.specs.Merging.{inside_laid, member_laid, named}
 use Rattle.fml_merge.proofs.Merge.{put_at}
 
@@ -66,11 +65,11 @@ below_at k [] i d h below = absurd (omega arith)
 below_at k (p ∷ ps) zero d h below = below.0
 below_at k (p ∷ ps) (suc i) d h below = below_at k ps i d (omega arith) below.1
 
-above_at : (zeros : Shape → TypedValue) (types : TypeTable) (ps : Seq (Seq ℕ × Field)) (i : ℕ) (d : Seq ℕ × Field) → i < length ps → AreRising ps → IsAbove (get_or ps i d).0 (initial zeros types (take i ps))
-above_at zeros types [] i d h rising = absurd (omega arith)
-above_at zeros types (p ∷ ps) zero d h rising = tt
-above_at zeros types (p ∷ ps) (suc i) d h rising = (below_at p.0 ps i d (omega arith) rising.0, above_at zeros types ps i d (omega arith) rising.1)
+above_at : (v : Seq ℕ × Field → TypedValue) (ps : Seq (Seq ℕ × Field)) (i : ℕ) (d : Seq ℕ × Field) → i < length ps → AreRising ps → IsAbove (get_or ps i d).0 (over (λ f. (f.0, v f)) (take i ps))
+above_at v [] i d h rising = absurd (omega arith)
+above_at v (p ∷ ps) zero d h rising = tt
+above_at v (p ∷ ps) (suc i) d h rising = (below_at p.0 ps i d (omega arith) rising.0, above_at v ps i d (omega arith) rising.1)
 
 -- the name of a field is above those of the fields before it
-pub above_before : (zeros : Shape → TypedValue) (types : TypeTable) (ps : Seq (Seq ℕ × Field)) (i : ℕ) (p : Seq ℕ × Field) → i < length ps → p ≡ get_or ps i p → AreRising ps → IsAbove p.0 (initial zeros types (take i ps))
-above_before zeros types ps i p h is rising = subst (λ (q : Seq ℕ × Field). IsAbove q.0 (initial zeros types (take i ps))) (sym is) (above_at zeros types ps i p h rising)
+pub above_before : (v : Seq ℕ × Field → TypedValue) (ps : Seq (Seq ℕ × Field)) (i : ℕ) (p : Seq ℕ × Field) → i < length ps → p ≡ get_or ps i p → AreRising ps → IsAbove p.0 (over (λ f. (f.0, v f)) (take i ps))
+above_before v ps i p h is rising = subst (λ (q : Seq ℕ × Field). IsAbove q.0 (over (λ f. (f.0, v f)) (take i ps))) (sym is) (above_at v ps i p h rising)

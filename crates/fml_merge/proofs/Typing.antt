@@ -22,7 +22,7 @@ use Rattle.fml_value.specs.HasType.{HasType, HaveType, AreKeys, AreEntries, AreF
 use Rattle.fml_value.specs.Kinds.{is_null, is_key, is_variant_of}
 use Rattle.fml_value.specs.Takes.{takes, takes_named, all_items}
 use Rattle.fml_value.specs.Typed.{TypedValue, truth, whole, absent, present, list, map, variant, object, TypedEntries, no_entries, entry, entries_of}
-use Rattle.fml_types.specs.Sound.{IsSoundTable, IsSoundType, AreSoundFields, unknown_key, unknown_name}
+use Rattle.fml_types.specs.Sound.{IsSoundTable, IsSoundType, IsSoundField, AreSoundFields, unknown_key, unknown_name}
 use Rattle.fml_value.proofs.OneValue.{all_found}
 use Rattle.fml_value.proofs.Taken.{of-object}
 use Rattle.fml_merge.specs.Overlay.{pairs_of, pairs_in, fields_of, held, inside, text_value, item_type, type_under, value_with, replaced, put, with_member, laid, items_laid, members_laid, overlay_with}
@@ -413,7 +413,7 @@ pub sound_fields : (types : TypeTable) → IsSoundTable types → (n : Seq ℕ) 
 sound_fields types table n o is = all_found (λ (d : ObjectDefinition). AreSoundFields types d.fields) n types.objects o table.fields is
 
 pub sound_field : (types : TypeTable) (fs : Seq (Seq ℕ × Field)) (name : Seq ℕ) (f : Field) → AreSoundFields types fs → found name fs ≡ Some f → IsSoundType types (shape_of f.field_type)
-sound_field types fs name f sound is = all_found (λ (g : Field). IsSoundType types (shape_of g.field_type)) name fs f sound is
+sound_field types fs name f sound is = let field = all_found (IsSoundField types) name fs f sound is in field.of_type
 
 pub sound_scope : (types : TypeTable) → IsSoundTable types → IsScope types (IsSoundType types)
 sound_scope types table = record {

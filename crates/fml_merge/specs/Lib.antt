@@ -4,4 +4,3 @@ pub mod Features
 pub mod Faults
 pub mod Merging
 pub mod Highest
-pub mod Trees

@@ -1,25 +1,47 @@
 -- How the entries of a value and the members of a tree are gone through side by side.
-use Rattle.std.specs.Prelude.{ℕ, Bool, false, List as Seq, [], ◌∷◌, Option as Maybe, Some, None, bytes_eq, if◌then◌else◌}
+use Rattle.std.specs.Prelude.{ℕ, suc, Bool, false, List as Seq, [], ◌∷◌, Option as Maybe, Some, None, option_map, bytes_eq, if◌then◌else◌}
 use Rattle.std.specs.Cmp.Lexicographic.{slice_cmp}
 use Rattle.std.specs.Ordering.{nat_cmp, is_lt}
 use Rattle.json_tree.specs.Json as json
 use Rattle.json_tree.specs.Json.{Json}
+use Rattle.fml_types.specs.Named.{found}
+use Rattle.fml_types.specs.Shape as shape
 use Rattle.fml_types.specs.Shape.{Shape}
 use Rattle.fml_types.specs.Shapes.{shape_of, key_of}
+use Rattle.fml_types.specs.declared.manifest.EnumDefinition.{EnumDefinition}
+use Rattle.fml_types.specs.declared.manifest.Field.{Field}
+use Rattle.fml_types.specs.declared.manifest.ObjectDefinition.{ObjectDefinition}
 use Rattle.fml_types.specs.declared.manifest.TypeTable.{TypeTable}
 use Rattle.fml_value.specs.Fits.{type_of_entry, type_of_field}
 use Rattle.fml_value.specs.Takes.{takes}
 use Rattle.fml_value.specs.Typed.{TypedValue, absent, present}
 use Rattle.fml_value.specs.TypedOf.{typed_of}
-use Rattle.fml_value.specs.declared.value.Value.{Value}
-use Rattle.fml_merge.specs.Overlay.{laid, with_member}
+use Rattle.fml_merge.specs.Overlay.{laid, with_member, overlay_with}
+use Rattle.fml_merge.specs.Zero.{zero_within}
+use Rattle.fml_merge.specs.declared.parts.Base.{Base}
+use Rattle.fml_merge.specs.declared.parts.Base.TheVariants as base
 use Rattle.fml_merge.specs.declared.parts.MemberTypes.{MemberTypes}
 use Rattle.fml_merge.specs.declared.parts.MemberTypes.TheVariants as member
 
 -- the value that a tree is laid over
-abbrev pub over_zero : (Shape → TypedValue) → Shape → Maybe Value → TypedValue
-over_zero zeros t None = zeros t
-over_zero zeros t (Some v) = typed_of v
+abbrev pub base_value : TypeTable → Shape → Base → TypedValue
+base_value types t (base.Made v) = typed_of v
+base_value types t (base.Zero levels) = zero_within types levels t
+
+-- the fields of the object of a name that is no enum's
+abbrev pub object_fields : Maybe EnumDefinition → Maybe ObjectDefinition → Maybe (Seq (Seq ℕ × Field))
+object_fields (Some e) o = None
+object_fields None o = option_map (λ (d : ObjectDefinition). d.fields) o
+
+-- the fields that the zero of a type has, with at most so many levels of objects
+abbrev pub zero_fields : TypeTable → Shape → ℕ → Maybe (Seq (Seq ℕ × Field))
+zero_fields types (shape.named n) (suc levels) = object_fields (found n types.enums) (found n types.objects)
+zero_fields types t levels = None
+
+-- a tree, where there is one that the type takes, laid over a value of it
+abbrev pub field_laid : (Shape → TypedValue) → TypeTable → Shape → TypedValue → Maybe Json → TypedValue
+field_laid zeros types t base None = base
+field_laid zeros types t base (Some x) = overlay_with zeros types t base x
 
 -- a tree laid over what an Option holds
 abbrev pub inside_laid : (Shape → TypedValue) → TypeTable → Shape → TypedValue → Json → TypedValue

@@ -7,7 +7,6 @@ ghost use Rattle.json_tree.specs.Tree.{json_of};
 ghost use Rattle.fml_merge.specs.Features as features;
 ghost use Rattle.fml_merge.specs.Features.{IsOfFeature, is_for};
 
-use crate::keeping::{fields_keep, table_keeps};
 use crate::laying::{initial, lay_members};
 use crate::overlays::MAX_LEVELS;
 use crate::parts::{MemberTypes, entries_in};
@@ -29,8 +28,6 @@ pub fn default_of(
     ensures value { IfOk result (λ v. typed_of v ≡ features.default_of manifest.now feature.now) }
     ensures typed { IfOk result (λ v. IsSoundManifest manifest.now → AreSoundFields manifest.now.types feature.now.variables → IsOfFeature manifest.now feature.now (typed_of v)) }
 {
-    table_keeps(&manifest.types);
-    fields_keep(&feature.variables);
     let mut value = Value::Object(initial(alloc, &manifest.types, MAX_LEVELS, &feature.variables)?);
     let entries = feature.defaults.as_slice();
     for entry in entries {
@@ -54,7 +51,6 @@ pub fn overlay_feature(
     ensures typed { IfOk result (λ v. IsSoundManifest manifest.now → AreSoundFields manifest.now.types feature.now.variables → IsOfFeature manifest.now feature.now (typed_of base) → IsOfFeature manifest.now feature.now (typed_of v)) }
 {
     patch.keeps();
-    table_keeps(&manifest.types);
     match patch {
         Tree::Object(members) => {
             let variables = MemberTypes::Fields(&feature.variables);

@@ -1,21 +1,26 @@
 // Trees laid over values, and the zeros that they need.
-ghost use Rattle.std.specs.Prelude.{◌≡◌, [], IfOk, map};
+ghost use Rattle.std.specs.Prelude.{◌≡◌, ◌≤◌, [], IfOk, map, option_map};
 ghost use Rattle.std.specs.Option.{ForSome, option_to_list};
+ghost use Rattle.fml_types.specs.Shape.{Shape};
 ghost use Rattle.fml_types.specs.Shapes.{shape_of};
-ghost use Rattle.fml_value.specs.Typed.{items_of};
+ghost use Rattle.fml_value.specs.Kinds.{is_object};
+ghost use Rattle.fml_value.specs.Typed.{TypedValue, items_of};
 ghost use Rattle.fml_value.specs.Typed as typed;
 ghost use Rattle.fml_value.specs.TypedOf.{typed_of, entry_of};
 ghost use Rattle.json_tree.specs.Json.{members_of};
 ghost use Rattle.json_tree.specs.Json as json;
 ghost use Rattle.json_tree.specs.Tree.{json_of};
+ghost use Rattle.fml_value.specs.Fits.{type_of_field};
 ghost use Rattle.fml_merge.specs.Overlay.{laid, items_laid, members_laid, type_under, value_with, pairs_in};
-ghost use Rattle.fml_merge.specs.Zero.{least, object_zero, initial, with_default};
+ghost use Rattle.fml_merge.specs.Highest.{zero_levels};
+ghost use Rattle.fml_merge.specs.Zero.{least, object_zero, initial, with_default, zero_within};
 ghost use Rattle.fml_merge.specs.Zero as zeros;
-ghost use Rattle.fml_merge.specs.Merging.{over_zero, inside_laid, types_of, member_laid};
+ghost use Rattle.fml_merge.specs.Merging.{base_value, inside_laid, types_of, member_laid, field_laid};
 
 use crate::moving::{move_below, push_entry, take_named};
 use crate::parts::{
-    MemberTypes, entries_in, held, item_type, text_value, type_of, types_in, value_with,
+    Base, MemberTypes, entries_in, held, item_type, text_value, type_of, types_in, value_with,
+    zero_fields,
 };
 use fml_types::{ByName, EnumDefinition, Field, FieldType, InnerType, TypeTable};
 use fml_value::{Entries, InnerValue, Value, Values, takes};
@@ -24,21 +29,21 @@ use sequences::Text;
 use std::alloc::{AllocError, Global};
 use std::collections::VecDeque;
 
-/// A tree that the type takes, laid over a value of the type, or over the zero of the type where
-/// there is no value. Zeros have at most so many levels of objects.
+/// A tree that the type takes, laid over a value of the type. Zeros have at most so many levels of
+/// objects.
 #[cycle(laying)]
 pub(crate) fn lay(
     alloc: Global,
     types: &TypeTable,
     levels: usize,
     of: &FieldType,
-    base: Option<Value>,
+    base: Base,
     tree: &Tree,
 ) -> Result<Value, AllocError>
-    ensures { let zeros = zeros.zero_within types.now levels in IfOk result (λ v. typed_of v ≡ laid zeros types.now (shape_of of.now) (over_zero zeros (shape_of of.now) base) (json_of tree.now)) }
+    ensures { let zeros = zeros.zero_within types.now levels in IfOk result (λ v. typed_of v ≡ laid zeros types.now (shape_of of.now) (base_value types.now (shape_of of.now) base) (json_of tree.now)) }
 {
     if let FieldType::Option(inner) = of {
-        return lay_inside(alloc, types, levels, inner, held(base), tree);
+        return lay_inside(alloc, types, levels, inner, held(base, levels), tree);
     }
     match tree {
         Tree::Null => Ok(Value::Absent),
@@ -64,10 +69,10 @@ fn lay_inside(
     types: &TypeTable,
     levels: usize,
     inner: &InnerType,
-    base: Option<Value>,
+    base: Base,
     tree: &Tree,
 ) -> Result<Value, AllocError>
-    ensures { let zeros = zeros.zero_within types.now levels in IfOk result (λ v. typed_of v ≡ inside_laid zeros types.now inner.now (over_zero zeros inner.now base) (json_of tree.now)) }
+    ensures { let zeros = zeros.zero_within types.now levels in IfOk result (λ v. typed_of v ≡ inside_laid zeros types.now inner.now (base_value types.now inner.now base) (json_of tree.now)) }
 {
     match tree {
         Tree::Null => Ok(Value::Absent),
@@ -93,7 +98,7 @@ fn lay_items(
     let trees = items.as_slice();
     let mut values = Values::new(alloc);
     for tree in trees {
-        values.push(lay(alloc, types, levels, of, None, tree)?)?;
+        values.push(lay(alloc, types, levels, of, Base::Zero(levels), tree)?)?;
     }
     Ok(values)
 }
@@ -105,31 +110,106 @@ fn lay_object(
     types: &TypeTable,
     levels: usize,
     of: &FieldType,
-    base: Option<Value>,
+    base: Base,
     members: &Members,
 ) -> Result<Value, AllocError>
-    ensures { let zeros = zeros.zero_within types.now levels in IfOk result (λ v. typed_of v ≡ value_with (shape_of of.now) (members_laid zeros types.now (type_under types.now (shape_of of.now)) (pairs_in (over_zero zeros (shape_of of.now) base)) (members_of members.now))) }
+    ensures { let zeros = zeros.zero_within types.now levels in IfOk result (λ v. typed_of v ≡ value_with (shape_of of.now) (members_laid zeros types.now (type_under types.now (shape_of of.now)) (pairs_in (base_value types.now (shape_of of.now) base)) (members_of members.now))) }
 {
-    let base = base_or_zero(alloc, types, levels, of, base)?;
-    let entries = entries_in(alloc, base);
-    let entries = lay_members(alloc, types, levels, types_in(types, of), entries, members)?;
+    let entries = match base {
+        Base::Made(value) => {
+            let entries = entries_in(alloc, value);
+            lay_members(alloc, types, levels, types_in(types, of), entries, members)?
+        }
+        Base::Zero(below) => lay_over_zero(alloc, types, levels, of, below, members)?,
+    };
     Ok(value_with(of, entries))
 }
 
-// The value that a tree is laid over.
+// The members laid over the zero of the type with at most so many levels of objects, of which only
+// what stays is made.
 #[cycle(laying)]
-fn base_or_zero(
+fn lay_over_zero(
     alloc: Global,
     types: &TypeTable,
     levels: usize,
     of: &FieldType,
-    base: Option<Value>,
-) -> Result<Value, AllocError>
-    ensures { let zeros = zeros.zero_within types.now levels in IfOk result (λ v. typed_of v ≡ over_zero zeros (shape_of of.now) base) }
+    zero_levels: usize,
+    members: &Members,
+) -> Result<Entries, AllocError>
+    ensures { IfOk result (λ es. es ≡ members_laid (zeros.zero_within types.now levels) types.now (type_under types.now (shape_of of.now)) (pairs_in (zeros.zero_within types.now zero_levels (shape_of of.now))) (members_of members.now)) }
 {
-    match base {
-        Some(base) => Ok(base),
-        None => zero_within(alloc, types, levels, of),
+    match zero_fields(types, of, zero_levels) {
+        Some(fields) => lay_fields(alloc, types, levels, fields, zero_levels - 1, members),
+        None => {
+            let entries = Entries::new(alloc);
+            lay_members(alloc, types, levels, types_in(types, of), entries, members)
+        }
+    }
+}
+
+// The members laid over the fields' initial values, whose zeros have at most so many levels of
+// objects.
+#[cycle(laying)]
+fn lay_fields(
+    alloc: Global,
+    types: &TypeTable,
+    levels: usize,
+    fields: &ByName<Field>,
+    field_levels: usize,
+    members: &Members,
+) -> Result<Entries, AllocError>
+    ensures { IfOk result (λ es. es ≡ members_laid (zeros.zero_within types.now levels) types.now (type_of_field fields.now) (initial (zeros.zero_within types.now field_levels) types.now fields.now) (members_of members.now)) }
+{
+    let _rising = members.as_slice();
+    let pairs = fields.as_slice();
+    let mut entries = Entries::new(alloc);
+    for (name, field) in pairs {
+        let tree = members.get(name.as_str());
+        let value = lay_field(alloc, types, levels, field, field_levels, tree)?;
+        entries.push(name.clone()?, value)?;
+    }
+    Ok(entries)
+}
+
+// The field's initial value, over which the tree is laid where there is one that its type takes.
+#[cycle(laying)]
+fn lay_field(
+    alloc: Global,
+    types: &TypeTable,
+    levels: usize,
+    field: &Field,
+    field_levels: usize,
+    tree: Option<&Tree>,
+) -> Result<Value, AllocError>
+    ensures { IfOk result (λ v. typed_of v ≡ field_laid (zeros.zero_within types.now levels) types.now (shape_of field.now.field_type) (with_default (zeros.zero_within types.now field_levels) types.now (shape_of field.now.field_type) field.now.default) (option_map (λ t. json_of t.now) tree.entry)) }
+{
+    match tree {
+        Some(tree) if takes(types, &field.field_type, tree) => {
+            let base = field_base(alloc, types, field, field_levels, tree)?;
+            lay(alloc, types, levels, &field.field_type, base, tree)
+        }
+        _ => with_default(alloc, types, field_levels, field),
+    }
+}
+
+// What the tree is laid over in the place of the field's initial value: that, where an object is
+// laid over a default, and else the zero of the type, of which the tree replaces what differs.
+#[cycle(laying)]
+fn field_base(
+    alloc: Global,
+    types: &TypeTable,
+    field: &Field,
+    field_levels: usize,
+    tree: &Tree,
+) -> Result<Base, AllocError>
+    ensures value { let t = shape_of field.now.field_type in IfOk result (λ b. (zeros : Shape → TypedValue) → laid zeros types.now t (base_value types.now t b) (json_of tree.now) ≡ laid zeros types.now t (with_default (zero_within types.now field_levels) types.now t field.now.default) (json_of tree.now)) }
+    ensures levels { IfOk result (λ b. zero_levels b ≤ field_levels) }
+{
+    if field.default.is_some() && is_object(tree) {
+        let value = with_default(alloc, types, field_levels, field)?;
+        Ok(Base::Made(value))
+    } else {
+        Ok(Base::Zero(field_levels))
     }
 }
 
@@ -182,11 +262,11 @@ fn lay_member(
     }
     match there {
         Some((name, base)) => {
-            let value = lay(alloc, types, levels, of, Some(base), tree)?;
+            let value = lay(alloc, types, levels, of, Base::Made(base), tree)?;
             Ok(Some((name, value)))
         }
         None => {
-            let value = lay(alloc, types, levels, of, None, tree)?;
+            let value = lay(alloc, types, levels, of, Base::Zero(levels), tree)?;
             Ok(Some((name.clone()?, value)))
         }
     }
@@ -269,10 +349,23 @@ fn with_default(
 {
     match &field.default {
         Some(tree) if takes(types, &field.field_type, tree) => {
-            lay(alloc, types, levels, &field.field_type, None, tree)
+            lay(
+                alloc,
+                types,
+                levels,
+                &field.field_type,
+                Base::Zero(levels),
+                tree,
+            )
         }
         _ => zero_within(alloc, types, levels, &field.field_type),
     }
+}
+
+fn is_object(tree: &Tree) -> bool
+    ensures { result ≡ is_object (json_of tree.now) }
+{
+    matches!(tree, Tree::Object(_))
 }
 
 fn empty_text(alloc: Global) -> Result<Value, AllocError>

@@ -6,7 +6,6 @@
 
 mod defaults;
 mod features;
-mod keeping;
 mod laying;
 mod moving;
 mod overlays;

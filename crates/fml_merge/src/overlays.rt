@@ -7,8 +7,8 @@ ghost use Rattle.fml_value.specs.TypedOf.{typed_of};
 ghost use Rattle.json_tree.specs.Tree.{json_of};
 ghost use Rattle.fml_merge.specs.Zero.{zero_of, overlay};
 
-use crate::keeping::table_keeps;
 use crate::laying::{lay, zero_within};
+use crate::parts::Base;
 use fml_types::{FieldType, TypeTable};
 use fml_value::{Value, takes};
 use json_tree::Tree;
@@ -27,7 +27,6 @@ pub fn zero(alloc: Global, types: &TypeTable, of: &FieldType) -> Result<Value, A
     ensures value { IfOk result (λ v. typed_of v ≡ zero_of types.now (shape_of of.now)) }
     ensures typed { IfOk result (λ v. IsSoundTable types.now → IsGrounded types.now → IsSoundType types.now (shape_of of.now) → HasType types.now (shape_of of.now) (typed_of v)) }
 {
-    table_keeps(types);
     zero_within(alloc, types, MAX_LEVELS, of)
 }
 
@@ -53,9 +52,8 @@ pub fn overlay(
     ensures typed { IfOk result (λ v. IsSoundTable types.now → IsGrounded types.now → IsSoundType types.now (shape_of of.now) → HasType types.now (shape_of of.now) (typed_of base) → HasType types.now (shape_of of.now) (typed_of v)) }
 {
     patch.keeps();
-    table_keeps(types);
     if takes(types, of, patch) {
-        lay(alloc, types, MAX_LEVELS, of, Some(base), patch)
+        lay(alloc, types, MAX_LEVELS, of, Base::Made(base), patch)
     } else {
         Ok(base)
     }

@@ -1,14 +1,18 @@
 // The parts of types and values.
 ghost use Rattle.std.specs.Prelude.{◌≡◌, ◌≤◌, ◌+◌, option_map};
+ghost use Rattle.fml_types.specs.Named.{found};
 ghost use Rattle.fml_types.specs.Shape as shape;
 ghost use Rattle.fml_types.specs.Shape.{Shape, height};
+ghost use Rattle.fml_types.specs.declared.manifest.TypeTable.{TypeTable};
 ghost use Rattle.fml_types.specs.Shapes.{shape_of};
 ghost use Rattle.fml_value.specs.Typed as typed;
 ghost use Rattle.fml_value.specs.Typed.{TypedValue};
 ghost use Rattle.fml_value.specs.TypedOf.{typed_of};
 ghost use Rattle.fml_merge.specs.Overlay as parts;
-ghost use Rattle.fml_merge.specs.Highest.{member_height, highest};
-ghost use Rattle.fml_merge.specs.Merging.{over_zero, types_of};
+ghost use Rattle.fml_merge.specs.Highest.{highest, member_height, zero_levels};
+ghost use Rattle.fml_merge.specs.Merging.{base_value, types_of};
+ghost use Rattle.fml_merge.specs.Merging as merging;
+ghost use Rattle.fml_merge.specs.Zero as zeros;
 
 use fml_types::{ByName, Field, FieldType, Key, TypeTable};
 use fml_value::{Entries, Value, is_key};
@@ -24,6 +28,15 @@ pub(crate) enum MemberTypes<'a> {
     Entries(&'a Key, &'a FieldType),
     /// The fields of an object, or the variables of a feature.
     Fields(&'a ByName<Field>),
+}
+
+/// What a tree is laid over.
+#[derive(Drop)]
+pub(crate) enum Base {
+    /// This value.
+    Made(Value),
+    /// The zero of the type with at most so many levels of objects, which isn't made.
+    Zero(usize),
 }
 
 /// The types of the names of a map or an object.
@@ -76,22 +89,41 @@ pub(crate) fn item_type(of: &FieldType) -> &FieldType
     }
 }
 
-/// The value that a value of an `Option` holds.
-pub(crate) fn held(base: Option<Value>) -> Option<Value>
-    ensures { (zeros : Shape → TypedValue) → (t : Shape) → zeros (shape.option t) ≡ typed.absent → over_zero zeros t result ≡ parts.held (over_zero zeros (shape.option t) base) (zeros t) }
+/// What a value of an `Option` holds, or else the zero of the type inside with so many levels.
+pub(crate) fn held(base: Base, levels: usize) -> Base
+    ensures value { (types : TypeTable) → (t : Shape) → base_value types t result ≡ parts.held (base_value types (shape.option t) base) (zeros.zero_within types levels t) }
+    ensures levels { zero_levels result ≤ levels }
 {
     match base {
-        None => None,
-        Some(value) => inner_value(value),
+        Base::Made(Value::Present(inner)) => Base::Made(inner.into_inner()),
+        _ => Base::Zero(levels),
     }
 }
 
-fn inner_value(value: Value) -> Option<Value>
-    ensures { (zeros : Shape → TypedValue) → (t : Shape) → over_zero zeros t result ≡ parts.held (typed_of value) (zeros t) }
+/// The fields that the zero of a type has, with at most so many levels of objects.
+pub(crate) fn zero_fields<'a>(
+    types: &'a TypeTable,
+    of: &FieldType,
+    levels: usize,
+) -> Option<&'a ByName<Field>>
+    ensures { option_map (λ fields. fields.now) result ≡ merging.zero_fields types.now (shape_of of.now) levels }
 {
-    match value {
-        Value::Present(inner) => Some(inner.into_inner()),
+    match of {
+        FieldType::Named(name) if levels > 0 => object_fields(types, name.as_str()),
         _ => None,
+    }
+}
+
+// The fields of the object of this name, unless the name is an enum's.
+fn object_fields<'a>(types: &'a TypeTable, name: &str) -> Option<&'a ByName<Field>>
+    ensures { option_map (λ fields. fields.now) result ≡ merging.object_fields (found name.now types.now.enums) (found name.now types.now.objects) }
+{
+    match types.enums.get(name) {
+        Some(_) => None,
+        None => match types.objects.get(name) {
+            Some(object) => Some(&object.fields),
+            None => None,
+        },
     }
 }
 

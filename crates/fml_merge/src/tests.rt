@@ -56,6 +56,18 @@ fn table(alloc: Global, card: &str) -> Result<TypeTable, Fail> {
 
 const CARD: &str = "next: Option<Card>\nside: Side\nsize: Int = 4\ntitle: Text";
 
+// That table with the object `Page` besides, which has cards with defaults of their own.
+fn table_of_pages(alloc: Global) -> Result<TypeTable, Fail> {
+    let mut types = table(alloc, CARD)?;
+    let fields = fields(
+        alloc,
+        "card: Card = {\"size\":7}\ncards: List<Card> = [{}]\ntitle: Text",
+    )?;
+    let name = Text::new(alloc, "Page")?;
+    holds(types.objects.insert(name, ObjectDefinition { fields })?)?;
+    Ok(types)
+}
+
 fn is_tree(alloc: Global, tree: &Tree, text: &str) -> Result<(), Fail> {
     let written = write(alloc, tree)?;
     holds(written.as_str() == text)
@@ -108,6 +120,21 @@ Map<String, Int> | {\"b\":1,\"d\":2} | {\"a\":3,\"b\":4,\"c\":\"x\",\"e\":5} | {
 Map<Side, Int> | zero | {\"left\":1,\"up\":2} | {\"left\":1}
 Card | zero | {\"next\":{\"side\":\"up\",\"title\":\"n\"},\"other\":1,\"size\":true,\"title\":\"t\"} | {\"next\":{\"next\":null,\"side\":\"left\",\"size\":4,\"title\":\"n\"},\"side\":\"left\",\"size\":4,\"title\":\"t\"}
 Card | zero | [] | {\"next\":null,\"side\":\"left\",\"size\":4,\"title\":\"\"}";
+    for row in rows.lines() {
+        is_row(alloc, &types, row)?;
+    }
+    Ok(())
+}
+
+#[test]
+fn objects_over_zeros(rt: HostRuntime) -> Result<(), Fail> {
+    let alloc = rt.alloc();
+    let types = table_of_pages(alloc)?;
+    let rows =
+        "List<Card> | [{\"next\":null,\"side\":\"right\",\"size\":1,\"title\":\"t\"}] | [{\"size\":5}] | [{\"next\":null,\"side\":\"left\",\"size\":5,\"title\":\"\"}]
+List<Page> | zero | [{\"card\":{\"title\":\"a\"},\"cards\":[]}] | [{\"card\":{\"next\":null,\"side\":\"left\",\"size\":7,\"title\":\"a\"},\"cards\":[],\"title\":\"\"}]
+List<Page> | zero | [{\"card\":3,\"title\":\"b\"}] | [{\"card\":{\"next\":null,\"side\":\"left\",\"size\":7,\"title\":\"\"},\"cards\":[{\"next\":null,\"side\":\"left\",\"size\":4,\"title\":\"\"}],\"title\":\"b\"}]
+Option<Page> | zero | {\"card\":{\"next\":{},\"size\":1},\"cards\":[]} | {\"card\":{\"next\":{\"next\":null,\"side\":\"left\",\"size\":4,\"title\":\"\"},\"side\":\"left\",\"size\":1,\"title\":\"\"},\"cards\":[],\"title\":\"\"}";
     for row in rows.lines() {
         is_row(alloc, &types, row)?;
     }

@@ -1,26 +1,31 @@
-use Rattle.std.proofs.Common.{◌≡◌, ◌+◌, ◌*◌, ◌<◌, ◌≤◌, ◌++◌, map, take, Some, Bor, IfOk, true, option_map, refl, sym, ap, ◌∙◌, subst, arith}
+use Rattle.std.proofs.Common.{◌≡◌, ℕ, ◌+◌, ◌*◌, ◌<◌, ◌≤◌, ◌++◌, List, [], ◌∷◌, map, take, Some, None, Bor, IfOk, true, option_map, sym, ap, ap₂, ◌∙◌, subst, arith}
 use Rattle.std.proofs.lemmas.List.{take_all}
 use Rattle.std.specs.Option.{option_to_list}
 use Rattle.std.proofs.Math.Nat.{mul-le-mul_left}
-use Rattle.json_tree.specs.Json.{depth, items_depth, members_depth, members_of, AreSoundMembers}
+use Rattle.json_tree.specs.Json.{depth, items_depth, members_depth, members_of, get_member, AreSoundMembers}
 use Rattle.json_tree.specs.Json as json
 use Rattle.json_tree.specs.Tree.{json_of, member_of}
+use Rattle.json_tree.specs.declared.tree.Tree.{Tree}
 use Rattle.json_tree.proofs.ToData.{depth_at, member_depth_at}
 use Rattle.fml_types.specs.Named.{IsAbove, AreRising, found}
 use Rattle.fml_types.specs.Shape as shape
 use Rattle.fml_types.specs.Shape.{Shape, height}
 use Rattle.fml_types.specs.Shapes.{shape_of}
+use Rattle.fml_types.specs.declared.manifest.Field.{Field}
 use Rattle.fml_types.specs.declared.manifest.ObjectDefinition.{ObjectDefinition}
 use Rattle.fml_types.specs.declared.field_type.FieldType.{FieldType}
 use Rattle.fml_value.specs.Takes.{takes}
-use Rattle.fml_value.specs.Typed.{items_of}
+use Rattle.fml_value.specs.Typed.{TypedValue, items_of}
 use Rattle.fml_value.specs.TypedOf.{typed_of, entry_of}
 use Rattle.fml_merge.specs.Overlay.{laid, items_laid, members_laid, pairs_in, value_with, type_under}
-use Rattle.fml_merge.specs.Zero.{zero_within, initial}
-use Rattle.fml_merge.specs.Merging.{over_zero, inside_laid, types_of, member_laid, lower, upper, named, unnamed}
-use Rattle.fml_merge.proofs.Measures.{step, field_weight, fields_weight, level, step_most, object_level, one_field, with_tree, some_weight, item_height, member_high, one_deeper, one_level}
+use Rattle.fml_merge.specs.Highest.{highest_type}
+use Rattle.fml_merge.specs.Zero.{zero_within, initial, with_default}
+use Rattle.fml_merge.specs.Merging.{base_value, field_laid, inside_laid, types_of, member_laid, zero_fields, lower, upper, named, unnamed}
+use Rattle.fml_merge.proofs.Measures.{step, field_weight, fields_weight, level, step_most, object_level, one_field, one_type, with_tree, some_weight, item_height, member_high, one_deeper, one_level}
+use Rattle.fml_merge.proofs.Fields.{depth_of, depth_under, each_laid, fields_laid, no_default, one_value_more, replaces, zero_has, zero_none, zero_object}
 use Rattle.fml_merge.proofs.Merge.{merge_turn, merge_end, laid_rising, left_rising, upper-map, unnamed-map}
 use Rattle.fml_merge.proofs.Pieces.{option_laid, laid_items, member_over, named_has, above_before}
+use Rattle.fml_merge.proofs.laying.+laying.Goals.{field_base-else-is_some-via-then-is_some+else-is_object, field_base-else-is_some-via-else-is_some, lay_object-in-Made+in_ok-entries-in-Made, lay_object-in-Zero+in_ok-entries-in-Zero}
 use Rattle.fml_merge.proofs.laying.+laying.Goals as goal
 
 -- ---- zeros
@@ -40,7 +45,7 @@ initial-push-requires t c =
     let zeros = zero_within c.args.types.now c.args.levels in
     let pairs = c.as_slice-pairs.result.now in
     let rising = subst AreRising (sym c.as_slice-pairs.ensures.pairs) c.as_slice-pairs.ensures.rising in
-    let above = above_before zeros c.args.types.now pairs c.loop-name.name-index c.loop-name-item.result c.loop-name-test.true c.loop-name-item.is rising in
+    let above = above_before (λ f. with_default zeros c.args.types.now (shape_of f.1.field_type) f.1.default) pairs c.loop-name.name-index c.loop-name-item.result c.loop-name-test.true c.loop-name-item.is rising in
     subst (λ es. IsAbove c.in_ok-clone.field-0 es) (sym c.loop-name.invariant) (subst (λ k. IsAbove k (initial zeros c.args.types.now (take c.loop-name.name-index pairs))) (sym c.in_ok-clone.ensures.cases) above)
 
 pub object_zero-initial-requires : goal.object_zero-initial-requires
@@ -73,10 +78,10 @@ lay-returns-in-Option t c =
     let zeros = zero_within types c.args.levels in
     let inner = c.in-Option.inner in
     let x = json_of c.args.tree.now in
-    let base = over_zero zeros (shape.option inner) c.args.base in
-    let same : inside_laid zeros types inner (over_zero zeros inner c.held.result) x ≡ laid zeros types (shape_of c.args.of.now) (over_zero zeros (shape_of c.args.of.now) c.args.base) x =
-    ap (λ w. inside_laid zeros types inner w x) (c.held.ensures zeros inner refl) ∙ option_laid zeros types inner base x
-    ∙ ap (λ (o : FieldType). laid zeros types (shape_of o) (over_zero zeros (shape_of o) c.args.base) x) (sym c.in-Option.is) in
+    let base = base_value types (shape.option inner) c.args.base in
+    let same : inside_laid zeros types inner (base_value types inner c.held.result) x ≡ laid zeros types (shape_of c.args.of.now) (base_value types (shape_of c.args.of.now) c.args.base) x =
+    ap (λ w. inside_laid zeros types inner w x) (c.held.ensures.value types inner) ∙ option_laid zeros types inner base x
+    ∙ ap (λ (o : FieldType). laid zeros types (shape_of o) (base_value types (shape_of o) c.args.base) x) (sym c.in-Option.is) in
     subst (λ w. IfOk c.lay_inside.result (λ v. typed_of v ≡ w)) same c.lay_inside.ensures
 
 pub lay-lay_items-requires : goal.lay-lay_items-requires
@@ -118,13 +123,129 @@ lay_items-returns t c =
     ap items_of (c.loop-tree.invariant ∙ ap (map (λ u. laid zeros types s (zeros s) (json_of u))) (take_all c.loop-tree.tree-index trees c.loop-tree-test.false))
     ∙ laid_items zeros types s trees ∙ ap (λ xs. items_laid zeros types s (json.items_of xs)) c.as_slice-trees.ensures.items
 
--- ---- members
+-- ---- objects
 
-pub lay_object-lay_members-requires : goal.lay_object-lay_members-requires
-lay_object-lay_members-requires t c =
+pub lay_over_zero-lay_members-requires : goal.lay_over_zero-lay_members-requires
+lay_over_zero-lay_members-requires t c =
     let high = c.types_in.ensures.high in
     let h = c.decreases in
     (omega (arith, high), tt)
+
+pub lay_over_zero-returns-in-None : goal.lay_over_zero-returns-in-None
+lay_over_zero-returns-in-None t c =
+    let types = c.args.types.now in
+    let zeros = zero_within types c.args.levels in
+    let s = shape_of c.args.of.now in
+    let ms = members_of c.args.members.now in
+    let none : zero_fields types s c.args.zero_levels ≡ None = sym c.zero_fields.ensures ∙ ap (option_map (λ (fs : Bor (List (List ℕ × Field))). fs.now)) c.in-None.is in
+    let same : members_laid zeros types (types_of types c.types_in.result) c.new-entries.result ms ≡ members_laid zeros types (type_under types s) (pairs_in (zero_within types c.args.zero_levels s)) ms =
+    ap₂ (λ f es. members_laid zeros types f es ms) c.types_in.ensures.types (c.new-entries.ensures ∙ sym (zero_none types s c.args.zero_levels none)) in
+    subst (λ l. IfOk c.lay_members.result (λ es. es ≡ l)) same c.lay_members.ensures
+
+pub lay_over_zero-lay_fields-requires : goal.lay_over_zero-lay_fields-requires
+lay_over_zero-lay_fields-requires t c =
+    let types = c.args.types.now in
+    let s = shape_of c.args.of.now in
+    let some : zero_fields types s c.args.zero_levels ≡ Some c.in-Some.fields.now = sym c.zero_fields.ensures ∙ ap (option_map (λ (fs : Bor (List (List ℕ × Field))). fs.now)) c.in-Some.is in
+    let within = zero_object types s c.args.zero_levels c.in-Some.fields.now some in
+    let there = zero_has types s c.args.zero_levels c.in-Some.fields.now some in
+    let more = one_level (level types) c.args.zero_levels there.0 in
+    let h = c.decreases in
+    (omega (arith, within.0, within.1, more), tt)
+
+pub lay_over_zero-returns-in-Some : goal.lay_over_zero-returns-in-Some
+lay_over_zero-returns-in-Some t c =
+    let types = c.args.types.now in
+    let zeros = zero_within types c.args.levels in
+    let s = shape_of c.args.of.now in
+    let ms = members_of c.args.members.now in
+    let some : zero_fields types s c.args.zero_levels ≡ Some c.in-Some.fields.now = sym c.zero_fields.ensures ∙ ap (option_map (λ (fs : Bor (List (List ℕ × Field))). fs.now)) c.in-Some.is in
+    let there = zero_has types s c.args.zero_levels c.in-Some.fields.now some in
+    let same = sym (ap₂ (λ f es. members_laid zeros types f es ms) there.1 there.2) in
+    subst (λ l. IfOk c.lay_fields.result (λ es. es ≡ l)) same c.lay_fields.ensures
+
+-- ---- fields
+
+pub lay_fields-lay_field-requires : goal.lay_fields-lay_field-requires
+lay_fields-lay_field-requires t c =
+    let types = c.args.types.now in
+    let pairs = c.as_slice-pairs.result.now in
+    let f = c.loop-name-item.result in
+    let i = c.loop-name.name-index in
+    let ms = members_of c.args.members.now in
+    let heavy = subst (λ fs. field_weight types f.1 ≤ fields_weight types fs) c.as_slice-pairs.ensures.pairs (subst (λ y. field_weight types y.1 ≤ fields_weight types pairs) (sym c.loop-name-item.is) (one_field types pairs i f c.loop-name-test.true)) in
+    let high = subst (λ fs. height (shape_of f.1.field_type) ≤ highest_type fs) c.as_slice-pairs.ensures.pairs (subst (λ (y : List ℕ × Field). height (shape_of y.1.field_type) ≤ highest_type pairs) (sym c.loop-name-item.is) (one_type pairs i f c.loop-name-test.true)) in
+    let deep = subst (λ o. depth_of o ≤ members_depth ms) (sym c.get-tree.ensures) (depth_under c.as_str.result.now ms) in
+    let less = mul-le-mul_left (step types) deep in
+    let h = c.decreases in
+    (omega (arith, heavy, high, less), tt)
+
+pub lay_fields-push-requires : goal.lay_fields-push-requires
+lay_fields-push-requires t c =
+    let types = c.args.types.now in
+    let pairs = c.as_slice-pairs.result.now in
+    let zeros = zero_within types c.args.field_levels in
+    let ms = members_of c.args.members.now in
+    let first = λ (f : List ℕ × Field). with_default zeros types (shape_of f.1.field_type) f.1.default in
+    let value = λ (f : List ℕ × Field). field_laid (zero_within types c.args.levels) types (shape_of f.1.field_type) (first f) (get_member f.0 ms) in
+    let rising = subst AreRising (sym c.as_slice-pairs.ensures.pairs) c.as_slice-pairs.ensures.rising in
+    let above = above_before value pairs c.loop-name.name-index c.loop-name-item.result c.loop-name-test.true c.loop-name-item.is rising in
+    subst (λ es. IsAbove c.in_ok-clone.field-0 es) (sym c.loop-name.invariant) (subst (λ k. IsAbove k (map (λ f. (f.0, value f)) (take c.loop-name.name-index pairs))) (sym c.in_ok-clone.ensures.cases) above)
+
+pub lay_fields-returns : goal.lay_fields-returns
+lay_fields-returns t c =
+    let types = c.args.types.now in
+    let pairs = c.as_slice-pairs.result.now in
+    let fields = c.args.fields.now in
+    let zeros = zero_within types c.args.levels in
+    let ms = members_of c.args.members.now in
+    let first = λ (f : List ℕ × Field). with_default (zero_within types c.args.field_levels) types (shape_of f.1.field_type) f.1.default in
+    c.loop-name.invariant ∙ ap (each_laid zeros types first ms) (take_all c.loop-name.name-index pairs c.loop-name-test.false ∙ c.as_slice-pairs.ensures.pairs) ∙ sym (fields_laid zeros types ms first fields c.as_slice-pairs.ensures.rising c.as_slice-rising.ensures.sound)
+
+pub lay_field-field_base-requires : goal.lay_field-field_base-requires
+lay_field-field_base-requires t c = let h = c.decreases in (omega arith, tt)
+
+pub lay_field-lay-requires : goal.lay_field-lay-requires
+lay_field-lay-requires t c =
+    let types = c.args.types.now in
+    let x = json_of c.in-Some.tree.now in
+    let deep : step types * depth x ≡ step types * depth_of (option_map (λ (u : Bor Tree). json_of u.now) c.args.tree) = ap (λ o. step types * depth_of (option_map (λ (u : Bor Tree). json_of u.now) o)) (sym c.in-Some.is) in
+    let less = mul-le-mul_left (level types) c.in_ok-base-in-Some.ensures.levels in
+    let h = c.decreases in
+    (omega (arith, deep, less), tt)
+
+pub lay_field-with_default-requires : goal.lay_field-with_default-requires
+lay_field-with_default-requires t c = let h = c.decreases in (omega arith, tt)
+
+pub field_base-with_default-requires : goal.field_base-with_default-requires
+field_base-with_default-requires t c = let h = c.decreases in (omega arith, tt)
+
+pub field_base-returns-else-is_some-clause-value : goal.field_base-returns-else-is_some-clause-value
+field_base-returns-else-is_some-clause-value t c = λ zeros.
+    let types = c.args.types.now in
+    let s = shape_of c.args.field.now.field_type in
+    let x = json_of c.args.tree.now in
+    let below = zero_within types c.args.field_levels in
+    let default = c.args.field.now.default in
+    elim c.else-is_some.branch [
+      | field_base-else-is_some-via-then-is_some+else-is_object w ↦ replaces zeros types s x (below s) (with_default below types s default) (sym w.is_object.ensures ∙ w.if-is_object.false)
+      | field_base-else-is_some-via-else-is_some w ↦ ap (λ v. laid zeros types s v x) (sym (no_default below types s default (sym c.is_some.ensures ∙ w.if-is_some.false)))
+    ]
+
+pub lay_fields-loop-name-preserved : goal.lay_fields-loop-name-preserved
+lay_fields-loop-name-preserved t c =
+    let types = c.args.types.now in
+    let pairs = c.as_slice-pairs.result.now in
+    let f = c.loop-name-item.result in
+    let i = c.loop-name.name-index in
+    let ms = members_of c.args.members.now in
+    let zeros = zero_within types c.args.levels in
+    let below = zero_within types c.args.field_levels in
+    let value = λ (g : List ℕ × Field). field_laid zeros types (shape_of g.1.field_type) (with_default below types (shape_of g.1.field_type) g.1.default) (get_member g.0 ms) in
+    let here : typed_of c.in_ok-value.value ≡ value f =
+    c.in_ok-value.ensures ∙ ap (field_laid zeros types (shape_of f.1.field_type) (with_default below types (shape_of f.1.field_type) f.1.default)) (c.get-tree.ensures ∙ ap (λ k. get_member k ms) c.as_str.ensures.text) in
+    let entry : entry_of (c.in_ok-clone.field-0, c.in_ok-value.value) ≡ (f.0, value f) = ap₂ (λ (n : List ℕ) (v : TypedValue). (n, v)) c.in_ok-clone.ensures.cases here in
+    c.in_ok-push.ensures.ok ∙ ap₂ (λ es p. es ++ p ∷ []) c.loop-name.invariant entry ∙ one_value_more value pairs i f c.loop-name-test.true c.loop-name-item.is
 
 pub lay_object-returns : goal.lay_object-returns
 lay_object-returns t c =
@@ -132,8 +253,14 @@ lay_object-returns t c =
     let zeros = zero_within types c.args.levels in
     let s = shape_of c.args.of.now in
     let ms = members_of c.args.members.now in
-    c.value_with.ensures ∙ ap (value_with s) (c.in_ok-entries.ensures ∙ ap (λ f. members_laid zeros types f c.entries_in-entries.result ms) c.types_in.ensures.types
-    ∙ ap (λ es. members_laid zeros types (type_under types s) es ms) (c.entries_in-entries.ensures ∙ ap pairs_in c.in_ok-base.ensures))
+    let entries : c.match-base.entries ≡ members_laid zeros types (type_under types s) (pairs_in (base_value types s c.args.base)) ms = elim c.match-base.branch [
+      | lay_object-in-Made+in_ok-entries-in-Made w ↦ w.entries-is ∙ w.in_ok-entries-in-Made.ensures
+          ∙ ap₂ (λ f es. members_laid zeros types f es ms) w.types_in.ensures.types (w.entries_in-entries.ensures ∙ ap (λ b. pairs_in (base_value types s b)) (sym w.in-Made.is))
+      | lay_object-in-Zero+in_ok-entries-in-Zero w ↦ w.entries-is ∙ w.in_ok-entries-in-Zero.ensures ∙ ap (λ b. members_laid zeros types (type_under types s) (pairs_in (base_value types s b)) ms) (sym w.in-Zero.is)
+    ] in
+    c.value_with.ensures ∙ ap (value_with s) entries
+
+-- ---- members
 
 pub lay_member-lay-requires : goal.lay_member-lay-requires
 lay_member-lay-requires t c =

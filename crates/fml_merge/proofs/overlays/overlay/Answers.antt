@@ -15,4 +15,4 @@ returns-then-takes-clause-typed c =
     let types = c.args.types.now in
     let s = shape_of c.args.of.now in
     let x = json_of c.args.patch.now in
-    ok_weaker c.lay.result _ _ (λ v e table grounded sound base. let zeros = zeros_typed types table c.table_keeps.ensures (low_objects types grounded) in subst (HasType types s) (sym e) (laid_typed types (zero_of types) (IsSoundType types) (sound_scope types table) zeros x s (typed_of c.args.base) sound base c.keeps.ensures.sound (sym c.takes.ensures ∙ c.if-takes.true))) c.lay.ensures
+    ok_weaker c.lay.result _ _ (λ v e table grounded sound base. let zeros = zeros_typed types table (low_objects types grounded) in subst (HasType types s) (sym e) (laid_typed types (zero_of types) (IsSoundType types) (sound_scope types table) zeros x s (typed_of c.args.base) sound base c.keeps.ensures.sound (sym c.takes.ensures ∙ c.if-takes.true))) c.lay.ensures
