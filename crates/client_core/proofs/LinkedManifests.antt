@@ -1,8 +1,9 @@
 -- What the files of a manifest say keeps what a session's manifest keeps.
 use Rattle.std.proofs.Common.{Ordering, ◌≡◌, ◌||◌, ℕ, zero, suc, Bool, true, false, List, [], ◌∷◌, ◌++◌, length, Option, Some, None, Result, Ok, Err, Less, Equal, Greater, refl, subst}
-use Rattle.std.specs.Prelude.{All, slice_get, bytes_eq, if◌then◌else◌}
+use Rattle.std.specs.Prelude.{All, IfOk, IfSome, nat_le, nat_lt, slice_get, bytes_eq, if◌then◌else◌}
 use Rattle.std.specs.Ordering.{is_lt}
-use Rattle.json_tree.specs.Json.{Json}
+use Rattle.json_tree.specs.Bytes.{tree_of, max_depth}
+use Rattle.json_tree.specs.Json.{Json, IsSound, depth}
 use Rattle.recipe_reader.specs.Payloads.{slug_cmp}
 use Rattle.enrol_states.proofs.Ordered.{equal_texts, less_trans, turned_down, bytes_turned}
 use Rattle.fml_types.specs.Ground.{grounding}
@@ -16,7 +17,7 @@ use Rattle.fml_reader.specs.Modules.{module_of}
 use Rattle.fml_reader.specs.declared.fault.ModuleFault.{ModuleFault}
 use Rattle.fml_reader.specs.declared.fault.ModuleFault.TheVariants as read
 use Rattle.fml_reader.specs.declared.module.Module.{Module}
-use Rattle.fml_link.specs.Files.{max_files, file_tree, in_file, file_module, is_among, with_includes, with_file, listed, modules_of}
+use Rattle.fml_link.specs.Files.{max_bytes, max_files, shallow_tree, file_tree, in_file, file_module, is_among, with_includes, with_file, listed, modules_of}
 use Rattle.fml_link.specs.Linking.{manifest_with, unknown_of, all_known, all_grounded, root_channels, channel_known, defined, joined, linked}
 use Rattle.fml_link.specs.Outcome.{◌>>=◌, each}
 use Rattle.fml_link.specs.Sound.{IsReadModule}
@@ -28,6 +29,7 @@ use Rattle.fml_link.proofs.ReadModules.{module_read}
 use Rattle.fml_link.proofs.SoundManifests.{joined_sound}
 use Rattle.fml_merge.specs.Faults.{bad_default}
 use Rattle.client_core.specs.Manifests.{IsLinked, where_fits, checked, manifest_of}
+use Rattle.client_core.proofs.ReadFiles.{unless_deep, unless_large, value_sound}
 
 bind_ok : {A B : Type 0} (r : Result A LinkFault) (f : A → Result B LinkFault) (b : B) → (r >>= f) ≡ Ok b → (a : A) × (r ≡ Ok a) × (f a ≡ Ok b)
 bind_ok (Ok a) f b h = (a, refl, h)
@@ -35,15 +37,26 @@ bind_ok (Err e) f b h = absurd cc
 
 -- ---- each file is read
 
-module_in : (name : List ℕ) (x : Json) (found : Result Module ModuleFault) (m : Module) → module_of x ≡ found → in_file name found ≡ Ok m → IsReadModule m
-module_in name x (Ok n) m e h = let same : n ≡ m = cc in module_read x m (subst (λ (k : Module). module_of x ≡ Ok k) same e)
-module_in name x (Err (read.BadShape path)) m e h = absurd cc
-module_in name x (Err read.ImportsUnbuilt) m e h = absurd cc
-module_in name x (Err read.OutOfMemory) m e h = absurd cc
+shallow_sound : (name : List ℕ) (x : Option Json) → IfSome x IsSound → IfOk (shallow_tree name x) IsSound
+shallow_sound name None h = tt
+shallow_sound name (Some tree) h = unless_deep (nat_le (depth tree) max_depth) tree _ h
+
+tree_sound : (name : List ℕ) (file : Option (List ℕ)) → IfOk (file_tree name file) IsSound
+unfolding file_tree
+tree_sound name None = tt
+tree_sound name (Some bytes) = unless_large (nat_lt max_bytes (length bytes)) _ (shallow_tree name (tree_of bytes)) (shallow_sound name (tree_of bytes) (value_sound bytes (tree_of bytes) refl))
+
+module_in : (name : List ℕ) (x : Json) (found : Result Module ModuleFault) (m : Module) → IsSound x → module_of x ≡ found → in_file name found ≡ Ok m → IsReadModule m
+module_in name x (Ok n) m sound e h = let same : n ≡ m = cc in module_read x m sound (subst (λ (k : Module). module_of x ≡ Ok k) same e)
+module_in name x (Err (read.BadShape path)) m sound e h = absurd cc
+module_in name x (Err read.ImportsUnbuilt) m sound e h = absurd cc
+module_in name x (Err read.OutOfMemory) m sound e h = absurd cc
 
 file_read : (name : List ℕ) (file : Option (List ℕ)) (m : Module) → file_module name file ≡ Ok m → IsReadModule m
 unfolding file_module
-file_read name file m h = let x = bind_ok (file_tree name file) (λ x. in_file name (module_of x)) m h in module_in name x.0 (module_of x.0) m refl x.2
+file_read name file m h =
+    let x = bind_ok (file_tree name file) (λ x. in_file name (module_of x)) m h in
+    module_in name x.0 (module_of x.0) m (subst (λ (r : Result Json LinkFault). IfOk r IsSound) x.1 (tree_sound name file)) refl x.2
 
 with_file_read : (rest : List (List ℕ) → List Module → Result (List Module) LinkFault) → ((names : List (List ℕ)) (modules all : List Module) → All IsReadModule modules → rest names modules ≡ Ok all → All IsReadModule all)
     → (file : List ℕ → Option (List ℕ)) (names : List (List ℕ)) (modules all : List Module) (next : Option (List ℕ)) → All IsReadModule modules → with_file rest file names modules next ≡ Ok all → All IsReadModule all

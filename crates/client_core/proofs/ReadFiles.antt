@@ -4,14 +4,13 @@ use Rattle.std.specs.Prelude.{IfSome, IfOk, nat_lt, nat_le, if◌then◌else◌}
 use Rattle.json_reading.proofs.Reading.{values_read_are_sound}
 use Rattle.json_tree.specs.Json.{Json, depth, IsSound}
 use Rattle.json_tree.specs.Bytes.{tree_of, max_depth}
-use Rattle.client_core.specs.declared.answer.Answer.{Answer}
 use Rattle.client_core.specs.Fetching.{max_file, shallow_tree, file_tree}
 
-value_sound : (bytes : List ℕ) (x : Option Json) → tree_of bytes ≡ x → IfSome x IsSound
+pub value_sound : (bytes : List ℕ) (x : Option Json) → tree_of bytes ≡ x → IfSome x IsSound
 value_sound bytes None is = tt
 value_sound bytes (Some x) is = values_read_are_sound bytes x is
 
-unless_deep : (shallow : Bool) (tree : Json) (refusal : Answer) → IsSound tree → IfOk (if shallow then Ok tree else Err refusal) IsSound
+pub unless_deep : {E : Type 0} (shallow : Bool) (tree : Json) (refusal : E) → IsSound tree → IfOk (if shallow then Ok tree else Err refusal) IsSound
 unless_deep true tree refusal h = h
 unless_deep false tree refusal h = tt
 
@@ -19,7 +18,7 @@ shallow_sound : (name : List ℕ) (x : Option Json) → IfSome x IsSound → IfO
 shallow_sound name None h = tt
 shallow_sound name (Some tree) h = unless_deep (nat_le (depth tree) max_depth) tree _ h
 
-unless_large : (large : Bool) (refusal : Answer) (read : Result Json Answer) → IfOk read IsSound → IfOk (if large then Err refusal else read) IsSound
+pub unless_large : {E : Type 0} (large : Bool) (refusal : E) (read : Result Json E) → IfOk read IsSound → IfOk (if large then Err refusal else read) IsSound
 unless_large true refusal read h = tt
 unless_large false refusal read h = h
 

@@ -13,7 +13,7 @@ use Rattle.fml_link.specs.Linking.{linked}
 use Rattle.fml_link.specs.declared.fault.LinkFault.{LinkFault}
 use Rattle.fml_link.specs.declared.fault.LinkFault.TheVariants as link
 use Rattle.fml_merge.specs.Faults.{bad_default}
-use Rattle.feature_serving.specs.Serving.{served, HasFeatureType, HasTypedDefaults}
+use Rattle.feature_serving.specs.Serving.{served, HasFeatureType}
 use Rattle.feature_serving.proofs.Types.{served_typed}
 use Rattle.recipe_reader.specs.Payloads.{payload_of, recipe_with}
 use Rattle.recipe_reader.specs.declared.payload.Payload.{Payload}
@@ -40,7 +40,7 @@ use Rattle.client_core.specs.declared.session.Session.{Session}
 use Rattle.client_core.specs.Choosing.{first_taker}
 use Rattle.client_core.specs.Fetching.{max_file, shallow_tree, file_tree}
 use Rattle.client_core.specs.Manifests.{IsLinked, link_refusal, where_fits, checked, manifest_of}
-use Rattle.client_core.specs.ServedValues.{IsServed, ValuesAreServed, IsTyped, HasDefaults, ValuesHaveTypes}
+use Rattle.client_core.specs.ServedValues.{IsServed, ValuesAreServed, IsTyped, ValuesHaveTypes}
 use Rattle.client_core.specs.Settings.{Setting}
 use Rattle.client_core.specs.Soundness.{IsLawfulManifest}
 use Rattle.client_core.specs.Steps.{Outcome, Accepted, Refused, Step, participation, opting_out, taking, choosing, opting_in, resetting, showing, fetched, fetching, context_read, reading_context, setting_manifest, applying, valued, serving, done, step}
@@ -227,9 +227,8 @@ module _ (s : State) (session : Session) (name : List ℕ) (manifest : Manifest)
   serving_is = ap (λ (t : Tree). Accepted s session (Value t)) (tree_of_value tree (values.tree_of value) spelled) ∙ ap (valued s session) (sym serves) ∙ ap (serving s session name) (sym set)
 
 pub values_have_types : ValuesHaveTypes
-values_have_types at s session command tree lawful defaults sound is =
+values_have_types at s session command tree lawful sound is =
     let found = values_are_served at s session command tree is in
     let it = found.2 in
     let linked : IsLinked it.manifest = subst IsLawfulManifest it.set lawful in
-    let typed : HasTypedDefaults it.manifest = subst HasDefaults it.set defaults in
-    (found.0, found.1, record { served = it; typed = served_typed it.manifest s found.0 it.value linked.sound typed sound it.serves })
+    (found.0, found.1, record { served = it; typed = served_typed it.manifest s found.0 it.value linked.sound sound it.serves })

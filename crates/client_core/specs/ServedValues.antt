@@ -1,12 +1,12 @@
 -- Which values are answered, and with which type.
-use Rattle.std.specs.Prelude.{◌≡◌, ℕ, List, All, Option, Some, None}
+use Rattle.std.specs.Prelude.{◌≡◌, ℕ, List, All, Some}
 use Rattle.json_tree.specs.Tree.{json_of}
 use Rattle.json_tree.specs.declared.tree.Tree.{Tree}
 use Rattle.fml_types.specs.declared.manifest.Manifest.{Manifest}
 use Rattle.fml_value.specs.Trees.{tree_of}
 use Rattle.fml_value.specs.Typed.{TypedValue}
 use Rattle.feature_serving.specs.Laws.{HasSoundValues}
-use Rattle.feature_serving.specs.Serving.{served, HasFeatureType, HasTypedDefaults}
+use Rattle.feature_serving.specs.Serving.{served, HasFeatureType}
 use Rattle.enrol_states.specs.declared.state.State.{State}
 use Rattle.client_core.specs.declared.answer.Answer.{Answer}
 use Rattle.client_core.specs.declared.answer.Answer.TheVariants.{Value}
@@ -34,17 +34,12 @@ pub record IsServedWithType (s : State) (session : Session) (name : List ℕ) (t
   pub served : IsServed s session name tree
   pub typed : HasFeatureType served.manifest name served.value
 
--- the defaults of a manifest have their types
-abbrev pub HasDefaults : Option Manifest → Type 0
-HasDefaults None = Unit {0}
-HasDefaults (Some manifest) = HasTypedDefaults manifest
-
 -- where a feature is answered a value, that has its type
 abbrev pub IsTyped : State → Session → Command → Answer → Type 0
 IsTyped s session (Feature name) (Value tree) = IsServedWithType s session name tree
 IsTyped s session command answer = Unit {0}
 
--- each value that a step is answered has its type, where the manifest is lawful, its defaults have their types, and what the live recipes set is what the type of a tree keeps
+-- each value that a step is answered has its type, where the manifest is lawful, and what the live recipes set is what the type of a tree keeps
 abbrev pub ValuesHaveTypes : Type 0
-ValuesHaveTypes = (at : Setting) (s : State) (session : Session) (command : Command) (tree : Tree) → IsLawfulManifest session.manifest → HasDefaults session.manifest → All HasSoundValues s.live → (step at s session command).answer ≡ Value tree
+ValuesHaveTypes = (at : Setting) (s : State) (session : Session) (command : Command) (tree : Tree) → IsLawfulManifest session.manifest → All HasSoundValues s.live → (step at s session command).answer ≡ Value tree
     → (name : List ℕ) × (command ≡ Feature name) × IsServedWithType s session name tree

@@ -31,8 +31,8 @@ pub fn values_are_served()
     ensures { ValuesAreServed }
 {}
 
-/// That value has the type of the feature, where the manifest is lawful, its defaults have their types, and what the live
-/// recipes set is what the type of a tree keeps.
+/// That value has the type of the feature, where the manifest is lawful, and what the live recipes set is what the type of
+/// a tree keeps.
 pub fn values_have_types()
     ensures { ValuesHaveTypes }
 {}

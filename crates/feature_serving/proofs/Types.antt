@@ -1,14 +1,12 @@
 -- What is served of a feature has its type.
 use Rattle.std.proofs.Common.{◌≡◌, ℕ, Bool, true, false, List, [], ◌∷◌, Option, Some, None, refl, sym, ap, ◌∙◌, subst, IfSome}
 use Rattle.std.specs.Prelude.{All, find, fold, option_map, option_and_then, bytes_eq, if◌then◌else◌}
-use Rattle.json_tree.specs.Json as json
 use Rattle.fml_types.specs.Named.{found}
-use Rattle.fml_types.specs.Sound.{IsSoundManifest, IsSoundTable, IsSoundType, AreSoundFields}
-use Rattle.fml_value.specs.Typed.{TypedValue, object}
-use Rattle.fml_merge.specs.Zero.{zero_of, HasZeros}
+use Rattle.fml_types.specs.Sound.{IsSoundManifest, AreSoundEntries, AreSoundFields}
+use Rattle.fml_value.specs.Typed.{TypedValue}
 use Rattle.fml_merge.specs.Features.{default_of, overlay_feature, IsOfFeature}
-use Rattle.fml_merge.proofs.Typing.{fields_typed, sound_scope, sound_field}
-use Rattle.feature_serving.specs.Serving.{layers_laid, served_of, served, HasFeatureType, HasTypedDefaults}
+use Rattle.fml_merge.proofs.Variables.{default_typed, overlay_typed}
+use Rattle.feature_serving.specs.Serving.{layers_laid, served_of, served, HasFeatureType}
 use Rattle.feature_serving.proofs.Finding.{found_all}
 use Rattle.std.specs.List.{AllByRecursion, filter_map, cons_option}
 use Rattle.std.proofs.lemmas.List.Elements.{All-head, All-tail}
@@ -96,27 +94,19 @@ module _ (m : Manifest) (f : FeatureDefinition) (keeps : (v : TypedValue) (x : J
       let same : served_of m s name f ≡ v = (let h : Some (served_of m s name f) ≡ Some v = sym (ap (option_map (served_of m s name)) is) ∙ e in cc) in
       subst (λ w. IsOfFeature m f w) same (typed_laid (layers s name) (default_of m f) typed (sound_layers s name all))
 
-over_object : (m : Manifest) (f : FeatureDefinition) (v : TypedValue) (ms : json.Members) → IsSoundTable m.types → HasZeros m.types → AreSoundFields m.types f.variables → IsOfFeature m f v → json.AreSoundMembers ms
-    → IsOfFeature m f (overlay_feature m f v (json.object ms))
-over_object m f (object es) ms table zeros sound h members = fields_typed m.types (zero_of m.types) (IsSoundType m.types) (sound_scope m.types table) zeros f.variables es ms (λ name g is. sound_field m.types f.variables name g sound is) h members
-over_object m f v ms table zeros sound h members = absurd h
-
-overlay_typed : (m : Manifest) (f : FeatureDefinition) → IsSoundTable m.types → HasZeros m.types → AreSoundFields m.types f.variables → (v : TypedValue) (x : Json) → IsOfFeature m f v → IsSound x → IsOfFeature m f (overlay_feature m f v x)
-overlay_typed m f table zeros sound v (json.object ms) h members = over_object m f v ms table zeros sound h members
-overlay_typed m f table zeros sound v x h members = h
-
 -- ---- the served value
 
-defined : (m : Manifest) (s : State) (name : List ℕ) (v : TypedValue) (o : Option FeatureDefinition) → found name m.features ≡ o → served m s name ≡ Some v → IsSoundManifest m → HasTypedDefaults m → All HasSoundValues s.live → HasFeatureType m name v
+defined : (m : Manifest) (s : State) (name : List ℕ) (v : TypedValue) (o : Option FeatureDefinition) → found name m.features ≡ o → served m s name ≡ Some v → IsSoundManifest m → All HasSoundValues s.live → HasFeatureType m name v
 unfolding served
-defined m s name v None is e sound defaults all = absurd (let none : Some v ≡ None = sym e ∙ ap (option_map (served_of m s name)) is in cc)
-defined m s name v (Some f) is e sound defaults all =
+defined m s name v None is e sound all = absurd (let none : Some v ≡ None = sym e ∙ ap (option_map (served_of m s name)) is in cc)
+defined m s name v (Some f) is e sound all =
     let fields = found_all (λ (f : FeatureDefinition). AreSoundFields m.types f.variables) name m.features f sound.variables is in
+    let entries = found_all (λ (f : FeatureDefinition). AreSoundEntries f.defaults) name m.features f sound.defaults is in
     record {
       feature = f;
       defined = is;
-      typed = typed_served m f (overlay_typed m f sound.types defaults.zeros fields) s name v (defaults.defaults name f is) all is e;
+      typed = typed_served m f (overlay_typed m f sound fields) s name v (default_typed m f sound fields entries) all is e;
     }
 
-pub served_typed : (m : Manifest) (s : State) (name : List ℕ) (v : TypedValue) → IsSoundManifest m → HasTypedDefaults m → All HasSoundValues s.live → served m s name ≡ Some v → HasFeatureType m name v
-served_typed m s name v sound defaults all e = defined m s name v (found name m.features) refl e sound defaults all
+pub served_typed : (m : Manifest) (s : State) (name : List ℕ) (v : TypedValue) → IsSoundManifest m → All HasSoundValues s.live → served m s name ≡ Some v → HasFeatureType m name v
+served_typed m s name v sound all e = defined m s name v (found name m.features) refl e sound all

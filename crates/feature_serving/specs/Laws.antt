@@ -13,7 +13,7 @@ use Rattle.enrol_states.specs.Order.{Rise}
 use Rattle.enrol_states.specs.State.{slugs_of}
 use Rattle.enrol_states.specs.declared.state.State.{State}
 use Rattle.feature_serving.specs.Layers.{Layer, laid_by_rows, layer_cmp, layers}
-use Rattle.feature_serving.specs.Serving.{served, HasFeatureType, HasTypedDefaults}
+use Rattle.feature_serving.specs.Serving.{served, HasFeatureType}
 
 -- each layer goes before those after it, where the slugs of the rows rise
 abbrev pub AreInOrder : Type 0
@@ -31,6 +31,6 @@ IsOneOrder = (s : State) (feature : List ℕ) (ls : List Layer) → Rise (slugs_
 abbrev pub HasSoundValues : Recipe → Type 0
 HasSoundValues r = All (λ (b : Branch). All (λ (v : FeatureValue). IsSound (json_of v.value)) b.features) r.branches
 
--- what is served has the type of its feature, where the manifest is sound and what it and the live recipes lay is so
+-- what is served has the type of its feature, where the manifest is sound and so is what the live recipes set
 abbrev pub HaveTypes : Type 0
-HaveTypes = (m : Manifest) (s : State) (name : List ℕ) (v : TypedValue) → IsSoundManifest m → HasTypedDefaults m → All HasSoundValues s.live → served m s name ≡ Some v → HasFeatureType m name v
+HaveTypes = (m : Manifest) (s : State) (name : List ℕ) (v : TypedValue) → IsSoundManifest m → All HasSoundValues s.live → served m s name ≡ Some v → HasFeatureType m name v

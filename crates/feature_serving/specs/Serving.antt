@@ -7,7 +7,6 @@ use Rattle.fml_value.specs.Typed.{TypedValue}
 use Rattle.fml_value.specs.TypedOf.{typed_of}
 use Rattle.fml_value.specs.declared.value.Value.{Value}
 use Rattle.fml_merge.specs.Features.{default_of, overlay_feature, IsOfFeature}
-use Rattle.fml_merge.specs.Zero.{HasZeros}
 use Rattle.enrol_states.specs.declared.state.State.{State}
 use Rattle.feature_serving.specs.Layers.{Layer, layers}
 use Rattle.feature_serving.specs.declared.serving.ServeFault.{ServeFault}
@@ -30,11 +29,6 @@ pub record HasFeatureType (m : Manifest) (name : List ℕ) (v : TypedValue) : Ty
   pub feature : FeatureDefinition
   pub defined : found name m.features ≡ Some feature
   pub typed : IsOfFeature m feature v
-
--- the zeros of the manifest's types and the defaults of its features have their types
-pub record HasTypedDefaults (m : Manifest) : Type 0 where
-  pub zeros : HasZeros m.types
-  pub defaults : (name : List ℕ) (f : FeatureDefinition) → found name m.features ≡ Some f → IsOfFeature m f (default_of m f)
 
 -- want of memory is the one free answer
 abbrev pub GivesServed : Result Value ServeFault → Option TypedValue → Type 0

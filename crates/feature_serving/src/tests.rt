@@ -39,10 +39,11 @@ fn add_variable(
 ) -> Result<(), Fail>
     ensures { OnOk result ((types : Table) → IsSoundType types (shape_of field_type) → AreSoundFields types variables.old → AreSoundFields types variables.new) }
 {
-    let default = Some(read(alloc, default.as_bytes())?);
+    let default = read(alloc, default.as_bytes())?;
+    default.keeps();
     let field = Field {
         field_type,
-        default,
+        default: Some(default),
     };
     variables.insert(Text::new(alloc, name)?, field)?;
     Ok(())
