@@ -17,3 +17,4 @@ pub mod Enrolments
 pub mod Refusals
 pub mod Shorts
 pub mod RecordSums
+pub mod Tokens

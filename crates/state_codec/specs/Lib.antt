@@ -10,3 +10,4 @@ pub mod Laws
 pub mod Outcome
 pub mod Reading
 pub mod Lengths
+pub mod Tokens

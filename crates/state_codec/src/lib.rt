@@ -6,6 +6,7 @@ mod fault;
 mod laws;
 mod lengths;
 mod reading;
+mod record_text;
 mod rows;
 mod sections;
 mod size;
@@ -14,6 +15,7 @@ mod state_reading;
 mod status;
 mod status_reading;
 mod store_row;
+mod tree_text;
 mod values;
 mod writing;
 

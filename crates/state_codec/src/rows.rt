@@ -1,17 +1,20 @@
 // The rows of a state, in the order of their keys.
 ghost use Rattle.std.specs.Prelude.{◌≡◌, ◌++◌, ◌∷◌, [], map, codes, IfOk, OnOk};
 ghost use Rattle.json_tree.specs.Json.{IsSound};
+ghost use Rattle.recipe_reader.specs.Payloads.{AreValid};
 ghost use Rattle.recipe_reader.specs.Records.{record_json};
-ghost use Rattle.state_codec.specs.Spelling.{row, key_row, recipe_row, status_row, status_rows, last_rows, rows_of, recipe_text, pending_recipes, bit, hyphenated};
+ghost use Rattle.enrol_states.specs.Consistent.{IsConsistent};
+ghost use Rattle.state_codec.specs.Lengths.{HasShortBranches};
+ghost use Rattle.state_codec.specs.Spelling.{row, key_row, recipe_row, status_row, status_rows, last_rows, rows_of, pending_recipes, bit, hyphenated};
 ghost use Rattle.state_codec.specs.Spelling as spec;
 ghost use Rattle.state_codec.specs.Sound.{AreRecords, HaveRecords};
 
+use crate::record_text::recipe_text;
 use crate::status::{number, status_bytes};
 use crate::store_row::StoreRow;
 use enrol_states::{Row, State};
-use json_tree::write;
 use plain_text::Slug;
-use recipe_reader::{Recipe, Recipes, record_of};
+use recipe_reader::{Recipe, Recipes};
 use sequences::{Sequence, Text};
 use std::alloc::{AllocError, Global};
 use uuid::Uuid;
@@ -19,6 +22,7 @@ use uuid::Uuid;
 /// The rows of the state.
 #[tactic(auto, unfolding(crate::specs::Spelling::rows_of))]
 pub(crate) fn rows_of(alloc: Global, state: &State) -> Result<Sequence<StoreRow>, AllocError>
+    requires { IsConsistent state.now }
     ensures rows { IfOk result (λ rows. rows ≡ rows_of state.now) }
     ensures records { OnOk result (HaveRecords state.now) }
 {
@@ -88,6 +92,7 @@ fn put_recipes(
     tag: u8,
     recipes: &[Recipe],
 ) -> Result<(), AllocError>
+    requires { AreValid recipes.now }
     ensures rows { OnOk result (rows.new ≡ rows.old ++ map (recipe_row (tag ∷ [])) recipes.now) }
     ensures records { OnOk result (AreRecords recipes.now) }
 {
@@ -102,6 +107,7 @@ fn put_pending(
     rows: &mut Sequence<StoreRow>,
     pending: &Option<Recipes>,
 ) -> Result<(), AllocError>
+    requires { AreValid (pending_recipes pending.now) }
     ensures rows { OnOk result (rows.new ≡ rows.old ++ map (recipe_row (codes "n")) (pending_recipes pending.now)) }
     ensures records { OnOk result (AreRecords (pending_recipes pending.now)) }
 {
@@ -112,12 +118,13 @@ fn put_pending(
 }
 
 fn recipe_row(alloc: Global, tag: u8, recipe: &Recipe) -> Result<StoreRow, AllocError>
+    requires { HasShortBranches recipe.now }
     ensures row { IfOk result (λ r. r ≡ recipe_row (tag ∷ []) recipe.now) }
     ensures record { OnOk result (IsSound (record_json recipe.now)) }
 {
     let key = key_of(alloc, tag, recipe.slug.text())?;
-    let text = recipe_text(alloc, recipe)?;
-    row_of(alloc, key, text.as_str().as_bytes())
+    let value = recipe_text(alloc, recipe)?;
+    Ok(StoreRow { key, value })
 }
 
 fn put_client_rows(
@@ -165,17 +172,6 @@ fn key_of(alloc: Global, tag: u8, rest: &str) -> Result<Sequence<u8>, AllocError
     key.push(tag)?;
     key.extend_from_slice(rest.as_bytes())?;
     Ok(Sequence::from_vec(key))
-}
-
-/// The recipe's record, as compact JSON.
-#[tactic(auto, unfolding(crate::specs::Spelling::recipe_text))]
-fn recipe_text(alloc: Global, recipe: &Recipe) -> Result<Text, AllocError>
-    ensures text { IfOk result (λ text. text ≡ recipe_text recipe.now) }
-    ensures record { OnOk result (IsSound (record_json recipe.now)) }
-{
-    let record = record_of(alloc, recipe)?;
-    record.keeps();
-    write(alloc, &record)
 }
 
 /// The text of an id, in lower case and with hyphens (RFC 9562).
