@@ -1,0 +1,5 @@
+mod Drawing
+mod Rising
+mod RecordRoom
+mod FileRoom
+mod ManifestRoom

@@ -1,0 +1,5 @@
+pub mod Draws
+pub mod Records
+pub mod Files
+pub mod Parts
+pub mod Summary
