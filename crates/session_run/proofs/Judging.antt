@@ -4,6 +4,7 @@ use Rattle.session_run.specs.declared.status.RunStatus.{RunStatus}
 use Rattle.session_run.specs.declared.status.RunStatus.TheVariants.{Done, Usage, ScriptTooLong, NoStore, AlreadyStore, BadStore, StoreFull, SourceFault, ShelfFault, DiskFault, SayFault, OutOfMemory}
 use Rattle.client_core.specs.Store.{IsStore, IsAbsent, IsBad}
 use Rattle.session_run.specs.Finds.{RunFinds, InitFinds, EndedBefore, RunJudges, InitJudges}
+use Rattle.session_run.specs.DrillEnds.{DrillFinds}
 use Rattle.client_core.proofs.Refusing.{stands_not_absent}
 
 module _ (l r : List ℕ) where
@@ -104,3 +105,48 @@ module _ (l r : List ℕ) where
   init_complete StoreFull finds absent disk say = absurd finds
   init_complete SourceFault finds absent disk say = absurd finds
   init_complete ShelfFault finds absent disk say = absurd finds
+
+  drill_already_store : (status : RunStatus) → DrillFinds l r status → IsStore l r → (status ≡ AlreadyStore) ⊎ EndedBefore status
+  drill_already_store Done finds found = absurd (store_not_absent found finds)
+  drill_already_store StoreFull finds found = absurd (store_not_absent found finds)
+  drill_already_store SayFault finds found = absurd (store_not_absent found finds)
+  drill_already_store AlreadyStore finds found = inl refl
+  drill_already_store BadStore finds found = absurd (store_not_bad found finds)
+  drill_already_store DiskFault finds found = inr (inr (inr (inl refl)))
+  drill_already_store OutOfMemory finds found = inr (inr (inr (inr refl)))
+  drill_already_store Usage finds found = absurd finds
+  drill_already_store ScriptTooLong finds found = absurd finds
+  drill_already_store NoStore finds found = absurd finds
+  drill_already_store SourceFault finds found = absurd finds
+  drill_already_store ShelfFault finds found = absurd finds
+
+  drill_bad_store : (status : RunStatus) → DrillFinds l r status → IsBad l r → (status ≡ BadStore) ⊎ EndedBefore status
+  drill_bad_store Done finds bad = absurd (bad.found finds)
+  drill_bad_store StoreFull finds bad = absurd (bad.found finds)
+  drill_bad_store SayFault finds bad = absurd (bad.found finds)
+  drill_bad_store AlreadyStore finds bad = absurd (store_not_bad finds bad)
+  drill_bad_store BadStore finds bad = inl refl
+  drill_bad_store DiskFault finds bad = inr (inr (inr (inl refl)))
+  drill_bad_store OutOfMemory finds bad = inr (inr (inr (inr refl)))
+  drill_bad_store Usage finds bad = absurd finds
+  drill_bad_store ScriptTooLong finds bad = absurd finds
+  drill_bad_store NoStore finds bad = absurd finds
+  drill_bad_store SourceFault finds bad = absurd finds
+  drill_bad_store ShelfFault finds bad = absurd finds
+
+  pub drill_judges : (status : RunStatus) → DrillFinds l r status → InitJudges l r status
+  drill_judges status finds = record { already_store = drill_already_store status finds; bad_store = drill_bad_store status finds }
+
+  pub drill_complete : (status : RunStatus) → DrillFinds l r status → IsAbsent l r → (status ≡ DiskFault → ⊥) → (status ≡ SayFault → ⊥) → (status ≡ Done) ⊎ (status ≡ StoreFull) ⊎ (status ≡ OutOfMemory)
+  drill_complete Done finds absent disk say = inl refl
+  drill_complete StoreFull finds absent disk say = inr (inl refl)
+  drill_complete OutOfMemory finds absent disk say = inr (inr refl)
+  drill_complete SayFault finds absent disk say = absurd (say refl)
+  drill_complete AlreadyStore finds absent disk say = absurd (store_not_absent finds absent)
+  drill_complete BadStore finds absent disk say = absurd (finds.found absent)
+  drill_complete DiskFault finds absent disk say = absurd (disk refl)
+  drill_complete Usage finds absent disk say = absurd finds
+  drill_complete ScriptTooLong finds absent disk say = absurd finds
+  drill_complete NoStore finds absent disk say = absurd finds
+  drill_complete SourceFault finds absent disk say = absurd finds
+  drill_complete ShelfFault finds absent disk say = absurd finds

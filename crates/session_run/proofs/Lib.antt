@@ -1,7 +1,6 @@
 mod Beginning
 mod Chaining
 mod Ending
-mod Joining
 mod Judging
 mod Lining
 mod Opened
@@ -10,9 +9,11 @@ mod Placing
 mod Running
 mod Answering
 mod Stepping
-mod Within
 mod WordLists
 mod OptOuts
 mod Manifests
 mod Values
 mod Said
+mod Drilling
+mod DrillIds
+mod DrillScripts

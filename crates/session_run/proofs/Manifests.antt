@@ -33,8 +33,8 @@ use Rattle.client_core.specs.Manifests.{manifest_of}
 use Rattle.client_core.specs.Sessions.{with_manifest}
 use Rattle.client_core.specs.Settings.{Setting}
 use Rattle.client_core.specs.Steps.{Outcome, Accepted, Refused, Step, participation, opting_out, taking, choosing, opting_in, resetting, showing, fetched, fetching, context_read, reading_context, setting_manifest, applying, valued, serving, done, step}
-use Rattle.session_run.specs.declared.command.LineFault.{LineFault}
-use Rattle.session_run.specs.Commands.{command_of}
+use Rattle.client_words.specs.declared.command.LineFault.{LineFault}
+use Rattle.client_words.specs.Commands.{command_of}
 use Rattle.session_run.specs.Steps.{RunState, run_after, effect, run_at}
 use Rattle.session_run.specs.Values.{LineSets, IsSetLast}
 use Rattle.session_run.proofs.Running.{run-more}

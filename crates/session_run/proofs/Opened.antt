@@ -63,6 +63,11 @@ module _ {H : Type 0} (h : Ghosts H) (at : Setting) (start mid : H) (s t : State
       (subst (λ (x : State). h.said new ≡ h.said start ++ out at x lines (length lines)) known
       (subst (λ (m : ℕ). h.said new ≡ h.said start ++ out at t lines m) whole (subst (λ (u : List ℕ). h.said new ≡ u ++ out at t lines n) text said)))
 
+  pub state_after : (last : State) (n : ℕ) → n ≡ length lines → last ≡ after at t lines n → last ≡ after at s those (length those)
+  state_after last n whole is =
+      subst (λ (l : List (List ℕ)). last ≡ after at s l (length l)) lines_are
+      (subst (λ (x : State). last ≡ after at x lines (length lines)) known (subst (λ (m : ℕ). last ≡ after at t lines m) whole is))
+
   -- a line of those that changes the state from s changes it from t
   pub changes_there : (k : ℕ) → after at s those k ≢ after at s those (k + 1) → after at t lines k ≢ after at t lines (k + 1)
   changes_there k changed =

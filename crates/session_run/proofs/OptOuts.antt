@@ -17,8 +17,8 @@ use Rattle.client_core.specs.Store.{KeptFor}
 use Rattle.client_core.specs.declared.command.Command.{Command}
 use Rattle.client_core.specs.declared.command.Command.TheVariants.{OptOut}
 use Rattle.client_core.proofs.OptOuts.{opt_outs_hold}
-use Rattle.session_run.specs.declared.command.LineFault.{LineFault}
-use Rattle.session_run.specs.Commands.{command_of}
+use Rattle.client_words.specs.declared.command.LineFault.{LineFault}
+use Rattle.client_words.specs.Commands.{command_of}
 use Rattle.session_run.specs.Steps.{RunState, begun, run_after, effect, run_at, after}
 use Rattle.session_run.specs.OptOuts.{LineOptsOut, LineBringsBack, IsOutFrom, IsHeldOut, IsOut}
 use Rattle.session_run.proofs.Running.{run-more}

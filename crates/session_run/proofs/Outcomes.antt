@@ -11,12 +11,12 @@ use Rattle.client_core.specs.declared.session.Session.{Session}
 use Rattle.client_core.specs.OpenStore.{AllKept}
 use Rattle.client_core.specs.Settings.{Setting}
 use Rattle.client_core.specs.Steps.{step}
-use Rattle.session_run.specs.declared.command.LineFault.{LineFault}
-use Rattle.session_run.specs.declared.command.LineFault.TheVariants.{OutOfMemory}
+use Rattle.client_words.specs.declared.command.LineFault.{LineFault}
+use Rattle.client_words.specs.declared.command.LineFault.TheVariants.{OutOfMemory}
 use Rattle.session_run.specs.declared.faults.RunFault.{RunFault}
 use Rattle.session_run.specs.declared.faults.RunFault.TheVariants as run
-use Rattle.session_run.specs.Answers.{answer_lines, fault_answer}
-use Rattle.session_run.specs.Commands.{command_of}
+use Rattle.client_words.specs.Answers.{answer_lines, fault_answer}
+use Rattle.client_words.specs.Commands.{command_of}
 use Rattle.session_run.specs.Statuses.{of_step}
 use Rattle.session_run.specs.Steps.{RunState, left_by, effect, reply, run_after, answer}
 use Rattle.session_run.specs.Moments.{DuringLine}

@@ -8,7 +8,7 @@ use Rattle.std.proofs.Math.ListN.{get_or-map}
 use Rattle.enrol_states.specs.declared.state.State.{State}
 use Rattle.client_core.specs.Places.{place_after}
 use Rattle.client_core.specs.Settings.{Setting}
-use Rattle.session_run.specs.Commands.{part_at}
+use Rattle.client_words.specs.Commands.{part_at}
 use Rattle.session_run.specs.Steps.{RunState, begun, run_after, all_after, run_at}
 use Rattle.session_run.specs.Places.{all_places, IsFullAt, IsFullAtLine}
 

@@ -14,12 +14,12 @@ use Rattle.client_core.specs.ServedValues.{IsTyped}
 use Rattle.client_core.specs.Settings.{Setting}
 use Rattle.client_core.specs.Steps.{step}
 use Rattle.client_core.proofs.ServedValues.{values_are_served}
-use Rattle.session_run.specs.declared.command.LineFault.{LineFault}
-use Rattle.session_run.specs.declared.command.LineFault.TheVariants.{LineTooLong, Blank, UnknownCommand, BadWords, BadSlug, BadId, OutOfMemory}
+use Rattle.client_words.specs.declared.command.LineFault.{LineFault}
+use Rattle.client_words.specs.declared.command.LineFault.TheVariants.{LineTooLong, Blank, UnknownCommand, BadWords, BadSlug, BadId, OutOfMemory}
 use Rattle.session_run.specs.declared.faults.RunFault.{RunFault}
 use Rattle.session_run.specs.declared.faults.RunFault.TheVariants as run_fault
-use Rattle.session_run.specs.Answers.{answer_lines, fetched_lines, shown_lines, fault_answer}
-use Rattle.session_run.specs.Commands.{command_of}
+use Rattle.client_words.specs.Answers.{answer_lines, fetched_lines, shown_lines, fault_answer}
+use Rattle.client_words.specs.Commands.{command_of}
 use Rattle.session_run.specs.Statuses.{of_step}
 use Rattle.session_run.specs.Steps.{RunState, reply, answer}
 use Rattle.session_run.specs.Values.{value_line, IsTypedLine, IsAnswered}

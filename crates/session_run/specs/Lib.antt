@@ -1,6 +1,4 @@
-pub mod Answers
 pub mod Chains
-pub mod Commands
 pub mod Ends
 pub mod Finds
 pub mod Making
@@ -11,3 +9,5 @@ pub mod Steps
 pub mod Words
 pub mod OptOuts
 pub mod Values
+pub mod Drills
+pub mod DrillEnds

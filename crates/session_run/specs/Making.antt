@@ -2,7 +2,7 @@
 use Rattle.std.specs.Prelude.{◌≡◌, ◌⊎◌, ℕ, List, [], ◌∷◌, ◌++◌, take, codes}
 use Rattle.enrol_states.specs.declared.state.State.{State}
 use Rattle.client_core.specs.Store.{KeptFor}
-use Rattle.session_run.specs.Answers.{hyphenated}
+use Rattle.client_words.specs.Answers.{hyphenated}
 
 -- what is said of it
 unfoldable pub ready : List ℕ → List ℕ

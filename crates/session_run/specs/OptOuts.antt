@@ -10,7 +10,7 @@ use Rattle.client_core.specs.Steps.{step}
 use Rattle.client_core.specs.declared.answer.Answer.TheVariants.{Okay}
 use Rattle.client_core.specs.declared.command.Command.{Command}
 use Rattle.client_core.specs.declared.command.Command.TheVariants.{OptOut}
-use Rattle.session_run.specs.Commands.{command_of}
+use Rattle.client_words.specs.Commands.{command_of}
 use Rattle.session_run.specs.Steps.{RunState, run_at}
 
 -- the line is an `opt-out` of the slug that is answered `ok`

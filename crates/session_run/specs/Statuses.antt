@@ -1,5 +1,6 @@
 -- The exit number of each status, and the status of each fault.
-use Rattle.std.specs.Prelude.{ℕ}
+use Rattle.std.specs.Prelude.{ℕ, Result, Ok, Err}
+use Rattle.client_core.specs.declared.client.Client.{Client}
 use Rattle.client_core.specs.declared.faults.ClientFault.{ClientFault}
 use Rattle.client_core.specs.declared.faults.ClientFault.TheVariants as store
 use Rattle.client_core.specs.declared.faults.MakeFault.{MakeFault}
@@ -55,3 +56,8 @@ of_run run.StoreFull = StoreFull
 of_run run.DiskFault = DiskFault
 of_run run.SayFault = SayFault
 of_run run.OutOfMemory = OutOfMemory
+
+-- of a run that hands its client out where all was done
+abbrev pub status_of : Result Client RunStatus → RunStatus
+status_of (Ok client) = Done
+status_of (Err status) = status

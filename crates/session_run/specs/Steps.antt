@@ -7,9 +7,9 @@ use Rattle.client_core.specs.declared.session.Session.{Session}
 use Rattle.client_core.specs.Settings.{Setting}
 use Rattle.client_core.specs.Sessions.{no_session}
 use Rattle.client_core.specs.Steps.{Step, step}
-use Rattle.session_run.specs.declared.command.LineFault.{LineFault}
-use Rattle.session_run.specs.Commands.{command_of}
-use Rattle.session_run.specs.Answers.{answer_lines, fault_answer}
+use Rattle.client_words.specs.declared.command.LineFault.{LineFault}
+use Rattle.client_words.specs.Commands.{command_of}
+use Rattle.client_words.specs.Answers.{answer_lines, fault_answer}
 
 -- a run between two lines: the client's state, and the session
 pub record RunState : Type 0 where

@@ -11,17 +11,20 @@ ghost use Rattle.client_core.specs.Moments.{IsLeftAs};
 ghost use Rattle.client_core.specs.OpenStore.{AllKept, AllKeptAmong, AllStand};
 ghost use Rattle.client_core.specs.Settings.{setting};
 ghost use Rattle.client_core.specs.Store.{StandsFor, KeptFor, IsStore, IsAbsent};
-ghost use Rattle.session_run.specs.Commands.{lines_of};
+ghost use Rattle.client_words.specs.Commands.{lines_of};
 ghost use Rattle.session_run.specs.Steps.{answer, run_at, after, out};
 ghost use Rattle.session_run.specs.Moments.{AfterPrefix, AmongThenAfter};
 ghost use Rattle.session_run.specs.Making.{ready, DuringMaking};
+ghost use Rattle.session_run.specs.Drills.{drill_fresh, drill_setting, drill_lines};
+ghost use Rattle.session_run.specs.DrillEnds.{Drilled};
 ghost use Rattle.session_run.specs.OptOuts.{IsHeldOut, IsOut};
 ghost use Rattle.session_run.specs.Places.{IsFullAtLine};
 ghost use Rattle.session_run.specs.Ends.{RunEnds};
 ghost use Rattle.session_run.specs.Finds.{RunFinds, InitFinds, RunJudges, InitJudges};
 ghost use Rattle.session_run.specs.Values.{value_line, IsServedValue};
-ghost use Rattle.session_run.specs.Words.{IsRun, IsInit, IsInitOf, HasForm};
+ghost use Rattle.session_run.specs.Words.{IsRun, IsInit, IsInitOf, IsDrill, IsDrillOf, HasForm};
 
+use crate::drill::drill;
 use crate::making::init;
 use crate::run::run;
 use crate::status::RunStatus;
@@ -32,6 +35,9 @@ use std::alloc::Global;
 
 /// Does what the words ask for: `init ID` makes a store with that id and the moment `now`, in whole seconds since
 /// 1970, and says `ready ID`. `run` reads the source to its end, opens the store, and does and answers each line.
+/// `drill START N` makes a store as `init` does, with the id of a drill, then does and answers each line of the drill's
+/// script over its files, and then says the summary of the last state. It reads neither the source nor the shelf. START
+/// is from 0 to 18,446,744,073,709,551,615 and N from 1 to 2,000, each in decimal.
 ///
 /// The table has the standard transforms of targeting (`versionCompare`, `date`, `bucketSample`), in this order.
 ///
@@ -135,6 +141,20 @@ pub fn nimbus<S: Source, F: Shelf, H: Host>(
         → MeetsAll H.Host host.old host.new (IsLeftAs (H.said host.old) s) }
     ensures init_same { IsInit (map string_bytes words.now) → (source.new ≡ source.old) × (shelf.new ≡ shelf.old) }
 
+    // The drill. At each moment, at its end, and whatever it found: it makes its store, does the lines of its script over
+    // its files, and then says the summary of the last state. Where there is a store, each image at each moment is kept
+    // for its state, and nothing is said.
+    ensures drilled { (start count : ℕ) → IsDrillOf start count (map string_bytes words.now) → H.tells
+        → Drilled H.Host start count now host.old host.new result }
+    ensures drill_left { IsDrill (map string_bytes words.now) → H.tells → (s : State) → AllKept H.Host host.old s
+        → MeetsAll H.Host host.old host.new (IsLeftAs (H.said host.old) s) }
+    ensures drill_same { IsDrill (map string_bytes words.now) → (source.new ≡ source.old) × (shelf.new ≡ shelf.old) }
+    ensures drill_judges { IsDrill (map string_bytes words.now) → H.tells → InitJudges (H.reads host.old Side.Left) (H.reads host.old Side.Right) result }
+    ensures drill_opted_out { (start count k : ℕ) (slug l r : List ℕ) → k ≤ length drill_lines
+        → KeptFor l r (after (drill_setting start count now) (drill_fresh now) drill_lines k)
+        → IsHeldOut (drill_setting start count now) (drill_fresh now) drill_lines k slug
+        → IsOut (after (drill_setting start count now) (drill_fresh now) drill_lines k) slug }
+
     // What the pair was that it read, by its status, and which status each such pair has.
     ensures init_finds { IsInit (map string_bytes words.now) → H.tells → InitFinds (H.reads host.old Side.Left) (H.reads host.old Side.Right) result }
     ensures init_judges { IsInit (map string_bytes words.now) → H.tells → InitJudges (H.reads host.old Side.Left) (H.reads host.old Side.Right) result }
@@ -159,10 +179,14 @@ pub fn nimbus<S: Source, F: Shelf, H: Host>(
     ensures init_complete { IsInit (map string_bytes words.now) → H.tells → IsAbsent (H.reads host.old Side.Left) (H.reads host.old Side.Right)
         → ¬ Rose (H.disk_faults host.old) (H.disk_faults host.new) → ¬ Rose (H.say_faults host.old) (H.say_faults host.new)
         → (result ≡ RunStatus.Done) ⊎ (result ≡ RunStatus.OutOfMemory) }
+    ensures drill_complete { IsDrill (map string_bytes words.now) → H.tells → IsAbsent (H.reads host.old Side.Left) (H.reads host.old Side.Right)
+        → ¬ Rose (H.disk_faults host.old) (H.disk_faults host.new) → ¬ Rose (H.say_faults host.old) (H.say_faults host.new)
+        → (result ≡ RunStatus.Done) ⊎ (result ≡ RunStatus.StoreFull) ⊎ (result ≡ RunStatus.OutOfMemory) }
 {
     match read_words(words) {
         None => RunStatus::Usage,
         Some(Request::Init(id)) => init(alloc, id, now, host),
+        Some(Request::Drill(start, count)) => drill(alloc, host, start, count, now, table),
         Some(Request::Run) => run(alloc, source, shelf, host, now, table),
     }
 }

@@ -10,16 +10,16 @@ ghost use Rattle.client_core.specs.Clients.{state_of, session_of, end_of, IsOpen
 ghost use Rattle.client_core.specs.OpenStore.{AllKept, AllStand};
 ghost use Rattle.client_core.specs.Settings.{setting};
 ghost use Rattle.client_core.specs.Sessions.{no_session};
-ghost use Rattle.session_run.specs.Commands.{part_at, IsWithin};
+ghost use Rattle.client_words.specs.Commands.{part_at, IsWithin};
 ghost use Rattle.session_run.specs.Steps.{after, out};
 ghost use Rattle.session_run.specs.Moments.{AfterPrefix};
 ghost use Rattle.session_run.specs.Places.{IsFullAtLine};
 ghost use Rattle.session_run.specs.Ends.{LinesEnd};
 
-use crate::command::part;
 use crate::faults::RunFault;
 use crate::line::run_line;
 use client_core::Client;
+use client_words::part;
 use host_model::{Host, Shelf};
 use jexl_transforms::TransformTable;
 use std::alloc::Global;
@@ -50,6 +50,8 @@ pub(crate) fn run_lines<F: Shelf, H: Host>(
         → LinesEnd H.Host (setting F.Shelf shelf.old now) (state_of client.old) (map (part_at script.now) spans.now) (H.said host.old) host.new result }
 
     ensures stands { F.tells → OnOk result (H.tells → AllStand H.Host host.new (after (setting F.Shelf shelf.old now) (state_of client.old) (map (part_at script.now) spans.now) (length spans.now))) }
+    ensures state { F.tells → OnOk result
+        (state_of client.new ≡ after (setting F.Shelf shelf.old now) (state_of client.old) (map (part_at script.now) spans.now) (length spans.now)) }
     ensures said { F.tells → OnOk result (H.tells
         → H.said host.new ≡ H.said host.old ++ out (setting F.Shelf shelf.old now) (state_of client.old) (map (part_at script.now) spans.now) (length spans.now)) }
     ensures made { F.tells → OnOk result (H.tells → (k : ℕ) → k < length spans.now

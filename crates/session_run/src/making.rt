@@ -1,5 +1,5 @@
 // A store is made, and said to be ready.
-ghost use Rattle.std.specs.Prelude.{◌≡◌, ◌≢◌, ◌≤◌, ◌++◌, List, ℕ, IfOk};
+ghost use Rattle.std.specs.Prelude.{◌≡◌, ◌≢◌, ◌≤◌, ◌++◌, List, ℕ, IfOk, take};
 ghost use Rattle.host_model.specs.Causes.{Rose};
 ghost use Rattle.host_model.specs.Hosts.{MeetsAll};
 ghost use Rattle.enrol_states.specs.declared.state.State.{State};
@@ -10,9 +10,9 @@ ghost use Rattle.client_core.specs.Store.{IsAbsent};
 ghost use Rattle.session_run.specs.Making.{ready, DuringMaking};
 ghost use Rattle.session_run.specs.Finds.{InitFinds};
 
-use crate::answer::hyphenated;
 use crate::status::RunStatus;
 use client_core::Client;
+use client_words::hyphenated;
 use host_model::{Host, Side};
 use sequences::Text;
 use std::alloc::{AllocError, Global};
@@ -45,12 +45,16 @@ pub(crate) fn init<H: Host>(alloc: Global, id: [u8; 16], now: u64, host: &mut H)
     ensures done { result ≡ RunStatus.Done → H.tells
         → AllKept H.Host host.new (fresh id now) × (H.said host.new ≡ H.said host.old ++ ready id) }
     ensures say { result ≡ RunStatus.SayFault → H.tells → AllKept H.Host host.new (fresh id now) }
+    ensures say_part { result ≡ RunStatus.SayFault → H.tells → (n : ℕ) × (H.said host.new ≡ H.said host.old ++ take n (ready id)) }
+    ensures unsaid { result ≢ RunStatus.Done → result ≢ RunStatus.SayFault → H.tells → H.said host.new ≡ H.said host.old }
     ensures finds { H.tells → InitFinds (H.reads host.old Side.Left) (H.reads host.old Side.Right) result }
     ensures quiet { H.tells → (IsAbsent (H.reads host.old Side.Left) (H.reads host.old Side.Right) → ⊥)
         → (H.said host.new ≡ H.said host.old) × (H.written host.new ≡ H.written host.old) }
     ensures memory { result ≡ RunStatus.OutOfMemory → H.tells → (H.said host.new ≡ H.said host.old) × (H.written host.new ≡ H.written host.old) }
     ensures cause { result ≡ RunStatus.DiskFault → Rose (H.disk_faults host.old) (H.disk_faults host.new) }
     ensures say_cause { result ≡ RunStatus.SayFault → Rose (H.say_faults host.old) (H.say_faults host.new) }
+    ensures disk_faults { H.disk_faults host.old ≤ H.disk_faults host.new }
+    ensures say_faults { H.say_faults host.old ≤ H.say_faults host.new }
     ensures others { (result ≢ RunStatus.Usage) × (result ≢ RunStatus.ScriptTooLong) × (result ≢ RunStatus.SourceFault) × (result ≢ RunStatus.ShelfFault) }
 {
     let Ok(text) = ready(alloc, id) else {

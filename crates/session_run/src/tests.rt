@@ -1,6 +1,5 @@
 // Calls of the program over sides, a source and an output in memory. Each check is a small function of its own.
 use super::*;
-use client_core::Command;
 use host_model::{Choice, MemHost, MemShelf, MemSource, Side};
 use jexl_transforms::{
     Transform, TransformTable, bucket_transform, date_transform, version_transform,
@@ -8,6 +7,8 @@ use jexl_transforms::{
 use jexl_value::{Attributes, Value};
 use std::alloc::Global;
 use std::test::Fail;
+
+mod drills;
 
 const ID: &str = "5a8f0b1e-7c3d-4e2a-9b6c-0123456789ab";
 
@@ -190,7 +191,6 @@ fn no_store_and_usage(rt: HostRuntime) -> Result<(), Fail> {
     has_status(alloc, &["init"], RunStatus::Usage)?;
     has_status(alloc, &["init", "12"], RunStatus::Usage)?;
     has_status(alloc, &["run", "now"], RunStatus::Usage)?;
-    has_status(alloc, &["drill", "1", "2001"], RunStatus::Usage)?;
     has_status(
         alloc,
         &["init", "{5A8F0B1E-7C3D-4E2A-9B6C-0123456789AB}"],
@@ -226,8 +226,7 @@ fn first_run(rt: HostRuntime) -> Result<(), Fail> {
         alloc,
         b"participate\nparticipate yes no\n",
         b"refused BadWords\nrefused BadWords\n",
-    )?;
-    check(matches!(read_command(alloc, b" show"), Ok(Command::Show)))
+    )
 }
 
 // A script of this many bytes.

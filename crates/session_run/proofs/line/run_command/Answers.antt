@@ -8,7 +8,7 @@ use Rattle.client_core.specs.Prepared.{next_state, answer_in}
 use Rattle.client_core.specs.ServedValues.{IsTyped}
 use Rattle.client_core.specs.Settings.{setting}
 use Rattle.client_core.proofs.Holding.{all_kept}
-use Rattle.session_run.specs.Answers.{answer_lines}
+use Rattle.client_words.specs.Answers.{answer_lines}
 use Rattle.session_run.proofs.Outcomes.{on_ok, both_ok, always_ok, unwritten_met, unprepared_ends, unanswered_ends}
 use Rattle.session_run.proofs.Answering.{met_as, ends_as}
 use Rattle.session_run.proofs.Values.{unprepared, unwritten}

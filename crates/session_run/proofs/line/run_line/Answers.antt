@@ -5,9 +5,9 @@ use Rattle.client_core.specs.Places.{IsFullFor}
 use Rattle.client_core.specs.Settings.{setting}
 use Rattle.client_core.proofs.Placing.{place_same}
 use Rattle.enrol_states.specs.declared.state.State.{State}
-use Rattle.session_run.specs.declared.command.LineFault.{LineFault}
-use Rattle.session_run.specs.declared.command.LineFault.TheVariants.{OutOfMemory}
-use Rattle.session_run.specs.Commands.{command_of}
+use Rattle.client_words.specs.declared.command.LineFault.{LineFault}
+use Rattle.client_words.specs.declared.command.LineFault.TheVariants.{OutOfMemory}
+use Rattle.client_words.specs.Commands.{command_of}
 use Rattle.session_run.specs.Steps.{RunState, run_of, run_after, answer}
 use Rattle.session_run.proofs.Answering.{met_as, ends_as}
 use Rattle.session_run.proofs.Outcomes.{always_ok, on_ok, both_ok, run_same, read_ok, read_err, after-command, answer-command, after-fault, answer-fault}

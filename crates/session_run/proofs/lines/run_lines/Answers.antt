@@ -10,7 +10,7 @@ use Rattle.client_core.proofs.Holding.{all_kept, all_stand}
 use Rattle.enrol_states.specs.declared.state.State.{State}
 use Rattle.session_run.specs.declared.faults.RunFault.{RunFault}
 use Rattle.session_run.specs.declared.faults.RunFault.TheVariants.{StoreFull}
-use Rattle.session_run.specs.Commands.{part_at}
+use Rattle.client_words.specs.Commands.{part_at}
 use Rattle.session_run.specs.Steps.{RunState, run_of, after, out}
 use Rattle.session_run.specs.Moments.{AfterPrefix}
 use Rattle.session_run.specs.Ends.{LinesEnd}
@@ -160,6 +160,12 @@ returns-clause-stands g c shelf_tells tells =
     let whole : c.loop-span.span-index ≡ length c.args.spans.now = omega arith in
     subst (λ (n : ℕ). AllStand h c.loop-span.host (after (setting g.F.Shelf c.args.shelf.now c.args.now) (state_of c.args.client.now) (map (part_at c.args.script.now) c.args.spans.now) n)) whole
     (subst (AllStand h c.loop-span.host) (ap (λ (run : RunState). run.state) (inv.state shelf_tells)) (all_stand h client.journal c.loop-span.host client.state (inv.holds tells)))
+
+pub returns-clause-state : goal.returns-clause-state
+returns-clause-state g c shelf_tells =
+    let whole : c.loop-span.span-index ≡ length c.args.spans.now = omega arith in
+    subst (λ (n : ℕ). state_of c.loop-span.client ≡ after (setting g.F.Shelf c.args.shelf.now c.args.now) (state_of c.args.client.now) (map (part_at c.args.script.now) c.args.spans.now) n) whole
+    (ap (λ (run : RunState). run.state) (c.loop-span.invariant.state shelf_tells))
 
 pub returns-clause-made : goal.returns-clause-made
 returns-clause-made g c shelf_tells tells k below changed =

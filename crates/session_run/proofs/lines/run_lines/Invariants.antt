@@ -4,7 +4,7 @@ use Rattle.host_model.specs.Hosts.{MeetsAll}
 use Rattle.state_codec.specs.Sound.{IsSound}
 use Rattle.client_core.specs.Clients.{state_of, end_of, IsOpenOn, HasGateOn}
 use Rattle.client_core.specs.Settings.{setting}
-use Rattle.session_run.specs.Commands.{part_at}
+use Rattle.client_words.specs.Commands.{part_at}
 use Rattle.session_run.specs.Steps.{run_of, begun, run_at, after, out}
 use Rattle.session_run.specs.Moments.{AfterPrefix}
 use Rattle.session_run.specs.Places.{all_places, IsFullAtLine}

@@ -4,7 +4,7 @@ use Rattle.host_model.specs.declared.side.Side.TheVariants.{Left, Right}
 use Rattle.host_model.specs.Hosts.{MeetsAll}
 use Rattle.host_model.proofs.Meeting.{started, met_weaker}
 use Rattle.gate_journal.specs.Records.{place_of}
-use Rattle.session_run.specs.Commands.{lines_of}
+use Rattle.client_words.specs.Commands.{lines_of}
 use Rattle.session_run.specs.Steps.{after, out}
 use Rattle.client_core.specs.OpenStore.{AllKept, AllStand}
 use Rattle.client_core.specs.Settings.{setting}

@@ -1,0 +1,144 @@
+-- The text of an answer, each line of which ends with the byte 10.
+use Rattle.std.specs.Prelude.{ℕ, Bool, true, false, List, [], ◌∷◌, ◌++◌, codes, length, decimal}
+use Rattle.uuid.specs.Text.{hyphenated_text, lower}
+use Rattle.json_tree.specs.Json.{text}
+use Rattle.json_tree.specs.Bytes.{text_of}
+use Rattle.json_tree.specs.Tree.{json_of}
+use Rattle.app_context.specs.Keys.{name_of}
+use Rattle.recipe_reader.specs.declared.recipe.SkipReason.{SkipReason}
+use Rattle.recipe_reader.specs.declared.recipe.SkipReason.TheVariants as skip
+use Rattle.enrol_states.specs.declared.state.Row.{Row}
+use Rattle.enrol_states.specs.declared.status.Status.{Status}
+use Rattle.enrol_states.specs.declared.status.Status.TheVariants as status
+use Rattle.enrol_states.specs.declared.status.EnrolledReason.{EnrolledReason}
+use Rattle.enrol_states.specs.declared.status.EnrolledReason.TheVariants as enrolled
+use Rattle.enrol_states.specs.declared.status.NotEnrolledReason.{NotEnrolledReason}
+use Rattle.enrol_states.specs.declared.status.NotEnrolledReason.TheVariants as not_enrolled
+use Rattle.enrol_states.specs.declared.status.DisqualifiedReason.{DisqualifiedReason}
+use Rattle.enrol_states.specs.declared.status.DisqualifiedReason.TheVariants as disqualified
+use Rattle.enrol_states.specs.declared.status.ErrorCause.{ErrorCause}
+use Rattle.enrol_states.specs.declared.status.ErrorCause.TheVariants as error
+use Rattle.client_core.specs.declared.answer.Answer.{Answer}
+use Rattle.client_core.specs.declared.answer.Answer.TheVariants.{Okay, Fetched, Applied, Value, Shown, NoManifest, NoContext, AbsentFile, FileTooLarge, NotJson, BadContext, NoData, TooManyRecipes, BadShape, ImportsUnbuilt, TooManyFiles, DuplicateName, UnknownType, EndlessObject, ObjectTooLarge, UnknownChannel, BadDefault, UnknownFeature, OptedOutLimit, NotParticipating, NoSuchExperiment, NoSuchBranch, FeatureTaken, StateTooLarge}
+use Rattle.client_words.specs.declared.command.LineFault.{LineFault}
+use Rattle.client_words.specs.declared.command.LineFault.TheVariants.{LineTooLong, Blank, UnknownCommand, BadWords, BadSlug, BadId, OutOfMemory}
+
+-- the text of an id: in lower case, with hyphens
+unfoldable pub hyphenated : List ℕ → List ℕ
+hyphenated id = hyphenated_text lower id
+
+-- the name of a file, a path or a key, as canonical JSON
+unfoldable pub quoted : List ℕ → List ℕ
+quoted name = text_of (text name)
+
+abbrev pub yes_or_no : Bool → List ℕ
+yes_or_no true = codes "yes"
+yes_or_no false = codes "no"
+
+abbrev pub skip_name : SkipReason → List ℕ
+skip_name skip.NotAnObject = codes "NotAnObject"
+skip_name skip.BadSlug = codes "BadSlug"
+skip_name skip.BadSchema = codes "BadSchema"
+skip_name skip.BadField = codes "BadField"
+skip_name skip.BadBucket = codes "BadBucket"
+skip_name skip.BadBranches = codes "BadBranches"
+skip_name skip.Duplicate = codes "Duplicate"
+
+-- a record that was skipped, with its index and its reason
+unfoldable pub skipped_line : ℕ × SkipReason → List ℕ
+skipped_line (index, reason) = codes "skipped " ++ decimal index ++ codes " " ++ skip_name reason ++ 10 ∷ []
+
+-- a line for each item, one after the other
+abbrev pub lines_for : {A : Type 0} → (A → List ℕ) → List A → List ℕ
+lines_for line [] = []
+lines_for line (item ∷ items) = line item ++ lines_for line items
+
+abbrev pub out_line : List ℕ → List ℕ
+out_line slug = codes "out " ++ slug ++ 10 ∷ []
+
+abbrev pub enrolled_name : EnrolledReason → List ℕ
+enrolled_name enrolled.Qualified = codes "Qualified"
+enrolled_name enrolled.OptIn = codes "OptIn"
+
+abbrev pub not_enrolled_name : NotEnrolledReason → List ℕ
+not_enrolled_name not_enrolled.DifferentAppName = codes "DifferentAppName"
+not_enrolled_name not_enrolled.DifferentChannel = codes "DifferentChannel"
+not_enrolled_name not_enrolled.EnrollmentsPaused = codes "EnrollmentsPaused"
+not_enrolled_name not_enrolled.FeatureConflict = codes "FeatureConflict"
+not_enrolled_name not_enrolled.NotSelected = codes "NotSelected"
+not_enrolled_name not_enrolled.NotTargeted = codes "NotTargeted"
+not_enrolled_name not_enrolled.OptOut = codes "OptOut"
+
+abbrev pub disqualified_name : DisqualifiedReason → List ℕ
+disqualified_name disqualified.Error = codes "Error"
+disqualified_name disqualified.FeatureConflict = codes "FeatureConflict"
+disqualified_name disqualified.NotSelected = codes "NotSelected"
+disqualified_name disqualified.NotTargeted = codes "NotTargeted"
+disqualified_name disqualified.OptOut = codes "OptOut"
+
+abbrev pub cause_name : ErrorCause → List ℕ
+cause_name error.Unparsed = codes "Unparsed"
+cause_name error.Faulted = codes "Faulted"
+cause_name error.NotTruth = codes "NotTruth"
+cause_name error.NoUnit = codes "NoUnit"
+
+abbrev pub status_words : Status → List ℕ
+status_words (status.Enrolled reason branch) = codes "Enrolled " ++ enrolled_name reason ++ (codes " " ++ branch)
+status_words (status.NotEnrolled reason) = codes "NotEnrolled " ++ not_enrolled_name reason
+status_words (status.Disqualified reason branch) = codes "Disqualified " ++ disqualified_name reason ++ (codes " " ++ branch)
+status_words (status.WasEnrolled branch ended) = codes "WasEnrolled " ++ branch ++ (codes " " ++ decimal ended)
+status_words (status.Error cause) = codes "Error " ++ cause_name cause
+
+abbrev pub row_line : Row → List ℕ
+row_line row = row.slug ++ codes " " ++ status_words row.status ++ 10 ∷ []
+
+-- what `show` says
+unfoldable pub shown_lines : List ℕ → Bool → Bool → List (List ℕ) → List Row → List ℕ
+shown_lines id participating pending opted_out rows =
+    codes "id " ++ hyphenated id ++ codes "\nparticipating " ++ yes_or_no participating ++ codes "\npending " ++ yes_or_no pending ++ codes "\n" ++ lines_for out_line opted_out ++ lines_for row_line rows ++ codes "end\n"
+
+-- what `fetch` says
+unfoldable pub fetched_lines : ℕ → List (ℕ × SkipReason) → List ℕ
+fetched_lines kept skipped = codes "fetched " ++ decimal kept ++ codes " skipped " ++ decimal (length skipped) ++ codes "\n" ++ lines_for skipped_line skipped
+
+-- the answer to a command
+unfoldable pub answer_lines : Answer → List ℕ
+answer_lines Okay = codes "ok\n"
+answer_lines (Fetched kept skipped) = fetched_lines kept skipped
+answer_lines (Applied enrolled rows) = codes "applied " ++ decimal enrolled ++ codes " of " ++ decimal rows ++ 10 ∷ []
+answer_lines (Value tree) = codes "value " ++ text_of (json_of tree) ++ 10 ∷ []
+answer_lines (Shown id participating pending opted_out rows) = shown_lines id participating pending opted_out rows
+answer_lines NoManifest = codes "refused NoManifest\n"
+answer_lines NoContext = codes "refused NoContext\n"
+answer_lines (AbsentFile name) = codes "refused AbsentFile " ++ quoted name ++ 10 ∷ []
+answer_lines (FileTooLarge name len) = codes "refused FileTooLarge " ++ quoted name ++ codes " " ++ decimal len ++ 10 ∷ []
+answer_lines (NotJson name) = codes "refused NotJson " ++ quoted name ++ 10 ∷ []
+answer_lines (BadContext key) = codes "refused BadContext " ++ quoted (name_of key) ++ 10 ∷ []
+answer_lines NoData = codes "refused NoData\n"
+answer_lines (TooManyRecipes count) = codes "refused TooManyRecipes " ++ decimal count ++ 10 ∷ []
+answer_lines (BadShape name path) = codes "refused BadShape " ++ quoted name ++ codes " " ++ quoted path ++ 10 ∷ []
+answer_lines (ImportsUnbuilt name) = codes "refused ImportsUnbuilt " ++ quoted name ++ 10 ∷ []
+answer_lines TooManyFiles = codes "refused TooManyFiles\n"
+answer_lines (DuplicateName name) = codes "refused DuplicateName " ++ name ++ 10 ∷ []
+answer_lines (UnknownType name) = codes "refused UnknownType " ++ name ++ 10 ∷ []
+answer_lines (EndlessObject name) = codes "refused EndlessObject " ++ name ++ 10 ∷ []
+answer_lines (ObjectTooLarge name) = codes "refused ObjectTooLarge " ++ name ++ 10 ∷ []
+answer_lines UnknownChannel = codes "refused UnknownChannel\n"
+answer_lines (BadDefault owner path) = codes "refused BadDefault " ++ owner ++ codes " " ++ quoted path ++ 10 ∷ []
+answer_lines UnknownFeature = codes "refused UnknownFeature\n"
+answer_lines OptedOutLimit = codes "refused OptedOutLimit\n"
+answer_lines NotParticipating = codes "refused NotParticipating\n"
+answer_lines NoSuchExperiment = codes "refused NoSuchExperiment\n"
+answer_lines NoSuchBranch = codes "refused NoSuchBranch\n"
+answer_lines (FeatureTaken holder feature) = codes "refused FeatureTaken " ++ holder ++ codes " " ++ feature ++ 10 ∷ []
+answer_lines (StateTooLarge size) = codes "refused StateTooLarge " ++ decimal size ++ 10 ∷ []
+
+-- the answer to a line that has no command. A blank line has none, and want of memory ends the run without one
+abbrev pub fault_answer : LineFault → List ℕ
+fault_answer LineTooLong = codes "refused LineTooLong\n"
+fault_answer Blank = []
+fault_answer UnknownCommand = codes "refused UnknownCommand\n"
+fault_answer BadWords = codes "refused BadWords\n"
+fault_answer (BadSlug place) = codes "refused BadSlug " ++ decimal place ++ 10 ∷ []
+fault_answer BadId = codes "refused BadId\n"
+fault_answer OutOfMemory = []

@@ -1,0 +1,131 @@
+-- The lines of a script, and the command of a line.
+use Rattle.std.specs.Prelude.{ℕ, ◌≤◌, nat_lt, true, false, List, [], ◌∷◌, Option, None, Some, Result, Ok, Err, map, length, slice_range, bytes_eq, codes, if◌then◌else◌}
+use Rattle.std.specs.Str.{is_utf8}
+use Rattle.plain_text.specs.Names.{bad_place}
+use Rattle.plain_text.specs.Spans.{lines, words}
+use Rattle.uuid.specs.Text.{parsed}
+use Rattle.client_core.specs.declared.command.Command.{Command}
+use Rattle.client_core.specs.declared.command.Command.TheVariants.{Manifest, Context, Fetch, Apply, Participate, OptOut, OptIn, Reset, Show, Feature}
+use Rattle.client_words.specs.declared.command.LineFault.{LineFault}
+use Rattle.client_words.specs.declared.command.LineFault.TheVariants.{LineTooLong, Blank, UnknownCommand, BadWords, BadSlug, BadId}
+
+-- the bytes at a span
+abbrev pub part_at : List ℕ → ℕ × ℕ → List ℕ
+part_at text span = slice_range text span.0 span.1
+
+-- a span of a text of this length
+abbrev pub IsWithin : ℕ → ℕ × ℕ → Type 0
+IsWithin len span = (span.0 ≤ span.1) × (span.1 ≤ len)
+
+-- the lines of a script, without their ends
+unfoldable pub lines_of : List ℕ → List (List ℕ)
+lines_of script = map (part_at script) (lines script)
+
+-- the words of a line
+unfoldable pub words_of : List ℕ → List (List ℕ)
+words_of line = map (part_at line) (words line)
+
+-- what was read makes more, or it is refused
+infixl 10 ◌>>=◌
+abbrev pub ◌>>=◌ : {A B : Type 0} → Result A LineFault → (A → Result B LineFault) → Result B LineFault
+(Ok a) >>= f = f a
+(Err fault) >>= f = Err fault
+
+-- the name of a file, a channel or a feature, which is in UTF-8
+unfoldable pub text_in : List ℕ → Result (List ℕ) LineFault
+text_in word = if is_utf8 word then Ok word else Err BadWords
+
+abbrev pub unless_bad : List ℕ → Option ℕ → Result (List ℕ) LineFault
+unless_bad word None = Ok word
+unless_bad word (Some place) = Err (BadSlug place)
+
+-- a slug, or where the word fails to be one
+unfoldable pub slug_in : List ℕ → Result (List ℕ) LineFault
+slug_in word = unless_bad word (bad_place word)
+
+abbrev pub id_read : Option (List ℕ) → Result (List ℕ) LineFault
+id_read None = Err BadId
+id_read (Some id) = Ok id
+
+-- an id in one of its four text forms
+unfoldable pub id_in : List ℕ → Result (List ℕ) LineFault
+id_in word = id_read (parsed word)
+
+-- the words behind `manifest`: the name of the first file, and the channel
+abbrev pub manifest_file : List (List ℕ) → Result Command LineFault
+manifest_file [] = Err BadWords
+manifest_file (word ∷ []) = Err BadWords
+manifest_file (word ∷ next ∷ []) = text_in word >>= λ file. text_in next >>= λ channel. Ok (Manifest file channel)
+manifest_file (word ∷ next ∷ more ∷ rest) = Err BadWords
+
+-- the words behind `context`
+abbrev pub context_file : List (List ℕ) → Result Command LineFault
+context_file [] = Err BadWords
+context_file (word ∷ []) = text_in word >>= λ file. Ok (Context file)
+context_file (word ∷ next ∷ more) = Err BadWords
+
+-- the words behind `fetch`
+abbrev pub fetching : List (List ℕ) → Result Command LineFault
+fetching [] = Err BadWords
+fetching (word ∷ []) = text_in word >>= λ file. Ok (Fetch file)
+fetching (word ∷ next ∷ more) = Err BadWords
+
+-- the words behind a command that has none
+abbrev pub alone : Command → List (List ℕ) → Result Command LineFault
+alone command [] = Ok command
+alone command (word ∷ more) = Err BadWords
+
+-- the words behind `participate`
+abbrev pub participation : List (List ℕ) → Result Command LineFault
+participation [] = Err BadWords
+participation (word ∷ []) = if bytes_eq word (codes "yes") then Ok (Participate true) else (if bytes_eq word (codes "no") then Ok (Participate false) else Err BadWords)
+participation (word ∷ next ∷ more) = Err BadWords
+
+-- the words behind `opt-out`
+abbrev pub opting_out : List (List ℕ) → Result Command LineFault
+opting_out [] = Err BadWords
+opting_out (word ∷ []) = slug_in word >>= λ slug. Ok (OptOut slug)
+opting_out (word ∷ next ∷ more) = Err BadWords
+
+-- the words behind `opt-in`: the slug's place is told first
+abbrev pub opting_in : List (List ℕ) → Result Command LineFault
+opting_in [] = Err BadWords
+opting_in (word ∷ []) = Err BadWords
+opting_in (word ∷ next ∷ []) = slug_in word >>= λ slug. slug_in next >>= λ branch. Ok (OptIn slug branch)
+opting_in (word ∷ next ∷ more ∷ rest) = Err BadWords
+
+-- the words behind `reset`
+abbrev pub resetting : List (List ℕ) → Result Command LineFault
+resetting [] = Err BadWords
+resetting (word ∷ []) = id_in word >>= λ id. Ok (Reset id)
+resetting (word ∷ next ∷ more) = Err BadWords
+
+-- the words behind `feature`
+abbrev pub feature_name : List (List ℕ) → Result Command LineFault
+feature_name [] = Err BadWords
+feature_name (word ∷ []) = text_in word >>= λ name. Ok (Feature name)
+feature_name (word ∷ next ∷ more) = Err BadWords
+
+-- the command of this name, with the words behind it
+abbrev pub command_named : List ℕ → List (List ℕ) → Result Command LineFault
+command_named name arguments =
+    if bytes_eq name (codes "manifest") then manifest_file arguments
+    else if bytes_eq name (codes "context") then context_file arguments
+    else if bytes_eq name (codes "fetch") then fetching arguments
+    else if bytes_eq name (codes "apply") then alone Apply arguments
+    else if bytes_eq name (codes "participate") then participation arguments
+    else if bytes_eq name (codes "opt-out") then opting_out arguments
+    else if bytes_eq name (codes "opt-in") then opting_in arguments
+    else if bytes_eq name (codes "reset") then resetting arguments
+    else if bytes_eq name (codes "show") then alone Show arguments
+    else if bytes_eq name (codes "feature") then feature_name arguments
+    else Err UnknownCommand
+
+-- the command of these words
+abbrev pub command_of_words : List (List ℕ) → Result Command LineFault
+command_of_words [] = Err Blank
+command_of_words (name ∷ arguments) = command_named name arguments
+
+-- the command of a line, or the first fault that applies
+unfoldable pub command_of : List ℕ → Result Command LineFault
+command_of line = if nat_lt 4096 (length line) then Err LineTooLong else command_of_words (words_of line)

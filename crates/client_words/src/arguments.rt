@@ -1,0 +1,185 @@
+// The words behind the name of a command.
+ghost use Rattle.std.specs.Prelude.{◌≡◌, ◌⊎◌, List, ℕ, Err, All, map, length};
+ghost use Rattle.client_words.specs.Commands.{text_in, slug_in, id_in, manifest_file, context_file, fetching, feature_name, participation, opting_out, opting_in, resetting, part_at, IsWithin};
+ghost use Rattle.client_words.specs.Commands as spec;
+
+use crate::command::{LineFault, part};
+use client_core::Command;
+use plain_text::{Slug, SlugFault, slug_of};
+use sequences::Text;
+use std::alloc::Global;
+use std::str;
+use uuid::Uuid;
+
+/// The words behind `manifest`: the name of its first file, and the channel, both in UTF-8.
+pub(crate) fn manifest_file(
+    alloc: Global,
+    line: &[u8],
+    arguments: &[(usize, usize)],
+) -> Result<Command, LineFault>
+    requires { All (IsWithin (length line.now)) arguments.now }
+    ensures { (result ≡ manifest_file (map (part_at line.now) arguments.now)) ⊎ (result ≡ Err LineFault.OutOfMemory) }
+{
+    let [word, next] = arguments else {
+        return Err(LineFault::BadWords);
+    };
+    let file = text_in(alloc, part(line, *word))?;
+    let channel = text_in(alloc, part(line, *next))?;
+    Ok(Command::Manifest { file, channel })
+}
+
+/// The words behind `context`: the one name of a file, in UTF-8.
+pub(crate) fn context_file(
+    alloc: Global,
+    line: &[u8],
+    arguments: &[(usize, usize)],
+) -> Result<Command, LineFault>
+    requires { All (IsWithin (length line.now)) arguments.now }
+    ensures { (result ≡ context_file (map (part_at line.now) arguments.now)) ⊎ (result ≡ Err LineFault.OutOfMemory) }
+{
+    let [word] = arguments else {
+        return Err(LineFault::BadWords);
+    };
+    let file = text_in(alloc, part(line, *word))?;
+    Ok(Command::Context { file })
+}
+
+/// The words behind `fetch`: the one name of a file, in UTF-8.
+pub(crate) fn fetching(
+    alloc: Global,
+    line: &[u8],
+    arguments: &[(usize, usize)],
+) -> Result<Command, LineFault>
+    requires { All (IsWithin (length line.now)) arguments.now }
+    ensures { (result ≡ fetching (map (part_at line.now) arguments.now)) ⊎ (result ≡ Err LineFault.OutOfMemory) }
+{
+    let [word] = arguments else {
+        return Err(LineFault::BadWords);
+    };
+    let file = text_in(alloc, part(line, *word))?;
+    Ok(Command::Fetch { file })
+}
+
+/// A command that has no words behind it.
+pub(crate) fn alone(command: Command, arguments: &[(usize, usize)]) -> Result<Command, LineFault>
+    ensures { (line : List ℕ) → result ≡ spec.alone command (map (part_at line) arguments.now) }
+{
+    match arguments {
+        [] => Ok(command),
+        _ => Err(LineFault::BadWords),
+    }
+}
+
+/// The words behind `participate`: the one word `yes` or `no`.
+pub(crate) fn participation(line: &[u8], arguments: &[(usize, usize)]) -> Result<Command, LineFault>
+    requires { All (IsWithin (length line.now)) arguments.now }
+    ensures { result ≡ participation (map (part_at line.now) arguments.now) }
+{
+    let [word] = arguments else {
+        return Err(LineFault::BadWords);
+    };
+    let word = part(line, *word);
+    if word == b"yes".as_slice() {
+        Ok(Command::Participate { on: true })
+    } else if word == b"no".as_slice() {
+        Ok(Command::Participate { on: false })
+    } else {
+        Err(LineFault::BadWords)
+    }
+}
+
+/// The words behind `opt-out`: the one slug.
+pub(crate) fn opting_out(
+    alloc: Global,
+    line: &[u8],
+    arguments: &[(usize, usize)],
+) -> Result<Command, LineFault>
+    requires { All (IsWithin (length line.now)) arguments.now }
+    ensures { (result ≡ opting_out (map (part_at line.now) arguments.now)) ⊎ (result ≡ Err LineFault.OutOfMemory) }
+{
+    let [word] = arguments else {
+        return Err(LineFault::BadWords);
+    };
+    let slug = slug_in(alloc, part(line, *word))?;
+    Ok(Command::OptOut { slug })
+}
+
+/// The words behind `opt-in`: the slug, and the slug of a branch.
+pub(crate) fn opting_in(
+    alloc: Global,
+    line: &[u8],
+    arguments: &[(usize, usize)],
+) -> Result<Command, LineFault>
+    requires { All (IsWithin (length line.now)) arguments.now }
+    ensures { (result ≡ opting_in (map (part_at line.now) arguments.now)) ⊎ (result ≡ Err LineFault.OutOfMemory) }
+{
+    let [word, next] = arguments else {
+        return Err(LineFault::BadWords);
+    };
+    let slug = slug_in(alloc, part(line, *word))?;
+    let branch = slug_in(alloc, part(line, *next))?;
+    Ok(Command::OptIn { slug, branch })
+}
+
+/// The words behind `reset`: the one id.
+pub(crate) fn resetting(line: &[u8], arguments: &[(usize, usize)]) -> Result<Command, LineFault>
+    requires { All (IsWithin (length line.now)) arguments.now }
+    ensures { result ≡ resetting (map (part_at line.now) arguments.now) }
+{
+    let [word] = arguments else {
+        return Err(LineFault::BadWords);
+    };
+    let id = id_in(part(line, *word))?;
+    Ok(Command::Reset { id })
+}
+
+/// The words behind `feature`: the one name of a feature, in UTF-8.
+pub(crate) fn feature_name(
+    alloc: Global,
+    line: &[u8],
+    arguments: &[(usize, usize)],
+) -> Result<Command, LineFault>
+    requires { All (IsWithin (length line.now)) arguments.now }
+    ensures { (result ≡ feature_name (map (part_at line.now) arguments.now)) ⊎ (result ≡ Err LineFault.OutOfMemory) }
+{
+    let [word] = arguments else {
+        return Err(LineFault::BadWords);
+    };
+    let name = text_in(alloc, part(line, *word))?;
+    Ok(Command::Feature { name })
+}
+
+// ---- words
+
+/// The name of a file, a channel or a feature, where the word is in UTF-8.
+fn text_in(alloc: Global, word: &[u8]) -> Result<Text, LineFault>
+    ensures { (result ≡ text_in word.now) ⊎ (result ≡ Err LineFault.OutOfMemory) }
+{
+    match str::from_utf8(word) {
+        Ok(name) => Ok(Text::new(alloc, name)?),
+        Err(_) => Err(LineFault::BadWords),
+    }
+}
+
+/// The slug that the word is.
+#[tactic(auto, unfolding(crate::specs::Commands::slug_in))]
+fn slug_in(alloc: Global, word: &[u8]) -> Result<Slug, LineFault>
+    ensures { (result ≡ slug_in word.now) ⊎ (result ≡ Err LineFault.OutOfMemory) }
+{
+    match slug_of(alloc, word) {
+        Ok(slug) => Ok(slug),
+        Err(SlugFault::BadSlug(place)) => Err(LineFault::BadSlug(place)),
+        Err(SlugFault::OutOfMemory) => Err(LineFault::OutOfMemory),
+    }
+}
+
+/// The sixteen bytes of the id that the word is, in one of its four text forms (RFC 9562).
+#[tactic(auto, unfolding(crate::specs::Commands::id_in))]
+fn id_in(word: &[u8]) -> Result<[u8; 16], LineFault>
+    ensures { result ≡ id_in word.now }
+{
+    match Uuid::try_parse_ascii(word) {
+        Ok(id) => Ok(id.into_bytes()),
+        Err(_) => Err(LineFault::BadId),
+    }
+}
