@@ -11,29 +11,38 @@ pub(crate) enum Notice {
 const HELP: &str = "nimbus: an experiments client with a durable store
 
 usage:
-  nimbus init ID      makes a store for the client with this id, in the current folder
-  nimbus run          does the commands that stand on standard input, one on a line
-  nimbus --help       prints this text
-  nimbus --version    prints the version
+  nimbus init ID         makes a store for the client with this id, in the current folder
+  nimbus run             does the commands that stand on standard input, one on a line
+  nimbus drill START N   makes a store as init does, and does the commands of a drill over N recipes,
+                         from 1 to 2000; START is from 0 to 2^64 - 1
+  nimbus --help          prints this text
+  nimbus --version       prints the version
 
 commands of `nimbus run`:
-  participate yes|no  whether the client takes part in experiments
-  fetch FILE          takes the recipes of this file of the folder, for a later apply
-  show                prints the state
+  manifest FILE CHANNEL  takes the manifest of this file of the folder, for this channel
+  context FILE           takes the context of this file: the application, its version and place
+  fetch FILE             takes the recipes of this file, for a later apply
+  apply                  makes the fetched recipes live, and each enrolment follows its recipe
+  participate yes|no     whether the client takes part in experiments
+  opt-out SLUG           opts the slug out, and ends its enrolment
+  opt-in SLUG BRANCH     enrols the client in this branch of the slug's recipe
+  reset ID               gives the client another id, with no rows and no opt-outs
+  feature NAME           prints the value that the feature has
+  show                   prints the state
 
 exit status:
-   0 Done             all was done and said
-   2 Usage            the words have none of these forms
-   3 ScriptTooLong    standard input gave more than 1048576 bytes
-   4 NoStore          there is no store in the current folder
-   5 AlreadyStore     there is a store already
-   6 BadStore         the files of the store stand for no state
-   7 StoreFull        the store has no room for a further record
-   8 SourceFault      standard input failed
-   9 ShelfFault       a file that a command names failed
-  10 DiskFault        a file of the store failed
-  11 SayFault         standard output failed
-  12 OutOfMemory      want of memory
+   0 Done                all was done and said
+   2 Usage               the words have none of these forms
+   3 ScriptTooLong       standard input gave more than 1048576 bytes
+   4 NoStore             there is no store in the current folder
+   5 AlreadyStore        there is a store already
+   6 BadStore            the files of the store stand for no state
+   7 StoreFull           the store has no room for a further record
+   8 SourceFault         standard input failed
+   9 ShelfFault          a file that a command names failed
+  10 DiskFault           a file of the store failed
+  11 SayFault            standard output failed
+  12 OutOfMemory         want of memory
 ";
 
 const VERSION: &str = "nimbus 0.1.0\n";

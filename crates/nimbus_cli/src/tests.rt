@@ -1,6 +1,7 @@
 ghost use Rattle.std.specs.Prelude.{◌≤◌, length};
 
 use crate::host::FolderHost;
+use crate::notice::Notice;
 use crate::shelf::FolderShelf;
 use crate::source::StdinSource;
 use host_model::{Host, Shelf, ShelfAnswer, Side, Source};
@@ -112,5 +113,39 @@ fn sides_are_files_of_the_folder(rt: HostRuntime) -> Result<(), Fail> {
     assert!(rt; host.sync(Side::Right).is_err());
     fs::remove_dir(&rt, "nimbus.right")?;
     fs::remove_file(&rt, "nimbus.left")?;
+    Ok(())
+}
+
+/// Forms of words, and commands of a script.
+const FORMS: &str = "nimbus init ID\n\
+    nimbus run\n\
+    nimbus drill START N\n\
+    nimbus --help\n\
+    nimbus --version\n\
+    manifest FILE CHANNEL\n\
+    context FILE\n\
+    fetch FILE\n\
+    apply\n\
+    participate yes|no\n\
+    opt-out SLUG\n\
+    opt-in SLUG BRANCH\n\
+    reset ID\n\
+    feature NAME\n\
+    show";
+
+// A line of the text begins with this.
+fn has_line(text: &str, front: &str) -> bool {
+    text.lines()
+        .any(|line| line.trim_start().starts_with(front))
+}
+
+#[test]
+fn help_tells_each_form_and_command(rt: HostRuntime) -> Result<(), Fail> {
+    let words = [String::from_str(rt.alloc(), "--help")?];
+    let help = Notice::of(&words).ok_or("no notice")?.text();
+    for form in FORMS.lines() {
+        assert!(rt; has_line(help, form), "at {form}");
+    }
+    assert!(rt; !has_line(help, "fly"));
     Ok(())
 }
