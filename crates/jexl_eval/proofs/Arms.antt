@@ -1,5 +1,5 @@
 -- The meaning of each node by that of its parts.
-use Rattle.std.proofs.Common.{◌≡◌, ℕ, Bool, true, false, List, [], ◌∷◌, Option, Some, None, Result, Ok, Err, refl, sym, ap, ◌∙◌, subst}
+use Rattle.std.proofs.Common.{◌≡◌, ℕ, Bool, true, false, List, [], Some, None, Result, Ok, Err, refl, sym, ap, ◌∙◌, subst}
 use Rattle.std.specs.Prelude.{not, if◌then◌else◌}
 use Rattle.json_tree.specs.Json.{Json, Members, Items, truth, list, object, items_of, members_of}
 use Rattle.jexl_parser.specs.declared.node.BinarySign.{BinarySign}

@@ -1,5 +1,5 @@
 -- What fails on the way fails the whole.
-use Rattle.std.proofs.Common.{◌≡◌, Result, Ok, Err, ap}
+use Rattle.std.proofs.Common.{Result, ap}
 use Rattle.jexl_eval.specs.declared.fault.EvalFault.{EvalFault}
 use Rattle.jexl_eval.specs.declared.fault.EvalFault.TheVariants as faults
 use Rattle.jexl_eval.specs.Faults.{Fault, ◌>>=◌}

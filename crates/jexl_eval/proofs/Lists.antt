@@ -1,10 +1,9 @@
 -- Lists and objects that are evaluated part by part, from the left.
-use Rattle.std.proofs.Common.{◌≡◌, ℕ, suc, ◌+◌, ◌<◌, ◌≤◌, Bool, true, false, List, [], ◌∷◌, ◌++◌, length, map, get_or, drop, Result, Ok, Err, refl, sym, ap, ◌∙◌, subst, append_assoc, append-nil}
+use Rattle.std.proofs.Common.{◌≡◌, ℕ, ◌+◌, ◌<◌, ◌≤◌, Bool, true, false, List, [], ◌∷◌, ◌++◌, length, map, get_or, drop, Result, Ok, Err, refl, sym, ap, ◌∙◌, subst, append_assoc, append-nil}
 use Rattle.std.proofs.lemmas.List.{drop_all}
 use Rattle.std.specs.Prelude.{if◌then◌else◌}
-use Rattle.json_tree.specs.Json.{Json, Members, list, object, Items, item, items_of, members_of}
+use Rattle.json_tree.specs.Json.{Json, Members, items_of}
 use Rattle.jexl_parser.specs.declared.node.Node.{Node}
-use Rattle.jexl_parser.specs.Tree.{Tree, Trees, Pairs, one_more, pair}
 use Rattle.jexl_parser.specs.View.{view, views, view_pairs}
 use Rattle.jexl_value.specs.Meaning.{is_truthy}
 use Rattle.jexl_value.specs.Names.{with_member}

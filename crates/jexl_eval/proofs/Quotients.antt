@@ -1,12 +1,12 @@
 -- Quotients rounded down beside those rounded toward 0.
-use Rattle.std.proofs.Common.{◌≡◌, ◌≢◌, ℕ, zero, suc, ◌+◌, ◌*◌, ◌/◌, ◌%◌, ◌<◌, ◌≤◌, ◌⊎◌, ℤ, ◌^◌, pos, negsuc, neg_ℤ, ◌-ℤ◌, Bool, true, false, Ok, FitsSigned, w64, refl, sym, ap, ◌∙◌, subst, arith, inl, inr}
+use Rattle.std.proofs.Common.{◌≡◌, ◌≢◌, ℕ, zero, suc, ◌+◌, ◌*◌, ◌/◌, ◌%◌, ◌<◌, ◌⊎◌, ℤ, ◌^◌, pos, negsuc, neg_ℤ, ◌-ℤ◌, Bool, true, false, Ok, FitsSigned, w64, refl, sym, ap, ◌∙◌, subst, arith, inl, inr}
 use Rattle.std.proofs.lemmas.Bool.{cases_lt, lt-ltb, le-ltb, true≢false}
 use Rattle.std.proofs.lemmas.Int.{ints}
 use Rattle.std.proofs.lemmas.Nat.{div-mul-add, div-add-mod'}
 use Rattle.std.proofs.Math.Nat.{div-le_self, div-eq_of_eq-mul_left, suc-mod, mod-eq_of_lt, mod-lt, mod_self}
 use mathlib.Core.Bool.{beq, not}
 use Rattle.std.specs.Prelude.{int_div, int_rem, int_lt}
-use Rattle.jexl_eval.specs.Numbers.{fits, in_range, floor, floor_quotient}
+use Rattle.jexl_eval.specs.Numbers.{fits, in_range, floor_quotient}
 
 -- where the number after a is a multiple of d, and where it isn't
 whole_div : (a d q r : ℕ) → q * d + r ≡ a → suc r ≡ d → suc a / d ≡ suc q

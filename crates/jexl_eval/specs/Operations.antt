@@ -1,5 +1,5 @@
 -- What an operator makes of two values.
-use Rattle.std.specs.Prelude.{ℤ, Bool, true, false, not, List, ◌++◌, Option, Some, None, Result, Ok, Err, if◌then◌else◌}
+use Rattle.std.specs.Prelude.{ℤ, Bool, true, false, not, ◌++◌, Option, Some, None, Result, Ok, Err, if◌then◌else◌}
 use Rattle.std.specs.declared.cmp.Ordering.{Ordering}
 use Rattle.std.specs.declared.cmp.Ordering.TheVariants as orders
 use Rattle.json_tree.specs.Json.{Json, null, truth, whole, text, list, Items, no_items}

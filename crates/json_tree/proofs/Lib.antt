@@ -1,5 +1,6 @@
 pub mod Growing
-pub mod Converting
+pub mod Inserting
+pub mod Turns
 pub mod OfData
 pub mod ToData
 pub mod Whole
@@ -7,3 +8,4 @@ pub mod RoundTrip
 pub mod Pairs
 pub mod Pairwise
 pub mod Searching
+pub mod Tokens

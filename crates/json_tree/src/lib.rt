@@ -14,7 +14,7 @@ pub use reading::{TreeFault, read};
 pub use rereading::reread;
 pub use sequences::Text;
 pub use tree::{Items, Members, Tree};
-pub use writing::write;
+pub use writing::{write, write_tree};
 
 #[cfg(test)]
 mod tests;

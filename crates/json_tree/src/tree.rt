@@ -163,6 +163,14 @@ impl Members {
     {
         self.members.as_slice()
     }
+
+    /// The keys and their values, in order. It takes no memory.
+    pub(crate) fn into_pairs(self) -> Vec<(Text, Tree)>
+        ensures members { map member_of result.items ≡ self }
+        ensures sound { AreSoundMembers (members_of self) }
+    {
+        self.members
+    }
 }
 
 impl Tree {

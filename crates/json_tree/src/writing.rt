@@ -1,14 +1,17 @@
-// Writing: a tree to its compact text.
-ghost use Rattle.std.specs.Prelude.{◌≡◌, ◌≤◌, Some, IfOk};
-ghost use Rattle.serde_json.specs.View.{view, items_view, members_view};
-ghost use Rattle.json_tree.specs.Json.{depth, items_of, members_of};
+// Writing: a tree to its compact text, token by token.
+ghost use Rattle.std.specs.Prelude.{◌≡◌, ◌≤◌, ◌++◌, Some, IfOk, OnOk, IsUtf8};
+ghost use Rattle.json_tree.specs.Json.{depth, list, object, items_of, members_of};
 ghost use Rattle.json_tree.specs.Tree.{json_of};
-ghost use Rattle.json_tree.specs.Bytes.{tree_of, text_of, to_data, to_items, to_members, max_depth};
+ghost use Rattle.json_tree.specs.Bytes.{tree_of, text_of, max_depth};
+ghost use Rattle.json_tree.specs.Tokens.{tokens_of};
 
 use crate::tree::{Items, Members, Tree};
+use json::Writer;
 use sequences::Text;
-use serde_json::{Map, Value};
 use std::alloc::{AllocError, Global};
+
+/// The bytes that memory is taken for at first.
+const ROOM: usize = 128;
 
 /// The tree's compact text, with no blank between its parts. `Odd` is spelled
 /// `18446744073709551615`, which is no `i64`, so that it reads back as `Odd`.
@@ -18,48 +21,63 @@ pub fn write(alloc: Global, tree: &Tree) -> Result<Text, AllocError>
         → tree_of s ≡ Some (json_of tree.now)) }
 {
     tree.keeps();
-    let value = value_of(alloc, tree)?;
-    let text = value.to_string(alloc)?;
-    Ok(Text::from_string(text))
+    let mut writer = Writer::new(Vec::with_capacity(alloc, ROOM)?);
+    write_tree(&mut writer, tree)?;
+    Ok(text_in(writer.into_inner()))
 }
 
-/// The tree as a value of `serde_json`.
-#[cycle(value_of)]
-fn value_of(alloc: Global, tree: &Tree) -> Result<Value, AllocError>
-    ensures { IfOk result (λ v. view v ≡ to_data (json_of tree.now)) }
+/// The bytes as a text.
+fn text_in(bytes: Vec<u8>) -> Text
+    requires { IsUtf8 bytes.items }
+    ensures { result ≡ bytes.items }
+{
+    match String::from_utf8(bytes) {
+        Ok(text) => Text::from_string(text),
+        Err(_) => unreachable!(),
+    }
+}
+
+/// Writes the tree's tokens behind those that the writer holds. The one error is want of memory,
+/// which leaves some of the tokens written.
+#[cycle(write_tree)]
+pub fn write_tree(writer: &mut Writer, tree: &Tree) -> Result<(), AllocError>
+    ensures before { writer.new.before ≡ writer.old.before }
+    ensures tokens { OnOk result (writer.new.tokens ≡ writer.old.tokens ++ tokens_of (json_of tree.now)) }
 {
     match tree {
-        Tree::Null => Ok(Value::Null),
-        Tree::Truth(truth) => Ok(Value::Bool(*truth)),
-        Tree::Whole(whole) => Ok(Value::from(*whole)),
-        Tree::Odd => Ok(Value::from(u64::MAX)),
-        Tree::Text(text) => Ok(Value::String(String::from_str(alloc, text.as_str())?)),
-        Tree::List(items) => Ok(Value::Array(values_of(alloc, items)?)),
-        Tree::Object(members) => Ok(Value::Object(map_of(alloc, members)?)),
+        Tree::Null => writer.null(),
+        Tree::Truth(truth) => writer.boolean(*truth),
+        Tree::Whole(whole) => writer.i64(*whole),
+        Tree::Odd => writer.u64(u64::MAX),
+        Tree::Text(text) => writer.string(text.as_str()),
+        Tree::List(items) => write_items(writer, items),
+        Tree::Object(members) => write_members(writer, members),
     }
 }
 
-#[cycle(value_of)]
-fn values_of(alloc: Global, items: &Items) -> Result<Vec<Value>, AllocError>
-    ensures { IfOk result (λ v. items_view v.items ≡ to_items (items_of items.now)) }
+#[cycle(write_tree)]
+fn write_items(writer: &mut Writer, items: &Items) -> Result<(), AllocError>
+    ensures before { writer.new.before ≡ writer.old.before }
+    ensures tokens { OnOk result (writer.new.tokens ≡ writer.old.tokens ++ tokens_of (list (items_of items.now))) }
 {
     let trees = items.as_slice();
-    let mut values = Vec::with_capacity(alloc, trees.len())?;
+    writer.begin_array()?;
     for tree in trees {
-        values.push(value_of(alloc, tree)?)?;
+        write_tree(writer, tree)?;
     }
-    Ok(values)
+    writer.end_array()
 }
 
-#[cycle(value_of)]
-fn map_of(alloc: Global, members: &Members) -> Result<Map<String, Value>, AllocError>
-    ensures { IfOk result (λ m. members_view m.entries ≡ to_members (members_of members.now)) }
+#[cycle(write_tree)]
+fn write_members(writer: &mut Writer, members: &Members) -> Result<(), AllocError>
+    ensures before { writer.new.before ≡ writer.old.before }
+    ensures tokens { OnOk result (writer.new.tokens ≡ writer.old.tokens ++ tokens_of (object (members_of members.now))) }
 {
     let pairs = members.as_slice();
-    let mut map = Map::new(alloc);
+    writer.begin_object()?;
     for (key, tree) in pairs {
-        let name = String::from_str(alloc, key.as_str())?;
-        drop(map.insert(name, value_of(alloc, tree)?)?);
+        writer.key(key.as_str())?;
+        write_tree(writer, tree)?;
     }
-    Ok(map)
+    writer.end_object()
 }

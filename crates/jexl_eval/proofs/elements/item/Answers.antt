@@ -1,4 +1,4 @@
-use Rattle.std.proofs.Common.{◌≡◌, FitsSigned, w64, Ok, sym, ap, subst, ◌∙◌}
+use Rattle.std.proofs.Common.{FitsSigned, w64, Ok, sym, ap, subst, ◌∙◌}
 use Rattle.std.proofs.lemmas.Int.{to_z-of_z}
 use Rattle.json_tree.specs.Json.{items_of}
 use Rattle.jexl_value.specs.Value.{as_json}

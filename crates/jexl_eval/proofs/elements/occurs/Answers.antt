@@ -1,4 +1,4 @@
-use Rattle.std.proofs.Common.{◌≡◌, ap, ap₂, ◌∙◌, ℕ, List, Bool}
+use Rattle.std.proofs.Common.{ap₂, ◌∙◌}
 use Rattle.jexl_eval.specs.Elements.{occurs}
 use Rattle.jexl_eval.proofs.Finding.{found}
 use Rattle.jexl_eval.proofs.elements.occurs.Goals as goal

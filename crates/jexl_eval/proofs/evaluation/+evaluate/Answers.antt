@@ -1,7 +1,7 @@
 use Rattle.std.proofs.Common.{◌≡◌, ◌+◌, [], Bool, Option, Some, None, Ok, refl, sym, ap, ap₂, ◌∙◌, subst, map, drop}
 use Rattle.std.specs.Vec.Iter.{into_iter_items}
 use Rattle.json_tree.specs.Json.{members_of, items_of, get_member}
-use Rattle.json_tree.proofs.Converting.{none_left}
+use Rattle.std.proofs.lemmas.List.{nil_from_length}
 use Rattle.jexl_parser.specs.Tree as trees
 use Rattle.jexl_parser.specs.View.{view, views, view_pairs}
 use Rattle.jexl_parser.proofs.Views.{view_list, view_members, view_transform}
@@ -148,7 +148,7 @@ pub returns-in-Filter : goal.returns-in-Filter
 returns-in-Filter g t c =
     ap (meaning (names_of c.args.table.now) (members_of c.args.attributes.now.pairs) (as_json c.args.current.now)) (ap view c.in-Filter.is ∙ ap (λ n. trees.Filter (view n) (view c.in-Filter.condition.value)) (sym c.deref-in-Filter.ensures))
     ∙ filter_ok (names_of c.args.table.now) (members_of c.args.attributes.now.pairs) (as_json c.args.current.now) (view c.deref-in-Filter.result.now) (view c.in-Filter.condition.value) (as_json c.in_ok-subject-in-Filter.subject) (items_of (map as_json c.in_ok-items-in-Filter.items.items)) c.loop-item.kept c.in_ok-subject-in-Filter.ensures c.in_ok-items-in-Filter.ensures ((ap (kept_of (λ x. meaning (names_of c.args.table.now) (members_of c.args.attributes.now.pairs) x (view c.in-Filter.condition.value))) (sym c.into_iter-item-iterator.ensures.into_iter_gives.0)) ∙ c.loop-item.invariant
-    ∙ kept_end (λ x. meaning (names_of c.args.table.now) (members_of c.args.attributes.now.pairs) x (view c.in-Filter.condition.value)) (into_iter_items c.loop-item.item-iterator) c.loop-item.kept (none_left _ (sym c.loop-item.item-iterator.rest.ok.0 ∙ c.in-None.ensures.steps.0)))
+    ∙ kept_end (λ x. meaning (names_of c.args.table.now) (members_of c.args.attributes.now.pairs) x (view c.in-Filter.condition.value)) (into_iter_items c.loop-item.item-iterator) c.loop-item.kept (nil_from_length _ (sym c.loop-item.item-iterator.rest.ok.0 ∙ c.in-None.ensures.steps.0)))
 
 pub returns-in_err-subject-in-Transform : goal.returns-in_err-subject-in-Transform
 returns-in_err-subject-in-Transform g t c =

@@ -1,4 +1,4 @@
-use Rattle.std.proofs.Common.{◌≡◌, ◌+◌, [], drop, length}
+use Rattle.std.proofs.Common.{◌≡◌, [], drop}
 use Rattle.std.specs.Vec.Iter.{into_iter_items}
 use Rattle.json_tree.specs.Json.{members_of}
 use Rattle.jexl_parser.specs.View.{view}

@@ -1,24 +1,20 @@
-use Rattle.std.proofs.Common.{◌≡◌, Some, IsUtf8, sym, ap, ◌∙◌, subst, arith}
-use Rattle.std.proofs.lemmas.Str.{IsUtf8-string_bytes}
-use Rattle.serde_json.specs.Data as serde
-use Rattle.serde_json.specs.Read.{read}
-use Rattle.serde_json.specs.View.{view}
-use Rattle.serde_json.specs.Written.{has_float, compact_text}
-use Rattle.json_tree.specs.Json.{depth}
+use Rattle.std.proofs.Common.{◌++◌, List, ℕ, ap, ap₂, ◌∙◌, arith}
+use Rattle.json.specs.Token.{Token}
+use Rattle.json.specs.Print.{print}
+use Rattle.json_tree.specs.Bytes.{tree_of}
 use Rattle.json_tree.specs.Tree.{json_of}
-use Rattle.json_tree.specs.Bytes.{to_data}
-use Rattle.json_tree.proofs.OfData.{tree_of-read}
-use Rattle.json_tree.proofs.Whole.{has_float-to_data, depth-to_data, of_data-to_data}
+use Rattle.json_tree.specs.Tokens.{tokens_of}
+use Rattle.json_tree.proofs.RoundTrip.{tree_of-text_of}
+use Rattle.json_tree.proofs.Tokens.{printed_tokens}
 use Rattle.json_tree.proofs.writing.write.Goals as goal
 
 pub returns-clause-text : goal.returns-clause-text
 returns-clause-text c =
     let x = json_of c.args.tree.now in
-    c.from_string.ensures ∙ c.in_ok-text.ensures.text (ap has_float c.in_ok-value.ensures ∙ has_float-to_data x) ∙ ap compact_text c.in_ok-value.ensures
+    let before = c.write_tree.ensures.before ∙ c.new-writer.ensures.before ∙ c.in_ok-with_capacity.ensures.items in
+    let tokens = c.in_ok-write_tree.ensures.tokens ∙ ap (λ (ts : List Token). ts ++ tokens_of x) c.new-writer.ensures.tokens in
+    c.text_in.ensures ∙ c.into_inner.ensures.items ∙ ap₂ (λ (b : List ℕ) (ts : List Token). b ++ print ts) before tokens ∙ printed_tokens x
 
 pub returns-clause-reads_back : goal.returns-clause-reads_back
 returns-clause-reads_back c shallow =
-    let x = json_of c.args.tree.now in
-    let nests : serde.depth (view c.in_ok-value.value) ≡ depth x = ap serde.depth c.in_ok-value.ensures ∙ depth-to_data x in
-    let read_as : read c.from_string.result ≡ Some (to_data x) = ap read c.from_string.ensures ∙ c.in_ok-text.ensures.reads_back (omega arith) ∙ ap Some c.in_ok-value.ensures in
-    tree_of-read _ _ (subst IsUtf8 (sym c.from_string.ensures) (IsUtf8-string_bytes c.in_ok-text.text)) read_as ∙ ap Some (of_data-to_data x c.keeps.ensures.sound)
+    ap tree_of (returns-clause-text c) ∙ tree_of-text_of (json_of c.args.tree.now) c.keeps.ensures.sound (omega (arith, shallow))
