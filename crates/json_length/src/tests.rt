@@ -41,3 +41,26 @@ fn texts_and_their_lengths(rt: HostRuntime) -> Result<(), Fail> {
     }
     Ok(())
 }
+
+#[test]
+fn texts_and_their_bounds(rt: HostRuntime) -> Result<(), Fail> {
+    let alloc = rt.alloc();
+    for (text, most, length) in [
+        ("null", 4, Some(4)),
+        ("null", 3, None),
+        ("[]", 2, Some(2)),
+        ("{}", 1, None),
+        ("\"\\n\"", 4, Some(4)),
+        ("\"\\n\"", 3, None),
+        ("[[1,\"a\"],[]]", 12, Some(12)),
+        ("[[1,\"a\"],[]]", 11, None),
+        ("{\"a\":{\"b\":[-1]},\"c\":0}", 22, Some(22)),
+        ("{\"a\":{\"b\":[-1]},\"c\":0}", 21, None),
+        ("[[1,\"a\"],[]]", 0, None),
+    ] {
+        if length_within(&read(alloc, text.as_bytes())?, most) != length {
+            return Err(Fail::from(text));
+        }
+    }
+    Ok(())
+}
