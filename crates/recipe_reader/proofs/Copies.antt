@@ -3,13 +3,9 @@ use Rattle.std.specs.Prelude.{◌≡◌, List}
 use Rattle.std.specs.List.{AllZip, each_same}
 use Rattle.recipe_reader.specs.declared.recipe.Branch.{Branch}
 use Rattle.recipe_reader.specs.declared.recipe.FeatureValue.{FeatureValue}
-use Rattle.recipe_reader.specs.declared.recipe.Recipe.{Recipe}
 
 pub same_branches : (bs cs : List Branch) → AllZip (λ b c. c ≡ b) bs cs → cs ≡ bs
 same_branches bs cs all = each_same bs cs all
 
 pub same_features : (fs gs : List FeatureValue) → AllZip (λ f g. g ≡ f) fs gs → gs ≡ fs
 same_features fs gs all = each_same fs gs all
-
-pub same_recipes : (rs ss : List Recipe) → AllZip (λ r s. s ≡ r) rs ss → ss ≡ rs
-same_recipes rs ss all = each_same rs ss all

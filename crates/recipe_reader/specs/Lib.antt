@@ -5,6 +5,7 @@ pub mod Parts
 pub mod Branches
 pub mod Records
 pub mod Payloads
+pub mod Shared
 pub mod Reasons
 pub mod Equal
 pub mod Equals

@@ -1,5 +1,5 @@
 // The branches of a record.
-ghost use Rattle.std.specs.Prelude.{◌≡◌, map, nat_lt, bytes_eq, option_map, IfOk};
+ghost use Rattle.std.specs.Prelude.{◌≡◌, map, nat_lt, bytes_eq, option_map};
 ghost use Rattle.std.specs.List.{list_any};
 ghost use Rattle.json_tree.specs.Json.{items_of};
 ghost use Rattle.json_tree.specs.Tree.{json_of};
@@ -11,10 +11,11 @@ use crate::depths::is_shallow;
 use crate::fields::{count_at, present, text_at};
 use crate::reading::slug_in;
 use crate::recipe::{Branch, FeatureValue, RecordFault, SkipReason};
-use json_tree::{Members, Tree, write};
+use json_length::length_within;
+use json_tree::{Members, Tree};
 use plain_text::is_name;
 use sequences::{Sequence, Text};
-use std::alloc::{AllocError, Global};
+use std::alloc::Global;
 
 const BAD: RecordFault = RecordFault::Skip(SkipReason::BadBranches);
 
@@ -26,7 +27,7 @@ const MAX_RATIO: u32 = 1_000_000;
 
 const MAX_VALUE_DEPTH: usize = 59;
 
-const MAX_VALUE_LEN: usize = 65_536;
+const MAX_VALUE_LEN: u128 = 65_536;
 
 /// The record's branches.
 #[tactic(auto, unfolding(crate::specs::Branches::branches_in))]
@@ -226,7 +227,7 @@ fn value_of(alloc: Global, value: Option<&Tree>) -> Result<Tree, RecordFault>
     match value {
         None => Ok(Tree::Object(Members::new(alloc))),
         Some(tree) => {
-            if is_feature_value(alloc, tree)? {
+            if is_feature_value(tree) {
                 Ok(tree.clone()?)
             } else {
                 Err(BAD)
@@ -237,14 +238,12 @@ fn value_of(alloc: Global, value: Option<&Tree>) -> Result<Tree, RecordFault>
 
 /// Whether the tree is an object of bounded depth and text.
 #[tactic(auto, unfolding(crate::specs::Branches::is_feature_value))]
-fn is_feature_value(alloc: Global, tree: &Tree) -> Result<bool, AllocError>
-    ensures { IfOk result (λ b. b ≡ is_feature_value (json_of tree.now)) }
+fn is_feature_value(tree: &Tree) -> bool
+    ensures { result ≡ is_feature_value (json_of tree.now) }
 {
-    if !is_object(tree) || !is_shallow(tree, MAX_VALUE_DEPTH) {
-        return Ok(false);
-    }
-    let text = write(alloc, tree)?;
-    Ok(text.as_str().len() <= MAX_VALUE_LEN)
+    is_object(tree)
+        && is_shallow(tree, MAX_VALUE_DEPTH)
+        && length_within(tree, MAX_VALUE_LEN).is_some()
 }
 
 fn is_object(tree: &Tree) -> bool

@@ -1,19 +1,24 @@
 // Recipes in order by slug.
-ghost use Rattle.std.specs.Prelude.{◌≡◌, ◌++◌, ◌∷◌, [], true, not, IfOk, IfErr, OnOk, OnErr, option_map, slice_get, if◌then◌else◌};
+ghost use Rattle.std.specs.Prelude.{◌≡◌, ◌≤◌, ◌++◌, ◌∷◌, [], length, true, not, IfOk, IfErr, OnOk, OnErr, option_map, slice_get, if◌then◌else◌};
+ghost use Rattle.std.specs.List.{insert};
 ghost use Rattle.recipe_reader.specs.Records.{IsValid};
 ghost use Rattle.recipe_reader.specs.Payloads.{AreInOrder, AreBelow, AreValid, IsPlace, has_slug, recipe_with, with_recipe};
+ghost use Rattle.recipe_reader.specs.Shared.{shared_recipes};
 
 use crate::recipe::Recipe;
 use sequences::Sequence;
 use std::alloc::{AllocError, Global};
 use std::cmp::Ordering;
 use std::marker::Model;
+use std::rc::Rc;
 
 /// Recipes whose slugs rise by their bytes, so that no two have one slug. Contracts see it as the
-/// list of the recipes.
+/// list of the recipes. A clone shares the list, and a list with several owners is copied before
+/// one of them changes it.
 #[derive(Drop)]
 pub struct Recipes {
-    recipes: Sequence<Recipe>,
+    alloc: Global,
+    list: Option<Rc<Sequence<Recipe>>>,
 }
 
 impl Model for Recipes {
@@ -27,27 +32,32 @@ impl Model for Recipes {
     ghost coded = { Prim.hlevel (codes, json_code) };
 
     ghost use Rattle.recipe_reader.specs.Payloads.{AreInOrder};
+    ghost use Rattle.recipe_reader.specs.Shared.{shared_recipes};
 
-    ghost view = { λ a. a.recipes };
+    ghost view = { λ a. shared_recipes a.list };
 
-    ghost invariant = { λ a. AreInOrder a.recipes };
+    ghost invariant = { λ a. AreInOrder (shared_recipes a.list) };
 }
 
+/// The same list with one more owner. It takes no memory.
 impl Clone for Recipes {
     ghost is_clone = { λ rs ss. ss ≡ rs };
 
     fn clone(&self) -> Result<Recipes, AllocError> {
         Ok(Recipes {
-            recipes: copy_of_recipes(&self.recipes)?,
+            alloc: self.alloc,
+            list: share(&self.list)?,
         })
     }
 }
 
-#[tactic(auto, using(crate::proofs::Copies::same_recipes))]
-fn copy_of_recipes(recipes: &Sequence<Recipe>) -> Result<Sequence<Recipe>, AllocError>
-    ensures { IfOk result (λ rs. rs ≡ recipes.now) }
+fn share(list: &Option<Rc<Sequence<Recipe>>>) -> Result<Option<Rc<Sequence<Recipe>>>, AllocError>
+    ensures { IfOk result (λ l. shared_recipes l ≡ shared_recipes list.now) }
 {
-    recipes.clone()
+    match list {
+        Some(recipes) => Ok(Some(recipes.clone()?)),
+        None => Ok(None),
+    }
 }
 
 /// Recipe by recipe.
@@ -62,7 +72,7 @@ impl PartialEq for Recipes {
     ghost laws = { partial_equiv_from_equiv recipes_equivalence };
 
     fn eq(&self, other: &Recipes) -> bool {
-        self.recipes == other.recipes
+        self.as_slice() == other.as_slice()
     }
 }
 
@@ -71,9 +81,7 @@ impl Recipes {
     pub fn new(alloc: Global) -> Recipes
         ensures { result ≡ [] }
     {
-        Recipes {
-            recipes: Sequence::new(alloc),
-        }
+        Recipes { alloc, list: None }
     }
 
     /// The recipes, in order. It takes no memory.
@@ -81,7 +89,7 @@ impl Recipes {
         ensures recipes { result.now ≡ self.now }
         ensures in_order { AreInOrder self.now }
     {
-        self.recipes.as_slice()
+        slice_of(&self.list)
     }
 
     /// The recipe with the slug, by a binary search. It takes no memory.
@@ -90,7 +98,7 @@ impl Recipes {
         ensures { option_map (λ r. r.now) result ≡ recipe_with slug.now self.now }
     {
         match place_of(self.as_slice(), slug) {
-            Ok(place) => self.recipes.get(place),
+            Ok(place) => self.as_slice().get(place),
             Err(_) => None,
         }
     }
@@ -102,7 +110,8 @@ impl Recipes {
         ensures ok { OnOk result (self.new ≡ self.old ++ recipe ∷ []) }
         ensures err { OnErr result (self.new ≡ self.old) }
     {
-        self.recipes.push(recipe)?;
+        let place = self.as_slice().len();
+        put(self.alloc, &mut self.list, place, recipe)?;
         Ok(())
     }
 
@@ -117,11 +126,52 @@ impl Recipes {
         match place_of(self.as_slice(), recipe.slug.text()) {
             Ok(_) => Ok(false),
             Err(place) => {
-                self.recipes.insert(place, recipe)?;
+                put(self.alloc, &mut self.list, place, recipe)?;
                 Ok(true)
             }
         }
     }
+}
+
+fn slice_of(list: &Option<Rc<Sequence<Recipe>>>) -> &[Recipe]
+    ensures { result.now ≡ shared_recipes list.now }
+{
+    match list {
+        Some(recipes) => recipes.as_slice(),
+        None => &[],
+    }
+}
+
+/// Puts a recipe before the one at `place`. Want of memory leaves the recipes as they were.
+fn put(
+    alloc: Global,
+    list: &mut Option<Rc<Sequence<Recipe>>>,
+    place: usize,
+    recipe: Recipe,
+) -> Result<(), AllocError>
+    requires { place ≤ length (shared_recipes list.old) }
+    ensures ok { OnOk result (shared_recipes list.new ≡ insert (shared_recipes list.old) place recipe) }
+    ensures err { OnErr result (shared_recipes list.new ≡ shared_recipes list.old) }
+{
+    match list {
+        Some(recipes) => put_in(recipes, place, recipe),
+        None => {
+            let mut recipes = Sequence::new(alloc);
+            recipes.insert(place, recipe)?;
+            *list = Some(Rc::new(alloc, recipes)?);
+            Ok(())
+        }
+    }
+}
+
+/// The same of recipes that are there, which are copied where they have other owners.
+fn put_in(list: &mut Rc<Sequence<Recipe>>, place: usize, recipe: Recipe) -> Result<(), AllocError>
+    requires { place ≤ length list.old.value }
+    ensures ok { OnOk result (list.new.value ≡ insert list.old.value place recipe) }
+    ensures err { OnErr result (list.new.value ≡ list.old.value) }
+{
+    let recipes = Rc::make_mut(list)?;
+    recipes.insert(place, recipe)
 }
 
 /// Where the recipe with the slug is, or else where one belongs.

@@ -559,6 +559,18 @@ fn copies_of_recipes(rt: HostRuntime) -> Result<(), Fail> {
     check(!are_same(&copy, &Recipes::new(alloc)))
 }
 
+// A recipe that is put into a copy is not in what it is a copy of.
+#[test]
+fn changed_copies(rt: HostRuntime) -> Result<(), Fail> {
+    let alloc = rt.alloc();
+    let recipes = two_recipes(alloc)?;
+    let mut copy = recipes.clone()?;
+    let record = record_with(alloc, Part::Record, ",\"slug\":\"gamma\"")?;
+    let is_new = copy.insert(recipe_in(alloc, record.as_str())?)?;
+    check(is_new && has_count(&copy, 3) && has_recipe(&copy, 1, "gamma"))?;
+    check(has_count(&recipes, 2) && !is_found(&recipes, "gamma"))
+}
+
 fn recipe_in(alloc: Global, text: &str) -> Result<Recipe, Fail> {
     let tree = read(alloc, text.as_bytes())?;
     Ok(read_record(alloc, &tree)?)
