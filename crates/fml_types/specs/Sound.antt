@@ -7,12 +7,11 @@ use Rattle.json_tree.specs.declared.tree.Tree.{Tree}
 use Rattle.plain_text.specs.Names.{is_name}
 use Rattle.fml_types.specs.Ground.{grounding}
 use Rattle.fml_types.specs.Named.{has_name}
-use Rattle.fml_types.specs.Shape.{Shape, boolean, int, string, text, image, option, list, map, named}
+use Rattle.fml_types.specs.Shape.{Shape, option, list, map, named}
 use Rattle.fml_types.specs.Shapes.{shape_of}
 use Rattle.fml_types.specs.TypeTexts.{is_option}
 use Rattle.fml_types.specs.declared.manifest.DefaultEntry.{DefaultEntry}
 use Rattle.fml_types.specs.declared.manifest.Field.{Field}
-use Rattle.fml_types.specs.declared.manifest.FeatureDefinition.{FeatureDefinition}
 use Rattle.fml_types.specs.declared.manifest.Manifest.{Manifest}
 use Rattle.fml_types.specs.declared.manifest.TypeTable.{TypeTable}
 

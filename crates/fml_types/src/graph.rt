@@ -10,7 +10,8 @@ ghost use Rattle.fml_types.specs.Shapes.{shape_of};
 use crate::by_name::ByName;
 use crate::field_type::FieldType;
 use crate::manifest::{Field, ObjectDefinition};
-use json_tree::{Items, Members, Tree, write};
+use json_length::length_within;
+use json_tree::{Items, Members, Tree};
 use sequences::{Sequence, Text};
 use std::alloc::{AllocError, Global};
 
@@ -64,27 +65,22 @@ fn parts_of(
     let pairs = fields.as_slice();
     let mut parts = Sequence::new(alloc);
     for (name, field) in pairs {
-        parts.push(part_of(alloc, objects, name, field)?)?;
+        parts.push(part_of(objects, name, field))?;
     }
     Ok(parts)
 }
 
 #[tactic(auto, unfolding(crate::specs::Graph::part_of))]
-fn part_of(
-    alloc: Global,
-    objects: &ByName<ObjectDefinition>,
-    name: &Text,
-    field: &Field,
-) -> Result<Part, AllocError>
-    ensures { IfOk result (λ p. p ≡ capped (part_of objects.now (name.now, field.now))) }
+fn part_of(objects: &ByName<ObjectDefinition>, name: &Text, field: &Field) -> Part
+    ensures { result ≡ capped (part_of objects.now (name.now, field.now)) }
 {
     let is_empty = is_empty(&field.field_type, &field.default);
-    Ok(Part {
+    Part {
         mentions: place_of(objects, &field.field_type),
         need: need_of(&field.field_type, is_empty),
-        size: size_of(alloc, name, field)?,
+        size: size_of(name, field),
         times: times_of(field),
-    })
+    }
 }
 
 fn place_of(objects: &ByName<ObjectDefinition>, of: &FieldType) -> Option<usize>
@@ -178,28 +174,27 @@ fn has_no_members(members: &Members) -> bool
 }
 
 #[tactic(auto, unfolding(crate::specs::Graph::size_of))]
-fn size_of(alloc: Global, name: &Text, field: &Field) -> Result<u64, AllocError>
-    ensures { IfOk result (λ n. n ≡ cap (size_of name.now field.now)) }
+fn size_of(name: &Text, field: &Field) -> u64
+    ensures { result ≡ cap (size_of name.now field.now) }
 {
-    let of_default = default_len(alloc, &field.default)?;
+    let of_default = default_len(&field.default);
     let of_name = name.as_str().len() as u64;
-    Ok(
-        of_name
-            .saturating_add(86)
-            .saturating_add(of_default)
-            .min(CAP),
-    )
+    of_name
+        .saturating_add(86)
+        .saturating_add(of_default)
+        .min(CAP)
 }
 
-fn default_len(alloc: Global, default: &Option<Tree>) -> Result<u64, AllocError>
-    ensures { IfOk result (λ n. n ≡ default_len default.now) }
+/// How many bytes the default's text has, up to `CAP`.
+fn default_len(default: &Option<Tree>) -> u64
+    ensures { result ≡ cap (default_len default.now) }
 {
     match default {
-        None => Ok(4),
-        Some(tree) => {
-            let text = write(alloc, tree)?;
-            Ok(text.as_str().len() as u64)
-        }
+        None => 4,
+        Some(tree) => match length_within(tree, u128::from(CAP)) {
+            Some(length) => length as u64,
+            None => CAP,
+        },
     }
 }
 
