@@ -1,7 +1,6 @@
 pub mod Fields
 pub mod Puts
 pub mod Records
-pub mod MoreRows
 pub mod Folding
 pub mod ValuesRead
 pub mod SectionsRead
@@ -14,7 +13,7 @@ pub mod Fresh
 pub mod Alls
 pub mod Rising
 pub mod Enrolments
-pub mod Refusals
+pub mod Spelled
 pub mod Shorts
 pub mod RecordSums
-pub mod Tokens
+pub mod RecordTexts

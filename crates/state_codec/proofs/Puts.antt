@@ -1,6 +1,6 @@
 -- Puts are read in one way alone.
-use Rattle.std.proofs.Common.{◌≡◌, ◌≢◌, ◌+◌, ◌<◌, ◌^◌, ◌++◌, ◌∷◌, [], List, ℕ, zero, suc, length, get_or, take, drop, ◌∙◌, ap, sym, subst, refl, append_assoc, arith, w16, w32}
-use Rattle.std.proofs.lemmas.List.{append-nil, take_more}
+use Rattle.std.proofs.Common.{◌≡◌, ◌≢◌, ◌+◌, ◌<◌, ◌≤◌, ◌^◌, ◌++◌, ◌∷◌, [], List, ℕ, map, length, get_or, take, drop, ◌∙◌, ap, sym, refl, append_assoc, w16, w32}
+use Rattle.std.proofs.lemmas.List.{append-nil, map-append, take_all, take_more}
 use Rattle.std.specs.Int.{to_be_bytes}
 use Rattle.state_codec.specs.declared.store_row.StoreRow.{StoreRow}
 use Rattle.state_codec.specs.Batches.{short_field, long_field, fields, puts, HasRoom, HaveRoom}
@@ -74,22 +74,48 @@ no_more taken left bytes split room more none all rooms same = by_more longer.mo
     by_more [] is fits = more is
     by_more (r ∷ rest) is fits = none r (puts rest) fits.0 is
 
--- the row at a place has room, and its put comes behind those before it
-pub HasRoom-at : (rs : List StoreRow) (i : ℕ) (r : StoreRow) → r ≡ get_or rs i r → i < length rs → HaveRoom rs → HasRoom r
-HasRoom-at [] i r is within room = absurd (omega arith)
-HasRoom-at (s ∷ rs) zero r is within room = subst HasRoom (sym is) room.0
-HasRoom-at (s ∷ rs) (suc i) r is within room = HasRoom-at rs i r is (omega arith) room.1
-
-pub puts_more : (rs : List StoreRow) (i : ℕ) (r : StoreRow) → r ≡ get_or rs i r → i < length rs → puts (take (i + 1) rs) ≡ puts (take i rs) ++ 1 ∷ fields r
-puts_more rs i r is within =
-    ap puts (take_more rs i r within)
-    ∙ puts-append (take i rs) (get_or rs i r ∷ [])
-    ∙ ap (λ (l : List ℕ). puts (take i rs) ++ 1 ∷ l) (append-nil (fields (get_or rs i r)))
-    ∙ ap (λ (q : StoreRow). puts (take i rs) ++ 1 ∷ fields q) (sym is)
-
 pub one_more : (rs : List StoreRow) (r : StoreRow) (left behind bytes : List ℕ) → bytes ≡ puts rs ++ left → left ≡ 1 ∷ (fields r ++ behind) → bytes ≡ puts (rs ++ r ∷ []) ++ behind
 one_more rs r left behind bytes split is =
     split ∙ ap (λ (l : List ℕ). puts rs ++ l) is
     ∙ sym (append_assoc (puts rs) (1 ∷ fields r) behind)
     ∙ ap (λ (l : List ℕ). (puts rs ++ 1 ∷ l) ++ behind) (sym (append-nil (fields r)))
     ∙ ap (λ (l : List ℕ). l ++ behind) (sym (puts-append rs (r ∷ [])))
+
+-- ---- puts that were added
+
+-- the put of a row, and the puts that follow it
+pub row_then : (r : StoreRow) (rest : List StoreRow) (old : List ℕ) {new all : List ℕ} → new ≡ old ++ 1 ∷ fields r → all ≡ new ++ puts rest → all ≡ old ++ puts (r ∷ rest)
+row_then r rest old {new} {all} put_is rest_is = rest_is ∙ ap (λ l. l ++ puts rest) put_is ∙ append_assoc old (1 ∷ fields r) (puts rest)
+
+-- the same with none behind it
+pub row_last : (r : StoreRow) (old : List ℕ) {all : List ℕ} → all ≡ old ++ 1 ∷ fields r → all ≡ old ++ puts (r ∷ [])
+row_last r old {all} put_is = put_is ∙ ap (λ l. old ++ 1 ∷ l) (sym (append-nil (fields r)))
+
+-- the same of several rows
+pub rows_then : (rs rest : List StoreRow) (old : List ℕ) {new all : List ℕ} → new ≡ old ++ puts rs → all ≡ new ++ puts rest → all ≡ old ++ puts (rs ++ rest)
+rows_then rs rest old {new} {all} puts_are rest_is =
+    rest_is ∙ ap (λ l. l ++ puts rest) puts_are ∙ append_assoc old (puts rs) (puts rest) ∙ ap (λ l. old ++ l) (sym (puts-append rs rest))
+
+-- ---- the rows of items
+
+-- one item more
+pub puts_more : {A : Type 0} (f : A → StoreRow) (xs : List A) (i : ℕ) (x : A) → i < length xs → x ≡ get_or xs i x → puts (map f (take (i + 1) xs)) ≡ puts (map f (take i xs)) ++ puts (f x ∷ [])
+puts_more f xs i x within is =
+    ap (λ l. puts (map f l)) (take_more xs i x within)
+    ∙ ap puts (map-append f (take i xs) (get_or xs i x ∷ []))
+    ∙ puts-append (map f (take i xs)) (f (get_or xs i x) ∷ [])
+    ∙ ap (λ y. puts (map f (take i xs)) ++ puts (f y ∷ [])) (sym is)
+
+-- one put more
+pub put_more : {A : Type 0} (f : A → StoreRow) (xs : List A) (i : ℕ) (x : A) (front before : List ℕ) {after : List ℕ} (r : StoreRow) → i < length xs → x ≡ get_or xs i x
+    → before ≡ front ++ puts (map f (take i xs)) → after ≡ before ++ 1 ∷ fields r → r ≡ f x → after ≡ front ++ puts (map f (take (i + 1) xs))
+put_more f xs i x front before {after} r within is so_far grows row_is =
+    let some = puts (map f (take i xs)) in
+    row_last (f x) before (grows ∙ ap (λ q. before ++ 1 ∷ fields q) row_is)
+    ∙ ap (λ l. l ++ puts (f x ∷ [])) so_far
+    ∙ append_assoc front some (puts (f x ∷ []))
+    ∙ ap (λ l. front ++ l) (sym (puts_more f xs i x within is))
+
+-- all items
+pub put_all : {A : Type 0} (f : A → StoreRow) (xs : List A) (i : ℕ) (front : List ℕ) {after : List ℕ} → length xs ≤ i → after ≡ front ++ puts (map f (take i xs)) → after ≡ front ++ puts (map f xs)
+put_all f xs i front past so_far = so_far ∙ ap (λ l. front ++ puts (map f l)) (take_all i xs past)

@@ -1,7 +1,6 @@
 -- How many bytes rows are put in.
-use Rattle.std.proofs.Common.{◌≡◌, ◌+◌, ◌<◌, ◌++◌, ◌∷◌, [], List, ℕ, map, length, get_or, take, sym, ap, ◌∙◌, arith, length-append, w16, w32}
+use Rattle.std.proofs.Common.{◌≡◌, ◌+◌, ◌<◌, ◌++◌, ◌∷◌, [], List, ℕ, map, length, get_or, take, ap, ◌∙◌, arith, length-append, w16, w32}
 use Rattle.std.specs.Int.{to_be_bytes}
-use Rattle.std.proofs.lemmas.List.{take_more, map-append}
 use Rattle.std.specs.Option.{is_some}
 use Rattle.uuid.proofs.TextLemmas.{by_index_length}
 use Rattle.enrol_states.specs.declared.state.State.{State}
@@ -9,7 +8,7 @@ use Rattle.state_codec.specs.Batches.{short_field, long_field, fields, puts}
 use Rattle.state_codec.specs.Spelling.{hyphenated, row, key_row, recipe_row, status_row, status_rows, last_rows, pending_recipes, rows_of, spelling, bit}
 use Rattle.state_codec.specs.Statuses.{number}
 use Rattle.state_codec.specs.declared.store_row.StoreRow.{StoreRow}
-use Rattle.state_codec.proofs.Puts.{puts-append}
+use Rattle.state_codec.proofs.Puts.{puts-append, puts_more}
 use Rattle.state_codec.proofs.ValuesRead.{length-number}
 
 length-short_field : (f : List ℕ) → length (short_field f) ≡ 2 + length f
@@ -35,11 +34,8 @@ length-hyphenated id = by_index_length 36 _
 pub size_more : {A : Type 0} (f : A → StoreRow) (xs : List A) (i : ℕ) (x : A) → i < length xs → x ≡ get_or xs i x
     → length (puts (map f (take (i + 1) xs))) ≡ length (puts (map f (take i xs))) + (7 + length (f x).key + length (f x).value)
 size_more f xs i x within is =
-    ap (λ l. length (puts (map f l))) (take_more xs i x within)
-    ∙ ap (λ l. length (puts l)) (map-append f (take i xs) (get_or xs i x ∷ []))
-    ∙ length-puts-append (map f (take i xs)) (f (get_or xs i x) ∷ [])
-    ∙ ap (λ q. length (puts (map f (take i xs))) + length (puts (f q ∷ []))) (sym is)
-    ∙ ap (λ n. length (puts (map f (take i xs))) + n) (omega (arith, length-puts (f x) []))
+    let some = puts (map f (take i xs)) in
+    ap length (puts_more f xs i x within is) ∙ length-append some (puts (f x ∷ [])) ∙ ap (λ n. length some + n) (omega (arith, length-puts (f x) []))
 
 -- ---- the spelling
 

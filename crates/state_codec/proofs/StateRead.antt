@@ -13,7 +13,7 @@ use Rattle.state_codec.specs.Outcome.{◌>>=◌, keeping}
 use Rattle.state_codec.specs.Spelling.{key_row, recipe_row, status_row, pending_recipes, rows_of}
 use Rattle.state_codec.specs.Sound.{AreRecords, HaveRecords}
 use Rattle.state_codec.specs.Reading as reading
-use Rattle.state_codec.specs.Reading.{slug_row, text_row, client_row, client_row_in, inserting, slugs_under, texts_under, client_rows_under, recipes_under, value_under, number_under, flag_under, id_under, version_under, pending_if, lists_in, recipes_in, last_in, state_in}
+use Rattle.state_codec.specs.Reading.{slug_row, text_row, client_row, client_row_in, inserting, slugs_under, texts_under, client_rows_under, recipes_under, number_under, flag_under, id_under, version_under, pending_if, lists_in, recipes_in, last_in, state_in}
 use Rattle.state_codec.proofs.ValuesRead.{slug_read, text_read, number_read, flag_read, id_read, recipe_read, status_read}
 use Rattle.state_codec.proofs.Names.{name_utf8}
 use Rattle.state_codec.proofs.SectionsRead.{all_kept, all_inserted, skipped, all_sections, all_statuses, all_last, to_statuses, to_last, none_tagged}

@@ -1,13 +1,10 @@
-pub mod Equal
 pub mod Batches
 pub mod BatchParts
 pub mod Statuses
 pub mod Spelling
 pub mod Sound
 pub mod SoundParts
-pub mod Finds
 pub mod Laws
 pub mod Outcome
 pub mod Reading
 pub mod Lengths
-pub mod Tokens

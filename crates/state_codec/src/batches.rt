@@ -1,7 +1,8 @@
 // Batches of rows in bytes: one that makes a store is a clear of all rows and a put of each.
 ghost use Rattle.std.specs.Prelude.{◌≡◌, ◌<◌, ◌^◌, ◌++◌, ◌∷◌, [], List, length, Err, IfOk, IfSome, IsNone, OnOk};
 ghost use Rattle.state_codec.specs.declared.store_row.StoreRow.{StoreRow};
-ghost use Rattle.state_codec.specs.Batches.{short_field, long_field, fields, puts, whole_batch, HasRoom, HaveRoom};
+ghost use Rattle.state_codec.specs.Batches.{short_field, long_field, fields, puts, whole_batch, HaveRoom};
+ghost use Rattle.state_codec.specs.Spelling.{row};
 ghost use Rattle.state_codec.specs.BatchParts.{IsNext, IsPut, HasNoShortField, HasNoLongField};
 
 use crate::fault::CodecFault;
@@ -10,52 +11,45 @@ use sequences::Sequence;
 use std::alloc::{AllocError, Global};
 
 /// The byte that clears all rows.
-const CLEAR: u8 = 0;
+pub(crate) const CLEAR: u8 = 0;
 
 /// The byte that begins a put.
 const PUT: u8 = 1;
 
-/// The batch that makes a store of the rows.
-pub(crate) fn whole_batch(alloc: Global, rows: &[StoreRow]) -> Result<Vec<u8>, AllocError>
-    requires { HaveRoom rows.now }
-    ensures { IfOk result (λ bytes. bytes.items ≡ whole_batch rows.now) }
-{
-    let mut bytes = Vec::new(alloc);
-    bytes.push(CLEAR)?;
-    for row in rows {
-        put(&mut bytes, row)?;
-    }
-    Ok(bytes)
-}
-
-/// Adds a put of the row.
-fn put(bytes: &mut Vec<u8>, row: &StoreRow) -> Result<(), AllocError>
-    requires { HasRoom row.now }
-    ensures { OnOk result (bytes.new.items ≡ bytes.old.items ++ 1 ∷ fields row.now) }
+/// Adds a put of the row whose key is the tag and what follows it.
+pub(crate) fn put_row(
+    bytes: &mut Vec<u8>,
+    tag: u8,
+    rest: &str,
+    value: &[u8],
+) -> Result<(), AllocError>
+    ensures { OnOk result (bytes.new.items ≡ bytes.old.items ++ 1 ∷ fields (row (tag ∷ rest.now) value.now)) }
 {
     bytes.push(PUT)?;
-    put_short_field(bytes, row.key.as_slice())?;
-    put_long_field(bytes, row.value.as_slice())?;
+    put_key(bytes, tag, rest)?;
+    put_value(bytes, value)?;
     Ok(())
 }
 
+/// Adds the key behind its number of bytes, which stands in two bytes.
 #[tactic(auto, unfolding(crate::specs::Batches::short_field))]
-fn put_short_field(bytes: &mut Vec<u8>, field: &[u8]) -> Result<(), AllocError>
-    requires { length field.now < 2 ^ 16 }
-    ensures { OnOk result (bytes.new.items ≡ bytes.old.items ++ short_field field.now) }
+fn put_key(bytes: &mut Vec<u8>, tag: u8, rest: &str) -> Result<(), AllocError>
+    ensures { OnOk result (bytes.new.items ≡ bytes.old.items ++ short_field (tag ∷ rest.now)) }
 {
-    bytes.extend_from_slice(&(field.len() as u16).to_be_bytes())?;
-    bytes.extend_from_slice(field)?;
+    let len = 1 + rest.len();
+    bytes.extend_from_slice(&len.to_be_bytes()[6..])?;
+    bytes.push(tag)?;
+    bytes.extend_from_slice(rest.as_bytes())?;
     Ok(())
 }
 
+/// Adds the value behind its number of bytes, which stands in four bytes.
 #[tactic(auto, unfolding(crate::specs::Batches::long_field))]
-fn put_long_field(bytes: &mut Vec<u8>, field: &[u8]) -> Result<(), AllocError>
-    requires { length field.now < 2 ^ 32 }
-    ensures { OnOk result (bytes.new.items ≡ bytes.old.items ++ long_field field.now) }
+fn put_value(bytes: &mut Vec<u8>, value: &[u8]) -> Result<(), AllocError>
+    ensures { OnOk result (bytes.new.items ≡ bytes.old.items ++ long_field value.now) }
 {
-    bytes.extend_from_slice(&(field.len() as u32).to_be_bytes())?;
-    bytes.extend_from_slice(field)?;
+    bytes.extend_from_slice(&value.len().to_be_bytes()[4..])?;
+    bytes.extend_from_slice(value)?;
     Ok(())
 }
 

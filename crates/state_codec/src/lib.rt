@@ -7,15 +7,14 @@ mod laws;
 mod lengths;
 mod reading;
 mod record_text;
-mod rows;
 mod sections;
 mod size;
 mod soundness;
 mod state_reading;
+mod state_writing;
 mod status;
 mod status_reading;
 mod store_row;
-mod tree_text;
 mod values;
 mod writing;
 

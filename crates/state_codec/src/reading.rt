@@ -1,18 +1,19 @@
 // The state of a spelling.
-ghost use Rattle.std.specs.Prelude.{◌≡◌, ◌↔◌, IfOk, IsErrOf, IsTrue};
+ghost use Rattle.std.specs.Prelude.{◌≡◌, ◌≤◌, ◌↔◌, length, IfOk, IsErrOf, IsTrue};
+ghost use Rattle.recipe_reader.specs.Payloads.{AreValid};
 ghost use Rattle.enrol_states.specs.declared.state.State.{State};
+ghost use Rattle.state_codec.specs.Reading.{AreValidIf};
 ghost use Rattle.state_codec.specs.Spelling.{spelling};
-ghost use Rattle.state_codec.specs.Sound.{IsSound};
-ghost use Rattle.state_codec.specs.Finds.{Finds};
+ghost use Rattle.state_codec.specs.Sound.{IsSound, max_size};
 
 use crate::batches::rows_in;
 use crate::fault::CodecFault;
-use crate::rows::rows_of;
+use crate::size::state_size;
 use crate::soundness::is_consistent;
 use crate::state_reading::state_in;
-use crate::store_row::StoreRow;
+use crate::writing::write_state;
 use enrol_states::State;
-use std::alloc::Global;
+use std::alloc::{AllocError, Global};
 
 /// The most bytes that a state is spelled in.
 const MAX_SIZE: usize = 16_777_216;
@@ -27,28 +28,27 @@ pub fn read_state(alloc: Global, bytes: &[u8]) -> Result<State, CodecFault>
         return Err(CodecFault::NotAState);
     }
     let rows = rows_in(alloc, bytes)?;
-    state_of(alloc, rows.as_slice())
-}
-
-/// The state that has these rows. What they say of a state is one of them alone if it is
-/// consistent and has these rows again.
-fn state_of(alloc: Global, rows: &[StoreRow]) -> Result<State, CodecFault>
-    ensures { Finds rows.now result }
-{
-    let state = state_in(alloc, rows)?;
-    if !is_consistent(alloc, &state)? {
-        return Err(CodecFault::NotAState);
-    }
-    let again = rows_of(alloc, &state)?;
-    if same_rows(again.as_slice(), rows) {
+    let state = state_in(alloc, rows.as_slice())?;
+    if is_spelled(alloc, &state, bytes)? {
         Ok(state)
     } else {
         Err(CodecFault::NotAState)
     }
 }
 
-fn same_rows(left: &[StoreRow], right: &[StoreRow]) -> bool
-    ensures { IsTrue result ↔ (left.now ≡ right.now) }
+/// Whether the state is sound and the bytes are its spelling.
+fn is_spelled(alloc: Global, state: &State, bytes: &[u8]) -> Result<bool, AllocError>
+    requires size { length bytes.now ≤ max_size }
+    requires live { AreValid state.now.live }
+    requires pending { AreValidIf state.now.pending }
+    ensures { IfOk result (λ is. IsTrue is ↔ (IsSound state.now × (bytes.now ≡ spelling state.now))) }
 {
-    left == right
+    if !is_consistent(alloc, state)? {
+        return Ok(false);
+    }
+    if state_size(state) != bytes.len() as u128 {
+        return Ok(false);
+    }
+    let spelled = write_state(alloc, state)?;
+    Ok(spelled.as_slice() == bytes)
 }

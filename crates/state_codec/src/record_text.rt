@@ -1,37 +1,25 @@
 // A recipe's record written as compact JSON, token by token. The keys of each object rise.
 ghost use Rattle.std.specs.Prelude.{◌≡◌, ◌++◌, IfOk, OnOk, map, pos};
-ghost use Rattle.json_tree.specs.Json.{IsSound, list, whole, items_of};
+ghost use Rattle.json_tree.specs.Json.{list, whole, items_of};
 ghost use Rattle.recipe_reader.specs.Records.{record_json, bucket_json, branch_json, feature_json, text_or_null};
-ghost use Rattle.state_codec.specs.Lengths.{HasShortBranches};
 ghost use Rattle.state_codec.specs.Spelling.{recipe_text};
-ghost use Rattle.state_codec.specs.Tokens.{tokens_of};
+ghost use Rattle.json_tree.specs.Tokens.{tokens_of};
 
-use crate::lengths::record_length;
-use crate::tree_text::write_tree;
 use json::Writer;
+use json_tree::write_tree;
 use recipe_reader::{Branch, Bucket, FeatureValue, Recipe};
-use sequences::{Sequence, Text};
-use std::alloc::{AllocError, Global};
+use sequences::Text;
+use std::alloc::AllocError;
 
-/// The most bytes that memory is taken for at once.
-const MAX_ROOM: u128 = 16_777_216;
-
-/// The recipe's record, as compact JSON. The one error is want of memory, which is taken once
-/// for a record of at most 16,777,216 bytes.
-pub(crate) fn recipe_text(alloc: Global, recipe: &Recipe) -> Result<Sequence<u8>, AllocError>
-    requires { HasShortBranches recipe.now }
-    ensures text { IfOk result (λ text. text ≡ recipe_text recipe.now) }
-    ensures record { IsSound (record_json recipe.now) }
+/// The recipe's record as compact JSON, in the memory of the buffer, whose bytes go. The one error
+/// is want of memory.
+pub(crate) fn recipe_text(mut buffer: Vec<u8>, recipe: &Recipe) -> Result<Vec<u8>, AllocError>
+    ensures { IfOk result (λ text. text.items ≡ recipe_text recipe.now) }
 {
-    let length = record_length(recipe);
-    let mut writer = Writer::new(Vec::with_capacity(alloc, room(length))?);
+    buffer.clear();
+    let mut writer = Writer::new(buffer);
     write_record(&mut writer, recipe)?;
-    Ok(Sequence::from_vec(writer.into_inner()))
-}
-
-/// The room for a text of so many bytes, and for the comma that a writer keeps room for.
-fn room(length: u128) -> usize {
-    1 + length.min(MAX_ROOM) as usize
+    Ok(writer.into_inner())
 }
 
 /// Writes the recipe's record. The one error is want of memory.

@@ -1,25 +1,25 @@
 // A status in bytes: a letter for its kind, and a letter for its reason or the moment of its end,
 // and the branch.
-ghost use Rattle.std.specs.Prelude.{◌≡◌, ◌≤◌, ◌++◌, length, codes, IfOk};
+ghost use Rattle.std.specs.Prelude.{◌≡◌, ◌≤◌, ◌++◌, length, codes, OnOk};
 ghost use Rattle.state_codec.specs.Statuses.{number, enrolled_mark, not_enrolled_mark, disqualified_mark, error_mark, status_bytes};
 ghost use Rattle.state_codec.specs.Statuses as spec;
 
 use enrol_states::{DisqualifiedReason, EnrolledReason, ErrorCause, NotEnrolledReason, Status};
 use plain_text::Slug;
-use std::alloc::{AllocError, Global};
+use std::alloc::AllocError;
 
-/// The status in bytes.
-pub(crate) fn status_bytes(alloc: Global, status: &Status) -> Result<Vec<u8>, AllocError>
-    ensures { IfOk result (λ bytes. bytes.items ≡ status_bytes status.now) }
+/// Adds the status in bytes.
+pub(crate) fn push_status(bytes: &mut Vec<u8>, status: &Status) -> Result<(), AllocError>
+    ensures { OnOk result (bytes.new.items ≡ bytes.old.items ++ status_bytes status.now) }
 {
     match status {
-        Status::Enrolled { reason, branch } => with_branch(alloc, enrolled_mark(*reason), branch),
-        Status::NotEnrolled { reason } => not_enrolled_mark(*reason).to_vec(alloc),
+        Status::Enrolled { reason, branch } => push_branch(bytes, enrolled_mark(*reason), branch),
+        Status::NotEnrolled { reason } => bytes.extend_from_slice(&not_enrolled_mark(*reason)),
         Status::Disqualified { reason, branch } => {
-            with_branch(alloc, disqualified_mark(*reason), branch)
+            push_branch(bytes, disqualified_mark(*reason), branch)
         }
-        Status::WasEnrolled { branch, ended } => ended_branch(alloc, branch, *ended),
-        Status::Error { cause } => error_mark(*cause).to_vec(alloc),
+        Status::WasEnrolled { branch, ended } => push_ended(bytes, *ended, branch),
+        Status::Error { cause } => bytes.extend_from_slice(&error_mark(*cause)),
     }
 }
 
@@ -38,21 +38,19 @@ pub(crate) fn status_len(status: &Status) -> usize
     }
 }
 
-fn with_branch(alloc: Global, mark: [u8; 2], branch: &Slug) -> Result<Vec<u8>, AllocError>
-    ensures { IfOk result (λ bytes. bytes.items ≡ mark ++ branch.now) }
+fn push_branch(bytes: &mut Vec<u8>, mark: [u8; 2], branch: &Slug) -> Result<(), AllocError>
+    ensures { OnOk result (bytes.new.items ≡ bytes.old.items ++ (mark ++ branch.now)) }
 {
-    let mut bytes = mark.to_vec(alloc)?;
-    bytes.extend_from_slice(branch.text().as_bytes())?;
-    Ok(bytes)
+    bytes.extend_from_slice(&mark)?;
+    bytes.extend_from_slice(branch.text().as_bytes())
 }
 
-fn ended_branch(alloc: Global, branch: &Slug, ended: u64) -> Result<Vec<u8>, AllocError>
-    ensures { IfOk result (λ bytes. bytes.items ≡ codes "W" ++ (number ended ++ branch.now)) }
+fn push_ended(bytes: &mut Vec<u8>, ended: u64, branch: &Slug) -> Result<(), AllocError>
+    ensures { OnOk result (bytes.new.items ≡ bytes.old.items ++ (codes "W" ++ (number ended ++ branch.now))) }
 {
-    let mut bytes = b"W".to_vec(alloc)?;
+    bytes.push(b'W')?;
     bytes.extend_from_slice(&number(ended))?;
-    bytes.extend_from_slice(branch.text().as_bytes())?;
-    Ok(bytes)
+    bytes.extend_from_slice(branch.text().as_bytes())
 }
 
 /// A number in eight bytes, the highest first.

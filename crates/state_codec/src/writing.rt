@@ -3,8 +3,8 @@ ghost use Rattle.std.specs.Prelude.{◌≡◌, IfOk};
 ghost use Rattle.state_codec.specs.Spelling.{spelling};
 ghost use Rattle.state_codec.specs.Sound.{IsSound};
 
-use crate::batches::whole_batch;
-use crate::rows::rows_of;
+use crate::batches::CLEAR;
+use crate::state_writing::put_state;
 use enrol_states::State;
 use std::alloc::{AllocError, Global};
 
@@ -15,6 +15,8 @@ pub fn write_state(alloc: Global, state: &State) -> Result<Vec<u8>, AllocError>
     requires { IsSound state.now }
     ensures { IfOk result (λ bytes. bytes.items ≡ spelling state.now) }
 {
-    let rows = rows_of(alloc, state)?;
-    whole_batch(alloc, rows.as_slice())
+    let mut bytes = Vec::new(alloc);
+    bytes.push(CLEAR)?;
+    put_state(alloc, &mut bytes, state)?;
+    Ok(bytes)
 }

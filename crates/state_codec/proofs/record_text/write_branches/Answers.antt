@@ -2,7 +2,7 @@
 use Rattle.std.proofs.Common.{refl}
 use Rattle.std.proofs.lemmas.Result.{on_ok_weaker}
 use Rattle.recipe_reader.specs.Records.{branch_json}
-use Rattle.state_codec.proofs.Tokens.{items_written}
+use Rattle.json_tree.proofs.Tokens.{items_written}
 use Rattle.state_codec.proofs.record_text.write_branches.Goals as goal
 
 pub returns-clause-tokens : goal.returns-clause-tokens

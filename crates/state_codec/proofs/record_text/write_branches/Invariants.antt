@@ -1,6 +1,6 @@
 use Rattle.std.proofs.Common.{◌≡◌, ◌++◌, drop}
 use Rattle.recipe_reader.specs.Records.{branch_json}
-use Rattle.state_codec.proofs.Tokens.{items_left}
+use Rattle.json_tree.proofs.Tokens.{items_left}
 use Rattle.state_codec.proofs.record_text.write_branches.Given as goal
 
 abbrev pub invariant-loop-branch : goal.invariant-loop-branch

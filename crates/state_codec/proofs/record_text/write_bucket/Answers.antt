@@ -2,8 +2,8 @@
 use Rattle.std.proofs.Common.{pos}
 use Rattle.std.proofs.lemmas.Result.{on_ok_weaker}
 use Rattle.json_tree.specs.Json.{whole}
-use Rattle.state_codec.specs.Tokens.{tokens_of}
-use Rattle.state_codec.proofs.Tokens.{part_then, string_then, token_then}
+use Rattle.json_tree.specs.Tokens.{tokens_of}
+use Rattle.json_tree.proofs.Tokens.{part_then, string_then, token_then}
 use Rattle.state_codec.proofs.record_text.write_bucket.Goals as goal
 
 pub returns-clause-tokens : goal.returns-clause-tokens

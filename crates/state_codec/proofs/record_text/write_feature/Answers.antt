@@ -1,8 +1,8 @@
 -- The parts of the object, one behind the other.
 use Rattle.std.proofs.lemmas.Result.{on_ok_weaker}
 use Rattle.json_tree.specs.Tree.{json_of}
-use Rattle.state_codec.specs.Tokens.{tokens_of}
-use Rattle.state_codec.proofs.Tokens.{part_then, string_then, token_then}
+use Rattle.json_tree.specs.Tokens.{tokens_of}
+use Rattle.json_tree.proofs.Tokens.{part_then, string_then, token_then}
 use Rattle.state_codec.proofs.record_text.write_feature.Goals as goal
 
 pub returns-clause-tokens : goal.returns-clause-tokens

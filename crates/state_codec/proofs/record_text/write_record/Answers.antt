@@ -3,8 +3,8 @@ use Rattle.std.proofs.Common.{◌++◌, map, ap, ◌∙◌}
 use Rattle.std.proofs.lemmas.Result.{on_ok_weaker}
 use Rattle.json_tree.specs.Json.{list, items_of}
 use Rattle.recipe_reader.specs.Records.{text_or_null, branch_json, bucket_json}
-use Rattle.state_codec.specs.Tokens.{tokens_of}
-use Rattle.state_codec.proofs.Tokens.{part_then, string_then, token_then}
+use Rattle.json_tree.specs.Tokens.{tokens_of}
+use Rattle.json_tree.proofs.Tokens.{part_then, string_then, token_then}
 use Rattle.state_codec.proofs.record_text.write_record.Goals as goal
 
 pub returns-clause-tokens : goal.returns-clause-tokens
