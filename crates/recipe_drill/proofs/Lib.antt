@@ -1,5 +1,6 @@
 mod Drawing
-mod Rising
+mod Definitions
+mod Printed
 mod RecordRoom
 mod FileRoom
 mod ManifestRoom

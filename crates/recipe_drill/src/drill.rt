@@ -34,10 +34,10 @@ impl Drill {
         ensures room { IfOk result (λ d. HasRoom d) }
     {
         let id = Text::new(alloc, "00000000-0000-4000-8000-000000000000")?;
-        let script = bytes_of(script_text(alloc)?);
-        let manifest = bytes_of(manifest_text(alloc)?);
-        let context = bytes_of(context_text(alloc)?);
-        let recipes = bytes_of(recipes_text(alloc, start, count)?);
+        let script = script_text(alloc)?;
+        let manifest = manifest_text(alloc)?;
+        let context = context_text(alloc)?;
+        let recipes = recipes_text(alloc, start, count)?;
         Ok(Drill {
             id,
             script,
@@ -46,10 +46,4 @@ impl Drill {
             recipes,
         })
     }
-}
-
-fn bytes_of(text: Text) -> Vec<u8>
-    ensures { result.items ≡ text }
-{
-    text.into_string().into_bytes()
 }

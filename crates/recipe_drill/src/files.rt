@@ -1,16 +1,15 @@
-// The files of a drill, as texts of trees.
-ghost use Rattle.std.specs.Prelude.{◌≡◌, ◌≤◌, IfOk, map, string_bytes};
+// The files of a drill, written as compact JSON, and its script.
+ghost use Rattle.std.specs.Prelude.{◌≡◌, ◌++◌, IfOk, OnOk, map};
 ghost use Rattle.std.specs.List.{range_with_len};
-ghost use Rattle.json_tree.specs.Json.{members_of, object};
-ghost use Rattle.json_tree.specs.Tree.{json_of};
+ghost use Rattle.json_tree.specs.Json.{list, object, items_of, members_of};
 ghost use Rattle.json_tree.specs.Bytes.{text_of};
+ghost use Rattle.json_tree.specs.Tokens.{tokens_of};
 ghost use Rattle.recipe_drill.specs.Records.{record_json};
 ghost use Rattle.recipe_drill.specs.Files as spec;
 
 use crate::draws::draws_of;
-use crate::records::{feature_name, put, record_of, text_of};
-use json_tree::{Items, Members, Tree, write};
-use sequences::Text;
+use crate::records::{set_feature_name, write_record};
+use json::Writer;
 use std::alloc::{AllocError, Global};
 
 /// The numbers of the features, in the order of their decimals as texts.
@@ -20,111 +19,143 @@ const FEATURE_NUMBERS: [u32; 40] = [
 ];
 
 /// The text of `manifest.json`.
-#[tactic(auto, unfolding(crate::specs::Files::manifest_json))]
-pub(crate) fn manifest_text(alloc: Global) -> Result<Text, AllocError>
-    ensures { IfOk result (λ s. s ≡ text_of spec.manifest_json) }
+pub(crate) fn manifest_text(alloc: Global) -> Result<Vec<u8>, AllocError>
+    ensures { IfOk result (λ v. v.items ≡ text_of spec.manifest_json) }
 {
-    let mut channels = Items::new(alloc);
-    channels.push(text_of(alloc, "release")?)?;
-    let mut members = Members::new(alloc);
-    put(alloc, &mut members, "channels", Tree::List(channels))?;
-    put(
-        alloc,
-        &mut members,
-        "features",
-        Tree::Object(definitions(alloc)?),
-    )?;
-    write(alloc, &Tree::Object(members))
+    let mut writer = Writer::new(Vec::new(alloc));
+    write_manifest(&mut writer, &mut String::new(alloc))?;
+    Ok(writer.into_inner())
 }
 
-/// The definitions of the features, by name.
-fn definitions(alloc: Global) -> Result<Members, AllocError>
-    ensures { IfOk result (λ ms. ms ≡ map spec.definition spec.feature_numbers) }
+/// Writes the manifest. The names of the features are put together in `text`.
+fn write_manifest(writer: &mut Writer, text: &mut String) -> Result<(), AllocError>
+    ensures before { writer.new.before ≡ writer.old.before }
+    ensures tokens { OnOk result (writer.new.tokens ≡ writer.old.tokens ++ tokens_of spec.manifest_json) }
 {
-    let mut members = Members::new(alloc);
+    writer.begin_object()?;
+    writer.key("channels")?;
+    writer.begin_array()?;
+    writer.string("release")?;
+    writer.end_array()?;
+    writer.key("features")?;
+    write_definitions(writer, text)?;
+    writer.end_object()
+}
+
+/// Writes the definitions of the features, by name.
+fn write_definitions(writer: &mut Writer, text: &mut String) -> Result<(), AllocError>
+    ensures before { writer.new.before ≡ writer.old.before }
+    ensures tokens { OnOk result (writer.new.tokens ≡ writer.old.tokens ++ tokens_of (object (members_of (map spec.definition spec.feature_numbers)))) }
+{
+    writer.begin_object()?;
     for number in FEATURE_NUMBERS {
-        members.push(feature_name(alloc, number)?, definition_of(alloc, number)?)?;
+        set_feature_name(text, number)?;
+        writer.key(text.as_str())?;
+        write_definition(writer, number)?;
     }
-    Ok(members)
+    writer.end_object()
 }
 
-/// The definition of the feature of this number.
-#[tactic(auto, unfolding(crate::specs::Files::definition_json))]
-fn definition_of(alloc: Global, feature: u32) -> Result<Tree, AllocError>
-    ensures { IfOk result (λ t. json_of t ≡ spec.definition_json feature) }
+/// Writes the definition of the feature of this number.
+fn write_definition(writer: &mut Writer, feature: u32) -> Result<(), AllocError>
+    ensures before { writer.new.before ≡ writer.old.before }
+    ensures tokens { OnOk result (writer.new.tokens ≡ writer.old.tokens ++ tokens_of (spec.definition_json feature)) }
 {
-    let mut variables = Members::new(alloc);
-    put(alloc, &mut variables, "enabled", variable(alloc)?)?;
-    let mut members = Members::new(alloc);
-    put(
-        alloc,
-        &mut members,
-        "allow-coenrollment",
-        Tree::Truth(feature < 4),
-    )?;
-    put(alloc, &mut members, "variables", Tree::Object(variables))?;
-    Ok(Tree::Object(members))
+    writer.begin_object()?;
+    writer.key("allow-coenrollment")?;
+    writer.boolean(feature < 4)?;
+    writer.key("variables")?;
+    writer.begin_object()?;
+    writer.key("enabled")?;
+    write_variable(writer)?;
+    writer.end_object()?;
+    writer.end_object()
 }
 
-/// A Boolean variable that is false by default.
-fn variable(alloc: Global) -> Result<Tree, AllocError>
-    ensures { IfOk result (λ t. json_of t ≡ spec.variable_json) }
+/// Writes a Boolean variable that is false by default.
+fn write_variable(writer: &mut Writer) -> Result<(), AllocError>
+    ensures before { writer.new.before ≡ writer.old.before }
+    ensures tokens { OnOk result (writer.new.tokens ≡ writer.old.tokens ++ tokens_of spec.variable_json) }
 {
-    let mut members = Members::new(alloc);
-    put(alloc, &mut members, "default", Tree::Truth(false))?;
-    put(alloc, &mut members, "type", text_of(alloc, "Boolean")?)?;
-    Ok(Tree::Object(members))
+    writer.begin_object()?;
+    writer.key("default")?;
+    writer.boolean(false)?;
+    writer.key("type")?;
+    writer.string("Boolean")?;
+    writer.end_object()
 }
 
 /// The text of `context.json`.
-#[tactic(auto, unfolding(crate::specs::Files::context_json))]
-pub(crate) fn context_text(alloc: Global) -> Result<Text, AllocError>
-    ensures { IfOk result (λ s. s ≡ text_of spec.context_json) }
+pub(crate) fn context_text(alloc: Global) -> Result<Vec<u8>, AllocError>
+    ensures { IfOk result (λ v. v.items ≡ text_of spec.context_json) }
 {
-    let mut members = Members::new(alloc);
-    put(alloc, &mut members, "app_name", text_of(alloc, "fenix")?)?;
-    put(
-        alloc,
-        &mut members,
-        "app_version",
-        text_of(alloc, "110.0.0")?,
-    )?;
-    put(alloc, &mut members, "channel", text_of(alloc, "release")?)?;
-    write(alloc, &Tree::Object(members))
+    let mut writer = Writer::new(Vec::new(alloc));
+    write_context(&mut writer)?;
+    Ok(writer.into_inner())
+}
+
+fn write_context(writer: &mut Writer) -> Result<(), AllocError>
+    ensures before { writer.new.before ≡ writer.old.before }
+    ensures tokens { OnOk result (writer.new.tokens ≡ writer.old.tokens ++ tokens_of spec.context_json) }
+{
+    writer.begin_object()?;
+    writer.key("app_name")?;
+    writer.string("fenix")?;
+    writer.key("app_version")?;
+    writer.string("110.0.0")?;
+    writer.key("channel")?;
+    writer.string("release")?;
+    writer.end_object()
 }
 
 /// The text of `recipes.json`.
-#[tactic(auto, unfolding(crate::specs::Files::recipes_json))]
-pub(crate) fn recipes_text(alloc: Global, start: u64, count: u32) -> Result<Text, AllocError>
-    ensures { IfOk result (λ s. s ≡ text_of (spec.recipes_json start count)) }
+pub(crate) fn recipes_text(alloc: Global, start: u64, count: u32) -> Result<Vec<u8>, AllocError>
+    ensures { IfOk result (λ v. v.items ≡ text_of (spec.recipes_json start count)) }
 {
-    let mut members = Members::new(alloc);
-    put(
-        alloc,
-        &mut members,
-        "data",
-        Tree::List(records(alloc, start, count)?),
-    )?;
-    write(alloc, &Tree::Object(members))
+    let mut writer = Writer::new(Vec::new(alloc));
+    write_recipes(&mut writer, &mut String::new(alloc), start, count)?;
+    Ok(writer.into_inner())
 }
 
-/// The records, in their order.
-fn records(alloc: Global, start: u64, count: u32) -> Result<Items, AllocError>
-    ensures { IfOk result (λ xs. xs ≡ map (record_json start) (range_with_len 0 count)) }
+/// Writes the recipes. The texts of their records are put together in `text`.
+fn write_recipes(
+    writer: &mut Writer,
+    text: &mut String,
+    start: u64,
+    count: u32,
+) -> Result<(), AllocError>
+    ensures before { writer.new.before ≡ writer.old.before }
+    ensures tokens { OnOk result (writer.new.tokens ≡ writer.old.tokens ++ tokens_of (spec.recipes_json start count)) }
 {
-    let mut items = Items::new(alloc);
+    writer.begin_object()?;
+    writer.key("data")?;
+    write_records(writer, text, start, count)?;
+    writer.end_object()
+}
+
+/// Writes the list of records, in their order.
+fn write_records(
+    writer: &mut Writer,
+    text: &mut String,
+    start: u64,
+    count: u32,
+) -> Result<(), AllocError>
+    ensures before { writer.new.before ≡ writer.old.before }
+    ensures tokens { OnOk result (writer.new.tokens ≡ writer.old.tokens ++ tokens_of (list (items_of (map (record_json start) (range_with_len 0 count))))) }
+{
     let mut state = start;
+    writer.begin_array()?;
     for index in 0..count {
         let draws = draws_of(start, &mut state, index);
-        items.push(record_of(alloc, draws, index)?)?;
+        write_record(writer, text, draws, index)?;
     }
-    Ok(items)
+    writer.end_array()
 }
 
 /// The lines of the script, each with its end.
 #[tactic(auto, unfolding(crate::specs::Files::script))]
-pub(crate) fn script_text(alloc: Global) -> Result<Text, AllocError>
-    ensures { IfOk result (λ s. s ≡ spec.script) }
+pub(crate) fn script_text(alloc: Global) -> Result<Vec<u8>, AllocError>
+    ensures { IfOk result (λ v. v.items ≡ spec.script) }
 {
     let mut script = String::from_str(alloc, "manifest manifest.json release\n")?;
     script.push_str("context context.json\n")?;
@@ -133,5 +164,5 @@ pub(crate) fn script_text(alloc: Global) -> Result<Text, AllocError>
     script.push_str("opt-out drill-0000\n")?;
     script.push_str("opt-in drill-0001 treatment\n")?;
     script.push_str("apply\n")?;
-    Ok(Text::from_string(script))
+    Ok(script.into_bytes())
 }

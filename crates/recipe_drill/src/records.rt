@@ -1,186 +1,184 @@
-// The records of a drill, as trees.
-ghost use Rattle.std.specs.Prelude.{◌≡◌, ◌++◌, [], ◌∷◌, IfOk, OnOk, string_bytes, decimal};
-ghost use Rattle.json_tree.specs.Json.{IsAbove, text};
-ghost use Rattle.json_tree.specs.Tree.{json_of};
+// The records of a drill, written as compact JSON, token by token. The keys of each object rise.
+ghost use Rattle.std.specs.Prelude.{◌≡◌, ◌++◌, OnOk, string_bytes, decimal, pos};
+ghost use Rattle.json_tree.specs.Json.{whole};
+ghost use Rattle.json_tree.specs.Tokens.{tokens_of};
 ghost use Rattle.recipe_drill.specs.Records as spec;
 
 use crate::draws::Draws;
 use itoa::Buffer;
-use json_tree::{Items, Members, Tree};
-use sequences::Text;
-use std::alloc::{AllocError, Global};
+use json::Writer;
+use std::alloc::AllocError;
 
-/// The record of this number that has these draws.
-#[tactic(auto, unfolding(crate::specs::Records::drawn_record))]
-pub(crate) fn record_of(alloc: Global, draws: Draws, index: u32) -> Result<Tree, AllocError>
-    ensures { IfOk result (λ t. json_of t ≡ spec.drawn_record draws index) }
+/// Writes the record of this number that has these draws. The texts of the record are put
+/// together in `text`. The one error is want of memory.
+pub(crate) fn write_record(
+    writer: &mut Writer,
+    text: &mut String,
+    draws: Draws,
+    index: u32,
+) -> Result<(), AllocError>
+    ensures before { writer.new.before ≡ writer.old.before }
+    ensures tokens { OnOk result (writer.new.tokens ≡ writer.old.tokens ++ tokens_of (spec.drawn_record draws index)) }
 {
-    let slug = slug_of(alloc, index)?;
-    let targeting = targeting_of(alloc, draws.version)?;
-    let mut members = Members::new(alloc);
-    put(alloc, &mut members, "appName", text_of(alloc, "fenix")?)?;
-    put(
-        alloc,
-        &mut members,
-        "branches",
-        branches_of(alloc, draws.feature)?,
-    )?;
-    put(
-        alloc,
-        &mut members,
-        "bucketConfig",
-        bucket_of(alloc, draws.feature, draws.count)?,
-    )?;
-    put(alloc, &mut members, "channel", text_of(alloc, "release")?)?;
-    put(
-        alloc,
-        &mut members,
-        "isEnrollmentPaused",
-        Tree::Truth(draws.pause == 0),
-    )?;
-    put(
-        alloc,
-        &mut members,
-        "isRollout",
-        Tree::Truth(draws.kind == 0),
-    )?;
-    put(
-        alloc,
-        &mut members,
-        "schemaVersion",
-        text_of(alloc, "1.12.0")?,
-    )?;
-    put(alloc, &mut members, "slug", Tree::Text(slug))?;
-    put(alloc, &mut members, "targeting", Tree::Text(targeting))?;
-    Ok(Tree::Object(members))
+    writer.begin_object()?;
+    writer.key("appName")?;
+    writer.string("fenix")?;
+    writer.key("branches")?;
+    write_branches(writer, text, draws.feature)?;
+    writer.key("bucketConfig")?;
+    write_bucket(writer, text, draws.feature, draws.count)?;
+    writer.key("channel")?;
+    writer.string("release")?;
+    writer.key("isEnrollmentPaused")?;
+    writer.boolean(draws.pause == 0)?;
+    writer.key("isRollout")?;
+    writer.boolean(draws.kind == 0)?;
+    writer.key("schemaVersion")?;
+    writer.string("1.12.0")?;
+    writer.key("slug")?;
+    set_slug(text, index)?;
+    writer.string(text.as_str())?;
+    writer.key("targeting")?;
+    set_targeting(text, draws.version)?;
+    writer.string(text.as_str())?;
+    writer.end_object()
 }
 
-/// A branch in which the feature is off, and one in which it is on, each with ratio 1.
-#[tactic(auto, unfolding(crate::specs::Records::branches_json))]
-fn branches_of(alloc: Global, feature: u32) -> Result<Tree, AllocError>
-    ensures { IfOk result (λ t. json_of t ≡ spec.branches_json feature) }
+/// Writes a branch in which the feature is off, and one in which it is on, each with ratio 1.
+fn write_branches(writer: &mut Writer, text: &mut String, feature: u32) -> Result<(), AllocError>
+    ensures before { writer.new.before ≡ writer.old.before }
+    ensures tokens { OnOk result (writer.new.tokens ≡ writer.old.tokens ++ tokens_of (spec.branches_json feature)) }
 {
-    let mut items = Items::new(alloc);
-    items.push(branch_of(alloc, "control", feature, false)?)?;
-    items.push(branch_of(alloc, "treatment", feature, true)?)?;
-    Ok(Tree::List(items))
+    writer.begin_array()?;
+    write_branch(writer, text, "control", feature, false)?;
+    write_branch(writer, text, "treatment", feature, true)?;
+    writer.end_array()
 }
 
-#[tactic(auto, unfolding(crate::specs::Records::branch_json))]
-fn branch_of(alloc: Global, slug: &str, feature: u32, enabled: bool) -> Result<Tree, AllocError>
-    ensures { IfOk result (λ t. json_of t ≡ spec.branch_json slug.now feature enabled) }
+fn write_branch(
+    writer: &mut Writer,
+    text: &mut String,
+    slug: &str,
+    feature: u32,
+    enabled: bool,
+) -> Result<(), AllocError>
+    ensures before { writer.new.before ≡ writer.old.before }
+    ensures tokens { OnOk result (writer.new.tokens ≡ writer.old.tokens ++ tokens_of (spec.branch_json slug.now feature enabled)) }
 {
-    let mut features = Items::new(alloc);
-    features.push(feature_of(alloc, feature, enabled)?)?;
-    let mut members = Members::new(alloc);
-    put(alloc, &mut members, "features", Tree::List(features))?;
-    put(alloc, &mut members, "ratio", Tree::Whole(1))?;
-    put(alloc, &mut members, "slug", text_of(alloc, slug)?)?;
-    Ok(Tree::Object(members))
+    writer.begin_object()?;
+    writer.key("features")?;
+    writer.begin_array()?;
+    write_feature(writer, text, feature, enabled)?;
+    writer.end_array()?;
+    writer.key("ratio")?;
+    write_number(writer, 1)?;
+    writer.key("slug")?;
+    writer.string(slug)?;
+    writer.end_object()
 }
 
-#[tactic(auto, unfolding(crate::specs::Records::feature_json))]
-fn feature_of(alloc: Global, feature: u32, enabled: bool) -> Result<Tree, AllocError>
-    ensures { IfOk result (λ t. json_of t ≡ spec.feature_json feature enabled) }
+fn write_feature(
+    writer: &mut Writer,
+    text: &mut String,
+    feature: u32,
+    enabled: bool,
+) -> Result<(), AllocError>
+    ensures before { writer.new.before ≡ writer.old.before }
+    ensures tokens { OnOk result (writer.new.tokens ≡ writer.old.tokens ++ tokens_of (spec.feature_json feature enabled)) }
 {
-    let name = feature_name(alloc, feature)?;
-    let mut members = Members::new(alloc);
-    put(alloc, &mut members, "featureId", Tree::Text(name))?;
-    put(alloc, &mut members, "value", value_of(alloc, enabled)?)?;
-    Ok(Tree::Object(members))
+    writer.begin_object()?;
+    writer.key("featureId")?;
+    set_feature_name(text, feature)?;
+    writer.string(text.as_str())?;
+    writer.key("value")?;
+    write_value(writer, enabled)?;
+    writer.end_object()
 }
 
-#[tactic(auto, unfolding(crate::specs::Records::value_json))]
-fn value_of(alloc: Global, enabled: bool) -> Result<Tree, AllocError>
-    ensures { IfOk result (λ t. json_of t ≡ spec.value_json enabled) }
+fn write_value(writer: &mut Writer, enabled: bool) -> Result<(), AllocError>
+    ensures before { writer.new.before ≡ writer.old.before }
+    ensures tokens { OnOk result (writer.new.tokens ≡ writer.old.tokens ++ tokens_of (spec.value_json enabled)) }
 {
-    let mut members = Members::new(alloc);
-    put(alloc, &mut members, "enabled", Tree::Truth(enabled))?;
-    Ok(Tree::Object(members))
+    writer.begin_object()?;
+    writer.key("enabled")?;
+    writer.boolean(enabled)?;
+    writer.end_object()
 }
 
-#[tactic(auto, unfolding(crate::specs::Records::bucket_json))]
-fn bucket_of(alloc: Global, feature: u32, count: u32) -> Result<Tree, AllocError>
-    ensures { IfOk result (λ t. json_of t ≡ spec.bucket_json feature count) }
+fn write_bucket(
+    writer: &mut Writer,
+    text: &mut String,
+    feature: u32,
+    count: u32,
+) -> Result<(), AllocError>
+    ensures before { writer.new.before ≡ writer.old.before }
+    ensures tokens { OnOk result (writer.new.tokens ≡ writer.old.tokens ++ tokens_of (spec.bucket_json feature count)) }
 {
-    let namespace = namespace_of(alloc, feature)?;
-    let mut members = Members::new(alloc);
-    put(alloc, &mut members, "count", Tree::Whole(i64::from(count)))?;
-    put(alloc, &mut members, "namespace", Tree::Text(namespace))?;
-    put(
-        alloc,
-        &mut members,
-        "randomizationUnit",
-        text_of(alloc, "nimbus_id")?,
-    )?;
-    put(alloc, &mut members, "start", Tree::Whole(0))?;
-    put(alloc, &mut members, "total", Tree::Whole(10_000))?;
-    Ok(Tree::Object(members))
+    writer.begin_object()?;
+    writer.key("count")?;
+    write_number(writer, count)?;
+    writer.key("namespace")?;
+    set_namespace(text, feature)?;
+    writer.string(text.as_str())?;
+    writer.key("randomizationUnit")?;
+    writer.string("nimbus_id")?;
+    writer.key("start")?;
+    write_number(writer, 0)?;
+    writer.key("total")?;
+    write_number(writer, 10_000)?;
+    writer.end_object()
+}
+
+fn write_number(writer: &mut Writer, number: u32) -> Result<(), AllocError>
+    ensures before { writer.new.before ≡ writer.old.before }
+    ensures tokens { OnOk result (writer.new.tokens ≡ writer.old.tokens ++ tokens_of (whole (pos number))) }
+{
+    writer.u64(u64::from(number))
 }
 
 #[tactic(auto, unfolding(crate::specs::Records::slug))]
-fn slug_of(alloc: Global, index: u32) -> Result<Text, AllocError>
-    ensures { IfOk result (λ s. s ≡ spec.slug index) }
+fn set_slug(text: &mut String, index: u32) -> Result<(), AllocError>
+    ensures { OnOk result (string_bytes text.new ≡ spec.slug index) }
 {
-    let mut slug = String::from_str(alloc, "drill-")?;
-    push_number(&mut slug, index / 1000)?;
-    push_number(&mut slug, index / 100 % 10)?;
-    push_number(&mut slug, index / 10 % 10)?;
-    push_number(&mut slug, index % 10)?;
-    Ok(Text::from_string(slug))
+    text.clear();
+    text.push_str("drill-")?;
+    push_number(text, index / 1000)?;
+    push_number(text, index / 100 % 10)?;
+    push_number(text, index / 10 % 10)?;
+    push_number(text, index % 10)
 }
 
-/// The name of the feature of this number.
+/// Makes the text the name of the feature of this number.
 #[tactic(auto, unfolding(crate::specs::Records::feature_name))]
-pub(crate) fn feature_name(alloc: Global, feature: u32) -> Result<Text, AllocError>
-    ensures { IfOk result (λ s. s ≡ spec.feature_name feature) }
+pub(crate) fn set_feature_name(text: &mut String, feature: u32) -> Result<(), AllocError>
+    ensures { OnOk result (string_bytes text.new ≡ spec.feature_name feature) }
 {
-    let mut name = String::from_str(alloc, "feat-")?;
-    push_number(&mut name, feature)?;
-    Ok(Text::from_string(name))
+    text.clear();
+    text.push_str("feat-")?;
+    push_number(text, feature)
 }
 
 #[tactic(auto, unfolding(crate::specs::Records::namespace))]
-fn namespace_of(alloc: Global, feature: u32) -> Result<Text, AllocError>
-    ensures { IfOk result (λ s. s ≡ spec.namespace feature) }
+fn set_namespace(text: &mut String, feature: u32) -> Result<(), AllocError>
+    ensures { OnOk result (string_bytes text.new ≡ spec.namespace feature) }
 {
-    let mut name = String::from_str(alloc, "drill-")?;
-    push_number(&mut name, feature)?;
-    Ok(Text::from_string(name))
+    text.clear();
+    text.push_str("drill-")?;
+    push_number(text, feature)
 }
 
 #[tactic(auto, unfolding(crate::specs::Records::targeting))]
-fn targeting_of(alloc: Global, version: u32) -> Result<Text, AllocError>
-    ensures { IfOk result (λ s. s ≡ spec.targeting version) }
+fn set_targeting(text: &mut String, version: u32) -> Result<(), AllocError>
+    ensures { OnOk result (string_bytes text.new ≡ spec.targeting version) }
 {
-    let mut targeting = String::from_str(alloc, "app_version|versionCompare('")?;
-    targeting.push_str(Buffer::new().format(90 + u64::from(version)))?;
-    targeting.push_str(".!') >= 0")?;
-    Ok(Text::from_string(targeting))
+    text.clear();
+    text.push_str("app_version|versionCompare('")?;
+    text.push_str(Buffer::new().format(90 + u64::from(version)))?;
+    text.push_str(".!') >= 0")
 }
 
 fn push_number(text: &mut String, number: u32) -> Result<(), AllocError>
     ensures { OnOk result (string_bytes text.new ≡ string_bytes text.old ++ decimal number) }
 {
     text.push_str(Buffer::new().format(number))
-}
-
-/// The text as a tree.
-pub(crate) fn text_of(alloc: Global, words: &str) -> Result<Tree, AllocError>
-    ensures { IfOk result (λ t. json_of t ≡ text words.now) }
-{
-    Ok(Tree::Text(Text::new(alloc, words)?))
-}
-
-/// Puts a member at the end of an object, whose key is above each that is there.
-pub(crate) fn put(
-    alloc: Global,
-    members: &mut Members,
-    key: &str,
-    value: Tree,
-) -> Result<(), AllocError>
-    requires { IsAbove key.now members.old }
-    ensures { OnOk result (members.new ≡ members.old ++ (key.now, json_of value) ∷ []) }
-{
-    members.push(Text::new(alloc, key)?, value)
 }

@@ -1,0 +1,16 @@
+-- The parts of the object, one behind the other.
+use Rattle.std.proofs.lemmas.Result.{on_ok_weaker}
+use Rattle.json_tree.proofs.Tokens.{token_then}
+use Rattle.recipe_drill.proofs.files.write_variable.Goals as goal
+
+pub returns-clause-tokens : goal.returns-clause-tokens
+returns-clause-tokens c =
+    on_ok_weaker c.end_object.result
+    (λ closed.
+    (token_then _ c.in_ok-begin_object.ensures
+    (token_then _ c.in_ok-key.ensures
+    (token_then _ c.in_ok-boolean.ensures
+    (token_then _ c.in_ok-key-2.ensures
+    (token_then _ c.in_ok-string.ensures
+    closed))))))
+    c.end_object.ensures.ok
