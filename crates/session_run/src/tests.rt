@@ -5,10 +5,17 @@ use jexl_transforms::{
     Transform, TransformTable, bucket_transform, date_transform, version_transform,
 };
 use jexl_value::{Attributes, Value};
+use records::{payload, record};
 use std::alloc::Global;
 use std::test::Fail;
 
+mod applying;
+mod choices;
 mod drills;
+mod manifests;
+mod records;
+mod refusals;
+mod serving;
 
 const ID: &str = "5a8f0b1e-7c3d-4e2a-9b6c-0123456789ab";
 
@@ -381,30 +388,11 @@ fn faults_of_the_outside(rt: HostRuntime) -> Result<(), Fail> {
     shelf_fails(alloc)
 }
 
-/// What stands behind the version of the schema in a plain record of an experiment.
-const RECORD_REST: &str =
-    "\",\"appName\":\"fenix\",\"channel\":\"release\",\"isEnrollmentPaused\":false,\"isRollout\":false,\"bucketConfig\":{\"randomizationUnit\":\"nimbus_id\",\"namespace\":\"ns\",\"start\":0,\"count\":10000,\"total\":10000},\"branches\":[{\"slug\":\"control\",\"ratio\":0,\"features\":[{\"featureId\":\"homescreen\",\"value\":{}}]},{\"slug\":\"treatment\",\"ratio\":1,\"features\":[{\"featureId\":\"homescreen\",\"value\":{}}]}]}";
-
-// A plain record with this slug and this version of the schema.
-fn push_record(text: &mut String, slug: &str, schema: &str) -> Result<(), Fail> {
-    text.push_str("{\"slug\":\"")?;
-    text.push_str(slug)?;
-    text.push_str("\",\"schemaVersion\":\"")?;
-    text.push_str(schema)?;
-    text.push_str(RECORD_REST)?;
-    Ok(())
-}
-
 // A payload of two equal records, a number, and a record of a later schema.
 fn mixed_payload(alloc: Global) -> Result<String, Fail> {
-    let mut text = String::from_str(alloc, "{\"data\":[")?;
-    push_record(&mut text, "alpha", "1.12.0")?;
-    text.push_str(",")?;
-    push_record(&mut text, "alpha", "1.12.0")?;
-    text.push_str(",5,")?;
-    push_record(&mut text, "beta", "2.0.0")?;
-    text.push_str("]}")?;
-    Ok(text)
+    let alpha = record(alloc, "alpha", "homescreen", "")?;
+    let beta = record(alloc, "beta", "homescreen", ",\"schemaVersion\":\"2.0.0\"")?;
+    payload(alloc, &[alpha.as_str(), alpha.as_str(), "5", beta.as_str()])
 }
 
 // Runs this script over this host with these files alone.
@@ -560,24 +548,6 @@ const MANIFEST: &[u8] =
 
 const CONTEXT: &[u8] =
     b"{\"app_name\":\"fenix\",\"channel\":\"release\",\"app_version\":\"110.1.0\",\"locale\":\"en-US\"}";
-
-/// A record whose treatment has fields of wrong types and unknown ones.
-const ILL_TYPED_FIELDS: &[u8] =
-    b"{\"data\":[{\"slug\":\"alpha\",\"schemaVersion\":\"1.12.0\",\"appName\":\"fenix\",\"channel\":\"release\",\"isEnrollmentPaused\":false,\"isRollout\":false,\"bucketConfig\":{\"randomizationUnit\":\"nimbus_id\",\"namespace\":\"ns\",\"start\":0,\"count\":10000,\"total\":10000},\"branches\":[{\"slug\":\"control\",\"ratio\":0,\"features\":[{\"featureId\":\"homescreen\",\"value\":{}}]},{\"slug\":\"treatment\",\"ratio\":1,\"features\":[{\"featureId\":\"homescreen\",\"value\":{\"card\":{\"title\":\"Hi\",\"note\":5,\"extra\":1},\"sections-enabled\":{\"pocket\":true,\"bogus\":true}}}]}]}]}";
-
-#[test]
-fn ill_typed_fields_fall_back(rt: HostRuntime) -> Result<(), Fail> {
-    answers_with_files(
-        rt.alloc(),
-        &[
-            ("m.json", MANIFEST),
-            ("c.json", CONTEXT),
-            ("alpha.json", ILL_TYPED_FIELDS),
-        ],
-        b"manifest m.json nightly\nfeature homescreen\nmanifest m.json release\ncontext c.json\nfetch alpha.json\napply\nfeature homescreen\n",
-        b"ok\nvalue {\"card\":{\"note\":null,\"title\":\"Hello\"},\"sections-enabled\":{\"pocket\":true,\"top-sites\":true}}\nok\nok\nfetched 1 skipped 0\napplied 1 of 1\nvalue {\"card\":{\"note\":null,\"title\":\"Hi\"},\"sections-enabled\":{\"pocket\":true,\"top-sites\":true}}\n",
-    )
-}
 
 #[test]
 fn missing_setup_refusals(rt: HostRuntime) -> Result<(), Fail> {
