@@ -1,5 +1,5 @@
 -- What an expression says of a client.
-use Rattle.std.proofs.Common.{◌≡◌, ℕ, List, Option, Some, ap, ap₂, sym, ◌∙◌}
+use Rattle.std.proofs.Common.{◌≡◌, ℕ, List, Option, Some, ap, ap₂, ◌∙◌}
 use Rattle.json_tree.specs.Json.{Json, null, members_of}
 use Rattle.app_context.specs.Attributes.{attributes}
 use Rattle.app_context.specs.declared.context.Context.{Context}

@@ -1,11 +1,11 @@
 -- Each text has one tree, or none: how it is found which.
-use Rattle.std.proofs.Common.{◌≡◌, ℕ, ◌<◌, ◌≤◌, Bool, true, false, List, [], ◌∷◌, Option, Some, None, ◌⊎◌, inl, inr, refl, sym, ap, subst, arith}
+use Rattle.std.proofs.Common.{◌≡◌, ℕ, ◌<◌, ◌≤◌, Bool, true, false, List, [], ◌∷◌, Option, Some, None, ◌⊎◌, inl, inr, refl, subst, arith}
 use Rattle.jexl_lexer.specs.Lexing.{Fault, Lexes, Faults}
 use Rattle.jexl_lexer.specs.declared.token.Token.{Token}
 use Rattle.jexl_lexer.specs.declared.token.TokenKind.{TokenKind}
 use Rattle.jexl_lexer.proofs.Uniqueness.{one_list, never_both, always_one}
 use Rattle.jexl_parser.specs.Counting.{deep_from}
-use Rattle.jexl_parser.specs.Depth.{IsTooDeep, IsShallow}
+use Rattle.jexl_parser.specs.Depth.{IsShallow}
 use Rattle.jexl_parser.specs.Grammar.{SpellsTree}
 use Rattle.jexl_parser.specs.Kinds.{kinds_of}
 use Rattle.jexl_parser.specs.Reading.{AnExpr, read_of}

@@ -1,6 +1,6 @@
 -- What is served of a feature has its type.
 use Rattle.std.proofs.Common.{◌≡◌, ℕ, Bool, true, false, List, [], ◌∷◌, Option, Some, None, refl, sym, ap, ◌∙◌, subst, IfSome}
-use Rattle.std.specs.Prelude.{All, find, fold, option_map, option_and_then, bytes_eq, if◌then◌else◌}
+use Rattle.std.specs.Prelude.{All, find, option_map, option_and_then, bytes_eq, if◌then◌else◌}
 use Rattle.fml_types.specs.Named.{found}
 use Rattle.fml_types.specs.Sound.{IsSoundManifest, AreSoundEntries, AreSoundFields}
 use Rattle.fml_value.specs.Typed.{TypedValue}

@@ -1,7 +1,5 @@
 -- What is read of members whose keys rise stands under names that rise.
-use Rattle.std.proofs.Common.{◌≡◌, ℕ, Bool, List, [], ◌∷◌, Result, Ok, Err, refl, sym, ap, ◌∙◌, subst}
-use Rattle.std.specs.Cmp.Lexicographic.{slice_cmp}
-use Rattle.std.specs.Ordering.{nat_cmp}
+use Rattle.std.proofs.Common.{◌≡◌, ℕ, Bool, List, [], ◌∷◌, Result, Ok, Err, refl, sym, subst}
 use Rattle.json_tree.specs.Json.{Json, Members, no_members, member, IsBelow as IsBelowMembers, AreSoundMembers}
 use Rattle.fml_types.specs.Named.{IsBelow, AreRising}
 use Rattle.fml_reader.specs.declared.fault.ModuleFault.{ModuleFault}

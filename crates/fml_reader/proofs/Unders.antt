@@ -1,8 +1,8 @@
 -- What a call returned of what was read before.
-use Rattle.std.proofs.Common.{◌≡◌, ℕ, List, Result, Ok, Err, refl, sym, ap, ◌∙◌, subst}
+use Rattle.std.proofs.Common.{ℕ, List, Result, Ok, Err, sym, ap, ◌∙◌, subst}
 use Rattle.fml_reader.specs.declared.fault.ModuleFault.{ModuleFault}
 use Rattle.fml_reader.specs.declared.fault.ModuleFault.TheVariants as faults
-use Rattle.fml_reader.specs.Outcome.{fault_under, under, Fails, Gives, IsUnder}
+use Rattle.fml_reader.specs.Outcome.{under, Fails, Gives, IsUnder}
 
 abbrev done : {A : Type 0} → A → Result A ModuleFault
 done x = Ok x

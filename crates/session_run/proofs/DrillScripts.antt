@@ -1,10 +1,9 @@
 -- What was run is the script of a drill over its files.
-use Rattle.std.proofs.Common.{◌≡◌, ℕ, List, [], ◌∷◌, length, sym, ◌∙◌, ap, subst}
+use Rattle.std.proofs.Common.{◌≡◌, ℕ, List, [], ◌∷◌, sym, ◌∙◌, ap, subst}
 use Rattle.host_model.specs.declared.side.Side.{Side}
 use Rattle.host_model.specs.declared.host.Host.{Ghosts}
 use Rattle.host_model.specs.Hosts.{MeetsAll}
 use Rattle.host_model.specs.Moments.{IsSaying, KeepsSide}
-use Rattle.gate_journal.specs.Records.{place_of}
 use Rattle.enrol_states.specs.declared.state.State.{State}
 use Rattle.recipe_drill.specs.declared.drill.Drill.{Drill}
 use Rattle.recipe_drill.specs.Parts.{Parts, parts_of, drill}

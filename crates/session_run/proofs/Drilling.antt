@@ -1,5 +1,5 @@
 -- The script of a drill is run, and then the summary is said.
-use Rattle.std.proofs.Common.{◌≡◌, inl, inr, ℕ, List, [], ◌∷◌, ◌++◌, length, take, refl, ◌∙◌, ap, subst}
+use Rattle.std.proofs.Common.{◌≡◌, inl, inr, ℕ, List, [], ◌∷◌, ◌++◌, take, refl, ◌∙◌, ap, subst}
 use Rattle.host_model.specs.declared.side.Side.{Side}
 use Rattle.host_model.specs.declared.side.Side.TheVariants.{Left, Right}
 use Rattle.host_model.specs.declared.host.Host.{Ghosts}
@@ -18,7 +18,7 @@ use Rattle.session_run.specs.DrillEnds.{SummaryEnds, ScriptEnds, ReadyEnds, Dril
 use Rattle.session_run.specs.Ends.{EndsWhole, RunEnds}
 use Rattle.session_run.specs.Finds.{InitFinds}
 use Rattle.session_run.specs.Making.{DuringMaking}
-use Rattle.session_run.specs.Moments.{AfterPrefix, AmongThenAfter}
+use Rattle.session_run.specs.Moments.{AmongThenAfter}
 use Rattle.session_run.proofs.Opened.{after_of_among}
 
 module _ {H : Type 0} (h : Ghosts H) (at : Setting) (s : State) (lines : List (List ℕ)) (summary : List ℕ) (start : H) where

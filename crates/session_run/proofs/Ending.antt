@@ -1,5 +1,5 @@
 -- What stands when a line, the lines of a run or a run has ended.
-use Rattle.std.proofs.Common.{◌≡◌, inl, inr, ℕ, ◌<◌, ◌+◌, List, [], ◌∷◌, ◌++◌, length, take, drop, refl, sym, ◌∙◌, ap, subst, Result, Ok, Err, IsErrAnd}
+use Rattle.std.proofs.Common.{◌≡◌, inl, inr, ℕ, ◌<◌, ◌+◌, List, [], ◌∷◌, ◌++◌, length, take, drop, sym, ◌∙◌, ap, subst, Result, Ok, Err, IsErrAnd}
 use Rattle.host_model.specs.declared.host.Host.{Ghosts}
 use Rattle.enrol_states.specs.declared.state.State.{State}
 use Rattle.client_core.specs.OpenStore.{AllKept, AllKeptEither}

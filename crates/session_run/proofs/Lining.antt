@@ -1,7 +1,6 @@
 -- A line of a run, over the setting of its start.
-use Rattle.std.proofs.Common.{◌≡◌, ◌≢◌, inl, inr, ◌+◌, ℕ, ◌<◌, List, [], ◌∷◌, ◌++◌, append_assoc, below_more, length, take, sym, ap, ◌∙◌, subst, arith, OnOk, Result, Err}
+use Rattle.std.proofs.Common.{◌≡◌, ◌≢◌, ◌+◌, ℕ, ◌<◌, List, [], ◌∷◌, ◌++◌, append_assoc, below_more, length, take, sym, ap, ◌∙◌, subst, Err}
 use Rattle.std.specs.Prelude.{slice_get, Some}
-use Rattle.std.proofs.lemmas.Bool.{cases_eq}
 use Rattle.host_model.specs.declared.host.Host.{Ghosts}
 use Rattle.host_model.specs.Hosts.{MeetsAll}
 use Rattle.enrol_states.specs.declared.state.State.{State}
@@ -15,7 +14,7 @@ use Rattle.session_run.specs.Ends.{LineEnds, LinesEnd}
 use Rattle.session_run.specs.Values.{IsTypedLine, IsTypedAt, AreTyped, IsAnswered}
 use Rattle.session_run.proofs.Ending.{line_ends}
 use Rattle.session_run.proofs.Placing.{some_same, all_places-push, full_at, fits_more}
-use Rattle.session_run.proofs.Running.{after-more, out-more, run-more, lines_met}
+use Rattle.session_run.proofs.Running.{out-more, run-more, lines_met}
 
 -- the setting at the line is that of the start
 module _ (at here : Setting) (same : here ≡ at) (s : State) (lines : List (List ℕ)) (i : ℕ) (line : List ℕ) (within : i < length lines) (more : take (i + 1) lines ≡ take i lines ++ line ∷ []) (now : RunState) (is : now ≡ run_at at s lines i) where

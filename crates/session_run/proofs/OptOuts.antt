@@ -1,10 +1,10 @@
 -- A slug that is held out is out.
-use Rattle.std.proofs.Common.{◌≡◌, inl, inr, ℕ, zero, suc, ◌<◌, ◌≤◌, ◌+◌, ◌-◌, Bool, true, false, List, [], ◌∷◌, ◌++◌, length, get_or, take, refl, sym, ◌∙◌, ap, subst, arith, Option, Some, None, Result, Ok, Err}
+use Rattle.std.proofs.Common.{◌≡◌, inl, inr, ℕ, zero, suc, ◌<◌, ◌≤◌, ◌+◌, ◌-◌, Bool, true, false, List, [], ◌∷◌, length, get_or, refl, sym, ◌∙◌, ap, subst, arith, Some, Result, Ok, Err}
 use Rattle.std.specs.Prelude.{All, IsTrue, slice_get, bytes_eq, if◌then◌else◌}
 use Rattle.std.specs.Cmp.Lexicographic.{bytes_decides}
 use Rattle.std.proofs.lemmas.List.{take_more}
 use Rattle.std.proofs.lemmas.List.Elements.{All-head, All-tail}
-use Rattle.std.proofs.lemmas.Option.{slice_get-get_or, slice_get_cases}
+use Rattle.std.proofs.lemmas.Option.{slice_get-get_or}
 use Rattle.enrol_states.specs.Consistent.{IsNotOptedOut}
 use Rattle.enrol_states.specs.Order.{is_in}
 use Rattle.enrol_states.specs.State.{status_of}
@@ -15,11 +15,10 @@ use Rattle.client_core.specs.Settings.{Setting}
 use Rattle.client_core.specs.Steps.{step}
 use Rattle.client_core.specs.Store.{KeptFor}
 use Rattle.client_core.specs.declared.command.Command.{Command}
-use Rattle.client_core.specs.declared.command.Command.TheVariants.{OptOut}
 use Rattle.client_core.proofs.OptOuts.{opt_outs_hold}
 use Rattle.client_words.specs.declared.command.LineFault.{LineFault}
 use Rattle.client_words.specs.Commands.{command_of}
-use Rattle.session_run.specs.Steps.{RunState, begun, run_after, effect, run_at, after}
+use Rattle.session_run.specs.Steps.{RunState, run_after, effect, run_at, after}
 use Rattle.session_run.specs.OptOuts.{LineOptsOut, LineBringsBack, IsOutFrom, IsHeldOut, IsOut}
 use Rattle.session_run.proofs.Running.{run-more}
 

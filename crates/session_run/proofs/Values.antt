@@ -6,7 +6,7 @@ use Rattle.json_tree.specs.Bytes.{text_of}
 use Rattle.json_tree.specs.Tree.{json_of}
 use Rattle.json_tree.specs.declared.tree.Tree.{Tree}
 use Rattle.client_core.specs.declared.answer.Answer.{Answer}
-use Rattle.client_core.specs.declared.answer.Answer.TheVariants.{Okay, Fetched, Applied, Value, Shown, NoManifest, NoContext, AbsentFile, FileTooLarge, NotJson, BadContext, NoData, TooManyRecipes, BadShape, ImportsUnbuilt, TooManyFiles, DuplicateName, UnknownType, EndlessObject, ObjectTooLarge, UnknownChannel, BadDefault, UnknownFeature, OptedOutLimit, NotParticipating, NoSuchExperiment, NoSuchBranch, FeatureTaken, StateTooLarge}
+use Rattle.client_core.specs.declared.answer.Answer.TheVariants.{Okay, Fetched, Applied, Value, Shown}
 use Rattle.client_core.specs.declared.command.Command.{Command}
 use Rattle.client_core.specs.declared.faults.StepFault.{StepFault}
 use Rattle.client_core.specs.declared.faults.StepFault.TheVariants as step_fault
@@ -15,10 +15,10 @@ use Rattle.client_core.specs.Settings.{Setting}
 use Rattle.client_core.specs.Steps.{step}
 use Rattle.client_core.proofs.ServedValues.{values_are_served}
 use Rattle.client_words.specs.declared.command.LineFault.{LineFault}
-use Rattle.client_words.specs.declared.command.LineFault.TheVariants.{LineTooLong, Blank, UnknownCommand, BadWords, BadSlug, BadId, OutOfMemory}
+use Rattle.client_words.specs.declared.command.LineFault.TheVariants.{Blank, OutOfMemory}
 use Rattle.session_run.specs.declared.faults.RunFault.{RunFault}
 use Rattle.session_run.specs.declared.faults.RunFault.TheVariants as run_fault
-use Rattle.client_words.specs.Answers.{answer_lines, fetched_lines, shown_lines, fault_answer}
+use Rattle.client_words.specs.Answers.{answer_lines, fetched_lines, shown_lines}
 use Rattle.client_words.specs.Commands.{command_of}
 use Rattle.session_run.specs.Statuses.{of_step}
 use Rattle.session_run.specs.Steps.{RunState, reply, answer}

@@ -1,6 +1,5 @@
 -- What stands when a line, the lines of a run or a run has ended, by the answer.
 use Rattle.std.specs.Prelude.{◌≡◌, ◌⊎◌, ◌<◌, ◌+◌, ℕ, List, ◌++◌, Result, Ok, Err, length, take}
-use Rattle.host_model.specs.declared.side.Side.TheVariants.{Left, Right}
 use Rattle.host_model.specs.declared.host.Host.{Ghosts}
 use Rattle.enrol_states.specs.declared.state.State.{State}
 use Rattle.client_core.specs.OpenStore.{AllKept, AllKeptAmong, AllKeptEither}

@@ -1,5 +1,5 @@
 -- A word that is read as no id.
-use Rattle.std.proofs.Common.{◌≡◌, List, ℕ, Option, Some, None, Err, refl, sym, ap}
+use Rattle.std.proofs.Common.{◌≡◌, List, ℕ, Option, Some, None, refl, sym, ap}
 use Rattle.std.proofs.lemmas.Bool.{false≢true}
 use Rattle.uuid.specs.Text.{parsed}
 use Rattle.client_words.specs.Commands.{id_read, id_in}

@@ -1,11 +1,11 @@
 -- There are no types to be sound, and the one feature is.
-use Rattle.std.proofs.Common.{◌≡◌, ℕ, true, List, [], refl, sym, ap, ◌∙◌, subst}
+use Rattle.std.proofs.Common.{◌≡◌, ℕ, true, List, [], sym, ap, ◌∙◌, subst}
 use Rattle.std.specs.Prelude.{All, IsTrue}
 use Rattle.std.proofs.lemmas.List.Elements.{All-nil}
 use Rattle.json_tree.specs.Json.{IsSound}
 use Rattle.json_tree.specs.Tree.{json_of}
 use Rattle.plain_text.specs.Names.{is_name}
-use Rattle.fml_types.specs.Sound.{IsSoundTable, AreSoundEntries, AreSoundFields}
+use Rattle.fml_types.specs.Sound.{AreSoundEntries, AreSoundFields}
 use Rattle.fml_types.specs.declared.manifest.DefaultEntry.{DefaultEntry}
 use Rattle.fml_types.specs.declared.manifest.FeatureDefinition.{FeatureDefinition}
 use Rattle.fml_types.specs.declared.manifest.TypeTable.{TypeTable}

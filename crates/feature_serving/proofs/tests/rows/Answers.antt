@@ -1,5 +1,5 @@
 -- The slugs are those of the recipes, which rise.
-use Rattle.std.proofs.Common.{◌≡◌, length, map, sym, ap, ◌∙◌, subst}
+use Rattle.std.proofs.Common.{map, sym, ap, ◌∙◌, subst}
 use Rattle.std.proofs.lemmas.List.{take_all}
 use Rattle.recipe_reader.specs.Payloads.{AreInOrder}
 use Rattle.recipe_reader.specs.declared.recipe.Recipe.{Recipe}

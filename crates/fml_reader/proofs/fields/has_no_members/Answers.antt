@@ -1,4 +1,4 @@
-use Rattle.std.proofs.Common.{◌≡◌, ap, ◌∙◌}
+use Rattle.std.proofs.Common.{ap, ◌∙◌}
 use Rattle.json_tree.specs.Json.{members_of}
 use Rattle.fml_types.specs.Graph.{has_no_members}
 use Rattle.fml_types.proofs.Counting.{some_members}

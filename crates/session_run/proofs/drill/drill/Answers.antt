@@ -1,5 +1,5 @@
 -- The store of a drill is made, and then its script is run.
-use Rattle.std.proofs.Common.{◌≡◌, List, ℕ, ◌++◌, take, refl, ◌∙◌, ap, subst}
+use Rattle.std.proofs.Common.{List, ℕ, ◌++◌, take, refl, ◌∙◌, ap, subst}
 use Rattle.host_model.specs.declared.side.Side.TheVariants.{Left, Right}
 use Rattle.host_model.specs.Hosts.{MeetsAll}
 use Rattle.enrol_states.specs.State.{fresh}

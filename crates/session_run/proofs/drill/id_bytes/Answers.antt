@@ -1,5 +1,5 @@
 -- The id of a drill reads as its sixteen bytes.
-use Rattle.std.proofs.Common.{◌≡◌, List, ℕ, Some, ap, sym, ◌∙◌, arith}
+use Rattle.std.proofs.Common.{◌≡◌, Some, ap, ◌∙◌, arith}
 use Rattle.uuid.specs.Text.{parsed}
 use Rattle.session_run.specs.Drills.{drill_bytes}
 use Rattle.session_run.proofs.DrillIds.{drill_id_reads}

@@ -1,5 +1,5 @@
 -- The script of a drill is run, and then the summary is said.
-use Rattle.std.proofs.Common.{◌≡◌, List, ℕ, [], ◌∷◌, Err, arith, refl, ap, ◌∙◌}
+use Rattle.std.proofs.Common.{[], ◌∷◌, Err, arith, refl, ap, ◌∙◌}
 use Rattle.host_model.specs.declared.side.Side.TheVariants.{Left, Right}
 use Rattle.gate_journal.specs.Records.{place_of}
 use Rattle.recipe_drill.specs.Parts.{parts_of}

@@ -1,7 +1,6 @@
 -- A line without a command is answered.
-use Rattle.std.proofs.Common.{List, ℕ, ◌++◌, ◌≡◌, ◌∙◌, ap, subst, refl}
+use Rattle.std.proofs.Common.{List, ℕ, ◌++◌, ◌∙◌, ap, subst, refl}
 use Rattle.host_model.specs.Hosts.{MeetsAll}
-use Rattle.client_core.specs.Clients.{state_of}
 use Rattle.client_core.proofs.Holding.{all_kept, holds_said, gate_said, kept_said}
 use Rattle.session_run.specs.Moments.{DuringLine}
 use Rattle.session_run.proofs.Ending.{said_ends}

@@ -2,11 +2,10 @@
 use Rattle.std.proofs.Common.{◌≡◌, List, ℕ, ◌++◌, ◌∙◌, ap, subst, sym, OnOk}
 use Rattle.enrol_states.specs.declared.state.State.{State}
 use Rattle.client_core.specs.declared.session.Session.{Session}
-use Rattle.client_core.specs.Clients.{state_of, session_of, end_of, step_of}
+use Rattle.client_core.specs.Clients.{state_of, session_of, end_of}
 use Rattle.client_core.specs.Places.{place_after}
-use Rattle.client_core.specs.Prepared.{next_state, answer_in}
+use Rattle.client_core.specs.Prepared.{next_state}
 use Rattle.client_core.specs.ServedValues.{IsTyped}
-use Rattle.client_core.specs.Settings.{setting}
 use Rattle.client_core.proofs.Holding.{all_kept}
 use Rattle.client_words.specs.Answers.{answer_lines}
 use Rattle.session_run.proofs.Outcomes.{on_ok, both_ok, always_ok, unwritten_met, unprepared_ends, unanswered_ends}

@@ -1,14 +1,12 @@
 -- A line with a command does it, and one without is answered alone.
-use Rattle.std.proofs.Common.{◌≡◌, ◌≢◌, List, ℕ, ◌++◌, Ok, Err, OnOk, ap, sym, ◌∙◌, refl, subst, rules}
+use Rattle.std.proofs.Common.{◌≡◌, ◌≢◌, List, ℕ, ◌++◌, OnOk, ap, sym, ◌∙◌, refl, subst, rules}
 use Rattle.client_core.specs.Clients.{state_of, end_of}
 use Rattle.client_core.specs.Places.{IsFullFor}
 use Rattle.client_core.specs.Settings.{setting}
 use Rattle.client_core.proofs.Placing.{place_same}
-use Rattle.enrol_states.specs.declared.state.State.{State}
-use Rattle.client_words.specs.declared.command.LineFault.{LineFault}
 use Rattle.client_words.specs.declared.command.LineFault.TheVariants.{OutOfMemory}
 use Rattle.client_words.specs.Commands.{command_of}
-use Rattle.session_run.specs.Steps.{RunState, run_of, run_after, answer}
+use Rattle.session_run.specs.Steps.{RunState, run_of}
 use Rattle.session_run.proofs.Answering.{met_as, ends_as}
 use Rattle.session_run.proofs.Outcomes.{always_ok, on_ok, both_ok, run_same, read_ok, read_err, after-command, answer-command, after-fault, answer-fault}
 use Rattle.session_run.proofs.Values.{typed_line, refused_line}

@@ -1,13 +1,12 @@
 -- The run's promises, line by line.
-use Rattle.std.proofs.Common.{◌≡◌, ◌≢◌, ◌<◌, inl, inr, ◌+◌, ℕ, List, IsErrOf, Result, ◌++◌, length, map, sym, ap, ◌∙◌, refl, subst, arith, rules}
+use Rattle.std.proofs.Common.{◌≡◌, ◌≢◌, ◌<◌, inl, inr, ◌+◌, ℕ, IsErrOf, Result, ◌++◌, length, map, sym, ap, ◌∙◌, refl, subst, arith, rules}
 use Rattle.std.proofs.lemmas.Bool.{cases_eq}
 use Rattle.std.proofs.lemmas.List.{append-nil, length-map}
 use Rattle.host_model.proofs.Meeting.{started}
 use Rattle.client_core.specs.Clients.{state_of, end_of}
 use Rattle.client_core.specs.OpenStore.{AllKept, AllStand}
-use Rattle.client_core.specs.Settings.{Setting, setting}
+use Rattle.client_core.specs.Settings.{setting}
 use Rattle.client_core.proofs.Holding.{all_kept, all_stand}
-use Rattle.enrol_states.specs.declared.state.State.{State}
 use Rattle.session_run.specs.declared.faults.RunFault.{RunFault}
 use Rattle.session_run.specs.declared.faults.RunFault.TheVariants.{StoreFull}
 use Rattle.client_words.specs.Commands.{part_at}

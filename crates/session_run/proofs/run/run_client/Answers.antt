@@ -1,5 +1,5 @@
 -- A store is opened, and its lines are done.
-use Rattle.std.proofs.Common.{◌≡◌, ◌⊎◌, List, ℕ, All, IsErrOf, Ok, Err, ◌<◌, length, map, refl, sym, ◌∙◌, subst, rules}
+use Rattle.std.proofs.Common.{◌≡◌, List, ℕ, All, IsErrOf, Ok, Err, ◌<◌, length, map, refl, sym, ◌∙◌, subst, rules}
 use Rattle.std.proofs.lemmas.List.{length-map}
 use Rattle.host_model.specs.declared.side.Side.TheVariants.{Left, Right}
 use Rattle.client_core.specs.Clients.{state_of, end_of}
