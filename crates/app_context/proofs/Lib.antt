@@ -6,4 +6,3 @@ pub mod Loops
 pub mod Rows
 pub mod Wanted
 pub mod ByTable
-pub mod Rising

@@ -19,6 +19,3 @@ pub use laws::attributes_are_by_table;
 pub use named::NamedTexts;
 pub use reading::{ContextFault, read_context};
 pub use targeting::{attributes, set_already_enrolled, shared_attributes};
-
-#[cfg(test)]
-mod tests;

@@ -25,6 +25,3 @@ pub use faults::{ClientFault, MakeFault, StepFault};
 pub use laws::{one_state, opt_outs_hold, steps_stay_sound, values_are_served, values_have_types};
 pub use prepared::Prepared;
 pub use session::Session;
-
-#[cfg(test)]
-mod tests;

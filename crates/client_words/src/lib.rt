@@ -9,6 +9,3 @@ mod rows;
 
 pub use answer::{answer_text, hyphenated, line_text};
 pub use command::{LINE_LIMIT, LineFault, part, read_command};
-
-#[cfg(test)]
-mod tests;

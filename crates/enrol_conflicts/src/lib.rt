@@ -12,6 +12,3 @@ pub use candidate::Candidate;
 pub use laws::{one_settlement, settled_are_exclusive, settled_says, slugs_in_order_differ};
 pub use settlement::settle;
 pub use slugs::slugs_rise;
-
-#[cfg(test)]
-mod tests;

@@ -1,4 +1,3 @@
-pub mod Orders
 pub mod Saying
 pub mod Trees
 pub mod Results

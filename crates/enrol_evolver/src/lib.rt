@@ -18,6 +18,3 @@ pub use evolution::evolve;
 pub use laws::{each_slug_by_itself, trees_are_found};
 pub use targeting::Targeting;
 pub use verdicts::verdict;
-
-#[cfg(test)]
-mod tests;

@@ -23,6 +23,3 @@ pub use state::{LAST_MOMENT, MAX_OPTED_OUT, MAX_RECIPES, Row, State};
 pub use status::{DisqualifiedReason, EnrolledReason, ErrorCause, NotEnrolledReason, Status};
 pub use transitions::{candidate, ended};
 pub use verdict::{Outcome, Verdict};
-
-#[cfg(test)]
-mod tests;

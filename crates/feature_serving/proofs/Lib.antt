@@ -4,4 +4,3 @@ pub mod Members
 pub mod Ranks
 pub mod Orders
 pub mod Types
-mod Samples

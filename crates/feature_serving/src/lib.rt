@@ -8,6 +8,3 @@ mod serving;
 
 pub use laws::{layers_are_in_order, served_have_types};
 pub use serving::{ServeFault, served};
-
-#[cfg(test)]
-mod tests;

@@ -12,6 +12,3 @@ mod tables;
 pub use fault::LinkFault;
 pub use linking::link;
 pub use sequences::Text;
-
-#[cfg(test)]
-mod tests;

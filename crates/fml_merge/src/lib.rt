@@ -14,6 +14,3 @@ mod parts;
 pub use defaults::{DefaultFault, check_defaults};
 pub use features::{default_of, overlay_feature};
 pub use overlays::{overlay, zero};
-
-#[cfg(test)]
-mod tests;

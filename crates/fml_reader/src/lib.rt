@@ -14,6 +14,3 @@ mod values;
 pub use fault::ModuleFault;
 pub use module::{Module, read_module};
 pub use sequences::Text;
-
-#[cfg(test)]
-mod tests;

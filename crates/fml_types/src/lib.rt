@@ -23,6 +23,3 @@ pub use manifest::{
 };
 pub use sequences::Text;
 pub use type_text::{TypeFault, read_type, without_spaces};
-
-#[cfg(test)]
-mod tests;

@@ -21,6 +21,3 @@ pub use laws::trees_of_values;
 pub use sequences::Text;
 pub use taking::takes;
 pub use value::{Entries, InnerValue, Value, Values};
-
-#[cfg(test)]
-mod tests;

@@ -18,6 +18,3 @@ pub use format::SIDE_END;
 pub use frame::{Frame, FrameFault, MAX_PAYLOAD};
 pub use journal::Journal;
 pub use laws::one_reading;
-
-#[cfg(test)]
-mod tests;

@@ -12,6 +12,3 @@ mod transforms;
 
 pub use evaluation::eval;
 pub use fault::EvalFault;
-
-#[cfg(test)]
-mod tests;

@@ -19,6 +19,3 @@ pub use fault::LexFault;
 pub use laws::one_answer;
 pub use lexer::lex;
 pub use token::{Sign, Token, TokenKind};
-
-#[cfg(test)]
-mod tests;

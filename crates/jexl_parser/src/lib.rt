@@ -21,6 +21,3 @@ pub use fault::ParseFault;
 pub use laws::{and_or_from_the_left, one_tree};
 pub use node::{BinarySign, Literal, Node};
 pub use parsing::parse;
-
-#[cfg(test)]
-mod tests;

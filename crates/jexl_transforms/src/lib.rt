@@ -14,6 +14,3 @@ pub use buckets::bucket_transform;
 pub use dates::date_transform;
 pub use table::TransformTable;
 pub use versions::version_transform;
-
-#[cfg(test)]
-mod tests;

@@ -17,6 +17,3 @@ pub use equality::same;
 pub use laws::{names_are_found, values_are_kept};
 pub use sequences::Text;
 pub use value::{NamedValues, Value, Values};
-
-#[cfg(test)]
-mod tests;

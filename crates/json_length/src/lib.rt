@@ -8,6 +8,3 @@ mod trees;
 pub use numbers::whole_length;
 pub use texts::text_length;
 pub use trees::{length_within, tree_length};
-
-#[cfg(test)]
-mod tests;

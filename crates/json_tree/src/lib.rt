@@ -15,6 +15,3 @@ pub use rereading::reread;
 pub use sequences::Text;
 pub use tree::{Items, Members, Tree};
 pub use writing::{write, write_tree};
-
-#[cfg(test)]
-mod tests;

@@ -14,6 +14,3 @@ pub use names::is_name;
 pub use numbers::read_number;
 pub use slug::{Slug, SlugFault, slug_of};
 pub use spans::{lines, words};
-
-#[cfg(test)]
-mod tests;

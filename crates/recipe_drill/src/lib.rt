@@ -10,6 +10,3 @@ mod records;
 
 pub use counting::summary;
 pub use drill::{Drill, MAX_RECIPES};
-
-#[cfg(test)]
-mod tests;

@@ -21,6 +21,3 @@ pub use recipe::{Branch, Bucket, FeatureValue, Recipe, RecordFault, SkipReason};
 pub use recipes::Recipes;
 pub use rereading::reread;
 pub use writing::record_of;
-
-#[cfg(test)]
-mod tests;

@@ -11,6 +11,3 @@ mod points;
 pub use branches::choose_branch;
 pub use buckets::in_bucket;
 pub use points::point;
-
-#[cfg(test)]
-mod tests;

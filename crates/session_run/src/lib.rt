@@ -18,6 +18,3 @@ mod words;
 pub use entry::nimbus;
 pub use laws::kept_chain;
 pub use status::RunStatus;
-
-#[cfg(test)]
-mod tests;

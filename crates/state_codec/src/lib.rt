@@ -24,6 +24,3 @@ pub use reading::read_state;
 pub use size::state_size;
 pub use store_row::StoreRow;
 pub use writing::write_state;
-
-#[cfg(test)]
-mod tests;

@@ -13,6 +13,3 @@ mod part;
 
 pub use comparing::compare;
 pub use laws::version_order_is_total;
-
-#[cfg(test)]
-mod tests;

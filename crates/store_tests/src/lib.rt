@@ -1,0 +1,10 @@
+//! Tests of the layers that keep a state: hosts in memory, journals on their sides, pairs of sides, and the spelling of a
+//! state.
+#![tactic(auto)]
+
+#[cfg(test)]
+mod hosts;
+#[cfg(test)]
+mod journals;
+#[cfg(test)]
+mod spellings;
