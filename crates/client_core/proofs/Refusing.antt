@@ -22,16 +22,16 @@ spell_earlier (first ∷ earlier) s all sound = ((first, all.0, refl), spell_ear
 all_spell : (payloads : List (List ℕ)) (s : State) → IsHistory payloads s → AllSpell payloads
 all_spell payloads s history = subst AllSpell (sym history.spelled) (spell_earlier history.earlier s history.were_sound history.sound)
 
-spell_at : {V : Type 0} (f : V → List ℕ) (vs : List V) (i : ℕ) (d : V) → i < length vs → AllSpell (map f vs) → (s : State) × IsSound s × (f (get_or vs i d) ≡ spelling s)
-spell_at f [] i d within all = absurd (omega (arith, within))
-spell_at f (v ∷ vs) zero d within all = all.0
-spell_at f (v ∷ vs) (suc i) d within all = spell_at f vs i d (omega (arith, within)) all.1
+spell_at : (payloads : List (List ℕ)) (i : ℕ) (d : List ℕ) → i < length payloads → AllSpell payloads → (s : State) × IsSound s × (get_or payloads i d ≡ spelling s)
+spell_at [] i d within all = absurd (omega (arith, within))
+spell_at (payload ∷ payloads) zero d within all = all.0
+spell_at (payload ∷ payloads) (suc i) d within all = spell_at payloads i d (omega (arith, within)) all.1
 
 -- a payload that spells no state
-pub not_spelled : {V : Type 0} (f : V → List ℕ) (vs : List V) (i : ℕ) (v : V) → i < length vs → v ≡ get_or vs i v → ((t : State) → IsSound t → f v ≡ spelling t → ⊥) → (s : State) → IsHistory (map f vs) s → ⊥
-not_spelled f vs i v within is none s history =
-    let at = spell_at f vs i v within (all_spell (map f vs) s history) in
-    none at.0 at.1 (ap f is ∙ at.2)
+pub not_spelled : (payloads : List (List ℕ)) (i : ℕ) (payload : List ℕ) → i < length payloads → payload ≡ get_or payloads i payload → ((t : State) → IsSound t → payload ≡ spelling t → ⊥) → (s : State) → IsHistory payloads s → ⊥
+not_spelled payloads i payload within is none s history =
+    let at = spell_at payloads i payload within (all_spell payloads s history) in
+    none at.0 at.1 (is ∙ at.2)
 
 -- no payload at all
 pub no_last : (payloads : List (List ℕ)) (last : Option State) → IsHistorySoFar payloads last → IsNone last → (s : State) → IsHistory payloads s → ⊥

@@ -2,7 +2,7 @@
 ghost use Rattle.std.specs.Prelude.{◌≡◌, ◌≢◌, ◌⊎◌, ◌+◌, ◌≤◌, List, ℕ, length, IfOk, OnOk, IsOk, IsErrOf};
 ghost use Rattle.host_model.specs.Causes.{Rose, HasCause};
 ghost use Rattle.host_model.specs.Hosts.{MeetsAll, IsDurable};
-ghost use Rattle.gate_journal.specs.Journal.{IsShutOn};
+ghost use Rattle.gate_journal.specs.Journal.{IsShutOn, IsZeroFirstOn};
 ghost use Rattle.enrol_states.specs.declared.state.State.{State};
 ghost use Rattle.enrol_states.specs.State.{fresh, last_moment};
 ghost use Rattle.state_codec.specs.Sound.{IsSound, max_size};
@@ -31,6 +31,9 @@ impl Client {
         requires { now ≤ last_moment }
         ensures made { OnOk result (H.tells → AllKept H.Host host.new (fresh id now)) }
         ensures settled { OnOk result (H.tells → IsSettled H.Host host.new) }
+
+        // The right side, which was closed, has 0 as its first byte.
+        ensures closed_is_zero { OnOk result (H.tells → IsZeroFirstOn H.Host host.new Side.Right) }
 
         // What the pair was that it read, by its answer, and which answer each such pair has.
         ensures finds { H.tells → MakeFinds (H.reads host.old Side.Left) (H.reads host.old Side.Right) result }
@@ -78,6 +81,7 @@ fn close_both<H: Host>(host: &mut H) -> Result<(), DiskFailed>
     ensures left { OnOk result (H.tells → IsShutOn H.Host host.new Side.Left) }
     ensures right { OnOk result (H.tells → IsShutOn H.Host host.new Side.Right) }
     ensures right_only { OnOk result (H.tells → IsDurable H.Host host.new Side.Right) }
+    ensures right_zero { OnOk result (H.tells → IsZeroFirstOn H.Host host.new Side.Right) }
     ensures any_moment { H.tells → MeetsAll H.Host host.old host.new (IsQuiet (H.said host.old)) }
     ensures text { H.tells → H.said host.new ≡ H.said host.old }
     ensures cause { HasCause (H.disk_faults host.old) (H.disk_faults host.new) result }
@@ -94,6 +98,7 @@ fn make_store<H: Host>(host: &mut H, first: &Frame) -> Result<(), DiskFailed>
     ensures made { OnOk result (H.tells → (s : State) → IsSound s → first.now ≡ spelling s → AllKept H.Host host.new s) }
     ensures left_only { OnOk result (H.tells → IsDurable H.Host host.new Side.Left) }
     ensures right_only { OnOk result (H.tells → IsDurable H.Host host.new Side.Right) }
+    ensures right_zero { OnOk result (H.tells → IsZeroFirstOn H.Host host.new Side.Right) }
     ensures any_moment { H.tells → MeetsAll H.Host host.old host.new (IsQuiet (H.said host.old)) }
     ensures text { H.tells → H.said host.new ≡ H.said host.old }
     ensures cause { HasCause (H.disk_faults host.old) (H.disk_faults host.new) result }

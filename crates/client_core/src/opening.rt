@@ -1,5 +1,5 @@
 // The store is opened.
-ghost use Rattle.std.specs.Prelude.{◌≡◌, ◌≢◌, ◌⊎◌, ◌≤◌, ℕ, List, Ok, Err, Some, IfOk, OnOk, IsOk, IsErr, IsErrOf, IsNone, map};
+ghost use Rattle.std.specs.Prelude.{◌≡◌, ◌≢◌, ◌⊎◌, ◌≤◌, ℕ, List, Ok, Err, Some, IfOk, OnOk, IsOk, IsErr, IsErrOf, IsNone};
 ghost use Rattle.host_model.specs.declared.side.Side.{Side};
 ghost use Rattle.host_model.specs.Causes.{Rose, HasCause};
 ghost use Rattle.host_model.specs.Sides.{other};
@@ -19,6 +19,7 @@ use crate::session::Session;
 use enrol_states::State;
 use gate_journal::{Journal, OpenFault};
 use host_model::{DiskFailed, Host, Side};
+use sequences::Sequence;
 use state_codec::{CodecFault, read_state};
 use std::alloc::{AllocError, Global};
 
@@ -68,12 +69,12 @@ impl Client {
 }
 
 /// The state of the last payload, where each is the spelling of one.
-fn last_state(alloc: Global, payloads: &[Vec<u8>]) -> Result<Option<State>, AllocError>
-    ensures { IfOk result (λ last. IsLast (map (λ v. v.items) payloads.now) last) }
+fn last_state(alloc: Global, payloads: &Sequence<Sequence<u8>>) -> Result<Option<State>, AllocError>
+    ensures { IfOk result (λ last. IsLast payloads.now last) }
 {
     let mut last = None;
-    for payload in payloads {
-        match read_state(alloc, payload) {
+    for payload in payloads.as_slice() {
+        match read_state(alloc, payload.as_slice()) {
             Ok(state) => last = Some(state),
             Err(CodecFault::NotAState) => return Ok(None),
             Err(CodecFault::OutOfMemory) => return Err(AllocError),

@@ -1,5 +1,8 @@
+mod Answering
 mod Appending
+mod Fronts
 mod Gates
 mod Making
+pub mod Ranges
 pub mod Standing
 pub mod Unique

@@ -58,7 +58,21 @@ module _ (generation : ℕ) (payload : List ℕ) (known : generation ≤ 2) (fit
       made_kept stage.tail new (is ∙ ap (λ (d : List ℕ). overwritten d 0 (1 ∷ [])) stage.bytes ∙ written_gate [] 0 refl stage.first 1 _)
 
   module _ {H : Type 0} (h : Ghosts H) (side : Side) (start : H) where
-    -- what is met during a write and a write that is synced, both behind the first byte
+    -- what is met during a write behind the first byte
+    pub header_met : (mid : H) (n : ℕ) → IsShutOn h start side
+        → ((l r u : List ℕ) → h.might start (h.moment start) l r u → NowOf h start l r u)
+        → Follows (Torn 1 n) (h.images start side) (h.images mid side)
+        → KeepsAll h (other side) start mid
+        → Elapses (h.moment start) (h.moment mid) (h.might start) (h.might mid) (NowOf h mid)
+        → MeetsAll h start mid (OnSideOf h start side (IsShutOrHas generation payload))
+    header_met mid n shut only_now crash rest time =
+        let P = IsShutOrHas generation payload in
+        let Q = OnSideOf h start side P in
+        let at_start = started h.moment h.might start Q (λ l r u met. met_at_start h.reads h.images h.said side start P (λ c left. inl (shut c left)) l r u (only_now l r u met)) in
+        goes_on h.moment h.might start start mid Q _ at_start time
+        (met_on_side h.reads h.images h.said side start mid P (λ c left. inl (shut_after 1 n (h.images start side) (omega arith) shut c (crash c left))) rest)
+
+    -- and a write that is synced, also behind it
     pub behind_met : (mid new : H) (n m : ℕ) → IsShutOn h start side
         → ((l r u : List ℕ) → h.might start (h.moment start) l r u → NowOf h start l r u)
         → Follows (Torn 1 n) (h.images start side) (h.images mid side)
@@ -68,11 +82,8 @@ module _ (generation : ℕ) (payload : List ℕ) (known : generation ≤ 2) (fit
         → MeetsAll h start new (OnSideOf h start side (IsShutOrHas generation payload))
     behind_met mid new n m shut only_now crash rest time second =
         let P = IsShutOrHas generation payload in
-        let Q = OnSideOf h start side P in
         let shut_mid : IsShutOn h mid side = λ c left. shut_after 1 n (h.images start side) (omega arith) shut c (crash c left) in
-        let at_start = started h.moment h.might start Q (λ l r u met. met_at_start h.reads h.images h.said side start P (λ c left. inl (shut c left)) l r u (only_now l r u met)) in
-        let first = goes_on h.moment h.might start start mid Q _ at_start time (met_on_side h.reads h.images h.said side start mid P (λ c left. inl (shut_mid c left)) rest) in
-        then_met h.moment h.might start mid new Q _ Q first second (λ l r u met. met)
+        then_met h.moment h.might start mid new _ _ (OnSideOf h start side P) (header_met mid n shut only_now crash rest time) second (λ l r u met. met)
         (on_side_from h.reads h.images h.said start mid side (IsAfter (Torn 10 m) (h.images mid side)) P rest (λ c after. inl (shut_after 10 m (h.images mid side) (omega arith) shut_mid c after)))
 
     -- and up to the end of the write of the first byte

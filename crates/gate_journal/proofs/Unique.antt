@@ -5,8 +5,8 @@ use Rattle.std.proofs.lemmas.Nat.{from_be_bytes-to_be_bytes_4}
 use Rattle.std.specs.Int.{w32, to_be_bytes, from_be_bytes}
 use Rattle.gate_journal.specs.declared.format.TheConstants.{SIDE_END}
 use Rattle.gate_journal.specs.Reading.{HasNoRecord, HasNoRecords}
-use Rattle.gate_journal.specs.Records.{framed, records, opened, place_of, IsClosed, IsOpen, HasOneReading}
-use Rattle.gate_journal.proofs.Appending.{length-framed, records-push}
+use Rattle.gate_journal.specs.Records.{framed, records, opened, place_of, IsClosed, HasOneReading}
+use Rattle.gate_journal.proofs.Appending.{length-framed, records-push, place_of-push}
 
 -- each payload's length fits four bytes
 abbrev pub AllFit : List (List ℕ) → Type 0
@@ -19,6 +19,11 @@ AllFit-push (payload ∷ payloads) next fit here = (fit.0, AllFit-push payloads 
 
 place_of-cons : (payload : List ℕ) (payloads : List (List ℕ)) → place_of (payload ∷ payloads) ≡ place_of payloads + length payload + 5
 place_of-cons payload payloads = omega (arith, length-append (1 ∷ framed payload) (records payloads), length-framed payload)
+
+-- what place says of each payload
+pub AllFit-place : (payloads : List (List ℕ)) → place_of payloads < SIDE_END → AllFit payloads
+AllFit-place [] fits = tt
+AllFit-place (payload ∷ payloads) fits = (omega (arith, place_of-cons payload payloads), AllFit-place payloads (omega (arith, place_of-cons payload payloads)))
 
 -- four bytes tell the length
 same_lengths : (p q : List ℕ) (x y : List ℕ) → length p < 2 ^ 32 → length q < 2 ^ 32 → framed p ++ x ≡ framed q ++ y → length p ≡ length q
@@ -107,16 +112,19 @@ whole_record len size after left left_is sizes within =
 pub no_length : (left payload tail : List ℕ) → length left < 4 → left ≡ framed payload ++ tail → ⊥
 no_length left payload tail short is = absurd (omega (arith, ap length is, length-append (framed payload) tail, length-framed payload))
 
--- records that end too late
-pub too_long : (payloads : List (List ℕ)) (left bytes : List ℕ) → bytes ≡ records payloads ++ left → AllFit payloads → IsClosed left → SIDE_END ≤ place_of payloads → HasNoRecords bytes
-too_long payloads left bytes split fit closed_left long all rest fits is closed = by_more longer.more longer.payloads_are longer.left_is
-  where
-    longer : Longer payloads all left rest
-    longer = records_longer payloads all left rest fit fits closed (sym split ∙ is)
+-- payloads at the front end no later than all
+place_of-front : (payloads more : List (List ℕ)) → place_of payloads ≤ place_of (payloads ++ more)
+place_of-front [] more = omega arith
+place_of-front (payload ∷ payloads) more = omega (arith, place_of-cons payload payloads, place_of-cons payload (payloads ++ more), place_of-front payloads more)
 
-    by_more : (more : List (List ℕ)) → all ≡ payloads ++ more → left ≡ records more ++ rest → ⊥
-    by_more [] are left_is = absurd (omega (arith, fits, long, ap place_of (are ∙ append-nil payloads)))
-    by_more (payload ∷ more) are left_is = subst IsClosed left_is closed_left refl
+-- a record that ends too late
+pub too_late : (payloads : List (List ℕ)) (next left behind bytes : List ℕ) → bytes ≡ records payloads ++ left → left ≡ 1 ∷ (framed next ++ behind) → AllFit payloads → length next < 2 ^ 32
+    → SIDE_END ≤ place_of payloads + length next + 5 → HasNoRecords bytes
+too_late payloads next left behind bytes split next_is fit next_fits late all rest fits is closed =
+    absurd (omega (arith, fits, late, place_of-push payloads next, place_of-front (payloads ++ next ∷ []) longer.more, ap place_of longer.payloads_are))
+  where
+    longer : Longer (payloads ++ next ∷ []) all behind rest
+    longer = records_longer (payloads ++ next ∷ []) all behind rest (AllFit-push payloads next fit next_fits) fits closed (sym (records_step payloads next left behind bytes split next_is) ∙ is)
 
 -- the parts of the bytes at an open gate
 pub at_gate : (bytes : List ℕ) → 5 ≤ length bytes → get_or bytes 0 0 ≡ 1 → bytes ≡ 1 ∷ ((get_or bytes 1 0 ∷ get_or bytes 2 0 ∷ get_or bytes 3 0 ∷ get_or bytes 4 0 ∷ []) ++ take (length bytes - 5) (drop 5 bytes))
@@ -142,11 +150,6 @@ four_fit a b c d fa fb fc fd (suc zero) = fb
 four_fit a b c d fa fb fc fd (suc (suc zero)) = fc
 four_fit a b c d fa fb fc fd (suc (suc (suc zero))) = fd
 four_fit a b c d fa fb fc fd (suc (suc (suc (suc i)))) = omega arith
-
--- what place says of each payload
-AllFit-place : (payloads : List (List ℕ)) → place_of payloads < SIDE_END → AllFit payloads
-AllFit-place [] fits = tt
-AllFit-place (payload ∷ payloads) fits = (omega (arith, place_of-cons payload payloads), AllFit-place payloads (omega (arith, place_of-cons payload payloads)))
 
 same_records : (payloads others : List (List ℕ)) (left rest : List ℕ) → place_of payloads < SIDE_END → place_of others < SIDE_END → IsClosed left → IsClosed rest → records payloads ++ left ≡ records others ++ rest → payloads ≡ others
 same_records payloads others left rest fits other_fits closed_left closed same = by_more longer.more longer.payloads_are longer.left_is

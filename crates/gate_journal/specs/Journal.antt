@@ -6,7 +6,7 @@ use Rattle.host_model.specs.Hosts.{IsDurable}
 use Rattle.gate_journal.specs.declared.faults.OpenFault.{OpenFault}
 use Rattle.gate_journal.specs.declared.faults.OpenFault.TheVariants.{DiskFault, OutOfMemory}
 use Rattle.gate_journal.specs.OpenSide.{OpenSide}
-use Rattle.gate_journal.specs.Records.{place_of, IsOpen, IsKept, IsShut}
+use Rattle.gate_journal.specs.Records.{place_of, IsOpen, IsKept, IsShut, HasZeroFirst}
 
 -- the journal's side is open with these payloads, its place is where they end, and each image is what reads give
 pub record Stands {H : Type 0} (h : Ghosts H) (journal : OpenSide) (host : H) (payloads : List (List ℕ)) : Type 0 where
@@ -22,6 +22,10 @@ pub record StandsWithGate {H : Type 0} (h : Ghosts H) (journal : OpenSide) (host
 -- each image of this side is closed, with at least one byte
 abbrev pub IsShutOn : {H : Type 0} → Ghosts H → H → Side → Type 0
 IsShutOn h host side = (image : List ℕ) → h.images host side image → IsShut image
+
+-- each image of this side has 0 as its first byte
+abbrev pub IsZeroFirstOn : {H : Type 0} → Ghosts H → H → Side → Type 0
+IsZeroFirstOn h host side = (image : List ℕ) → h.images host side image → HasZeroFirst image
 
 -- closed with at least one byte, or open with exactly this payload
 abbrev pub IsShutOrHas : ℕ → List ℕ → List ℕ → Type 0

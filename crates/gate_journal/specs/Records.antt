@@ -34,6 +34,11 @@ abbrev pub IsShut : List ℕ → Type 0
 IsShut [] = ⊥
 IsShut (gate ∷ rest) = gate ≢ 1
 
+-- a first byte, which is 0
+abbrev pub HasZeroFirst : List ℕ → Type 0
+HasZeroFirst [] = ⊥
+HasZeroFirst (first ∷ rest) = first ≡ 0
+
 -- a side that is open with these payloads. What follows the gate that ends them counts for nothing
 pub record IsOpen (generation : ℕ) (payloads : List (List ℕ)) (image : List ℕ) : Type 0 where
   pub rest : List ℕ

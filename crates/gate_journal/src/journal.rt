@@ -1,10 +1,12 @@
 // One side as a list of payloads, each behind a gate that is opened by a write of its own.
-ghost use Rattle.std.specs.Prelude.{◌≡◌, ◌⊎◌, ◌<◌, ◌≤◌, ◌+◌, ◌++◌, ◌↔◌, [], ◌∷◌, List, ℕ, length, map, drop, OnOk, OnErr, IfOk, IsOk, IsErrOf};
+ghost use Rattle.std.specs.Prelude.{◌≡◌, ◌⊎◌, ◌<◌, ◌≤◌, ◌+◌, ◌++◌, ◌↔◌, [], ◌∷◌, List, ℕ, length, drop, OnOk, OnErr, IfOk, IsOk, IsErrOf};
 ghost use Rattle.host_model.specs.Causes.{Rose, HasCause};
-ghost use Rattle.host_model.specs.Hosts.{IsDurable, KeepsAll, MeetsAll, OnSideOf};
+ghost use Rattle.host_model.specs.Hosts.{IsDurable, KeepsAll, MeetsAll, NowOf, OnSideOf, StillAll};
+ghost use Rattle.host_model.specs.Images.{Torn, IsAfter};
 ghost use Rattle.host_model.specs.Sides.{other};
 ghost use Rattle.gate_journal.specs.Costs.{HasCost};
-ghost use Rattle.gate_journal.specs.Records.{IsClosed, IsOpen, IsNoJournal};
+ghost use Rattle.gate_journal.specs.Journal.{HasFailed};
+ghost use Rattle.gate_journal.specs.Records.{place_of, IsClosed, IsOpen, IsNoJournal};
 
 use crate::faults::{AppendFault, OpenFault};
 use crate::format::{CLOSED, FIRST_GATE, OPEN, SIDE_END};
@@ -12,6 +14,7 @@ use crate::frame::Frame;
 use crate::reading::{read_header, read_records, read_side, without_header};
 use crate::writing::write_synced;
 use host_model::{DiskFailed, Host, Side};
+use sequences::Sequence;
 use std::alloc::Global;
 use std::marker::Model;
 
@@ -39,7 +42,7 @@ impl Model for Journal {
 }
 
 impl Journal {
-    ghost use Rattle.gate_journal.specs.Journal.{Stands, StandsWithGate, IsShutOn, IsShutOrHas, IsBeforeOrAfter, SameButFirst, HasFailed};
+    ghost use Rattle.gate_journal.specs.Journal.{Stands, StandsWithGate, IsShutOn, IsZeroFirstOn, IsShutOrHas, IsBeforeOrAfter, SameButFirst};
 
     /// The side's generation: 0, 1 or 2.
     pub fn generation(&self) -> u8
@@ -75,6 +78,10 @@ impl Journal {
         // At each moment the side is closed, or open with exactly this payload.
         ensures any_moment { H.tells → MeetsAll H.Host host.old host.new
             (OnSideOf H.Host host.old side (IsShutOrHas generation first.now)) }
+
+        // At each moment an image differs from one of the start within the bytes of the journal alone.
+        ensures range { H.tells → MeetsAll H.Host host.old host.new
+            (OnSideOf H.Host host.old side (IsAfter (Torn 0 (length first.now + 15)) (H.images host.old side))) }
         ensures rest { H.tells → KeepsAll H.Host (other side) host.old host.new }
 
         ensures cost { H.tells → HasCost (length first.now + 15) (H.written host.old) (H.written host.new) result }
@@ -92,11 +99,12 @@ impl Journal {
         })
     }
 
-    /// Closes a side, whatever it has.
+    /// Closes a side, whatever it has: its first byte is 0 then.
     pub fn close<H: Host>(host: &mut H, side: Side) -> Result<(), DiskFailed>
         ensures closed { H.tells → OnOk result (H.reads host.new side ≡ 0 ∷ drop 1 (H.reads host.old side)) }
         ensures durable { H.tells → OnOk result (IsDurable H.Host host.new side) }
         ensures shut { H.tells → OnOk result (IsShutOn H.Host host.new side) }
+        ensures zero_first { H.tells → OnOk result (IsZeroFirstOn H.Host host.new side) }
 
         // At each moment the side is as before, but for any first byte.
         ensures any_moment { H.tells → MeetsAll H.Host host.old host.new
@@ -110,7 +118,7 @@ impl Journal {
         write_synced(host, side, 0, &[CLOSED])
     }
 
-    /// Syncs the side and reads its payloads.
+    /// Syncs the side and reads its payloads, of the first 67,108,864 bytes at most.
     ///
     /// Want of memory and a fault of the disk aside, it answers `Ok` exactly where the side is open with some
     /// payloads, `Closed` exactly where it is closed, and `NotAJournal` exactly where it is neither.
@@ -118,8 +126,8 @@ impl Journal {
         alloc: Global,
         host: &mut H,
         side: Side,
-    ) -> Result<(Journal, Vec<Vec<u8>>), OpenFault>
-        ensures opened { H.tells → IfOk result (λ found. Stands H.Host found.0 host.new (map (λ v. v.items) found.1.items)) }
+    ) -> Result<(Journal, Sequence<Sequence<u8>>), OpenFault>
+        ensures opened { H.tells → IfOk result (λ found. Stands H.Host found.0 host.new found.1) }
         ensures side { IfOk result (λ found. found.0.side ≡ side) }
         ensures opened_where { H.tells → (generation : ℕ) (payloads : List (List ℕ)) → IsOpen generation payloads (H.reads host.old side)
             → IsOk result ⊎ HasFailed result }
@@ -141,21 +149,7 @@ impl Journal {
         ensures say_faults { H.say_faults host.new ≡ H.say_faults host.old }
     {
         host.sync(side)?;
-        let bytes = read_side(alloc, host, side)?;
-        let Some((generation, rest)) = read_header(&bytes) else {
-            return Err(without_header(&bytes));
-        };
-        let Some((place, payloads)) = read_records(alloc, rest)? else {
-            return Err(OpenFault::NotAJournal);
-        };
-        Ok((
-            Journal {
-                side,
-                generation,
-                place,
-            },
-            payloads,
-        ))
+        find_journal(alloc, host, side)
     }
 
     /// Adds a payload. At `Ok` each image has it. After a `DiskFault` the journal is dropped and the side opened
@@ -170,6 +164,10 @@ impl Journal {
         ensures any_moment { H.tells → (payloads : List (List ℕ)) → StandsWithGate H.Host self.old host.old payloads
             → MeetsAll H.Host host.old host.new
             (OnSideOf H.Host host.old self.old.side (IsBeforeOrAfter self.old.generation payloads next.now)) }
+
+        // At each moment an image differs from one of the start from the gate to the record's end alone.
+        ensures range { H.tells → MeetsAll H.Host host.old host.new
+            (OnSideOf H.Host host.old self.old.side (IsAfter (Torn self.old.place (length next.now + 6)) (H.images host.old self.old.side))) }
 
         // The other side and the text are as at the start, at each moment and after it.
         ensures elsewhere { H.tells → MeetsAll H.Host host.old host.new
@@ -197,4 +195,62 @@ impl Journal {
         self.place = end - 1;
         Ok(())
     }
+}
+
+// The journal of a side that is synced, and its payloads.
+fn find_journal<H: Host>(
+    alloc: Global,
+    host: &mut H,
+    side: Side,
+) -> Result<(Journal, Sequence<Sequence<u8>>), OpenFault>
+    ensures opened { H.tells → IfOk result (λ found. IsOpen found.0.generation found.1 (H.reads host.old side)) }
+    ensures place { IfOk result (λ found. found.0.place ≡ place_of found.1) }
+    ensures side { IfOk result (λ found. found.0.side ≡ side) }
+    ensures opened_where { H.tells → (generation : ℕ) (payloads : List (List ℕ)) → IsOpen generation payloads (H.reads host.old side)
+        → IsOk result ⊎ HasFailed result }
+    ensures closed { H.tells → IsErrOf result OpenFault.Closed → IsClosed (H.reads host.old side) }
+    ensures closed_where { H.tells → IsClosed (H.reads host.old side) → IsErrOf result OpenFault.Closed ⊎ HasFailed result }
+    ensures no_journal { H.tells → IsErrOf result OpenFault.NotAJournal → IsNoJournal (H.reads host.old side) }
+    ensures no_journal_where { H.tells → IsNoJournal (H.reads host.old side) → IsErrOf result OpenFault.NotAJournal ⊎ HasFailed result }
+
+    ensures still { H.tells → StillAll H.Host host.old host.new }
+    ensures any_moment { H.tells → MeetsAll H.Host host.old host.new (NowOf H.Host host.old) }
+    ensures cause { IsErrOf result OpenFault.DiskFault → Rose (H.disk_faults host.old) (H.disk_faults host.new) }
+    ensures disk_faults { H.disk_faults host.old ≤ H.disk_faults host.new }
+    ensures say_faults { H.say_faults host.new ≡ H.say_faults host.old }
+{
+    let bytes = read_side(alloc, host, side)?;
+    read_journal(alloc, side, &bytes)
+}
+
+// The journal of a side with these bytes, and its payloads.
+fn read_journal(
+    alloc: Global,
+    side: Side,
+    bytes: &[u8],
+) -> Result<(Journal, Sequence<Sequence<u8>>), OpenFault>
+    ensures opened { IfOk result (λ found. IsOpen found.0.generation found.1 bytes.now) }
+    ensures place { IfOk result (λ found. found.0.place ≡ place_of found.1) }
+    ensures side { IfOk result (λ found. found.0.side ≡ side) }
+    ensures opened_where { (generation : ℕ) (payloads : List (List ℕ)) → IsOpen generation payloads bytes.now → IsOk result ⊎ HasFailed result }
+    ensures closed { IsErrOf result OpenFault.Closed → IsClosed bytes.now }
+    ensures closed_where { IsClosed bytes.now → IsErrOf result OpenFault.Closed ⊎ HasFailed result }
+    ensures no_journal { IsErrOf result OpenFault.NotAJournal → IsNoJournal bytes.now }
+    ensures no_journal_where { IsNoJournal bytes.now → IsErrOf result OpenFault.NotAJournal ⊎ HasFailed result }
+    ensures no_fault { IsErrOf result OpenFault.DiskFault → ⊥ }
+{
+    let Some((generation, rest)) = read_header(bytes) else {
+        return Err(without_header(bytes));
+    };
+    let Some((place, payloads)) = read_records(alloc, rest)? else {
+        return Err(OpenFault::NotAJournal);
+    };
+    Ok((
+        Journal {
+            side,
+            generation,
+            place,
+        },
+        payloads,
+    ))
 }

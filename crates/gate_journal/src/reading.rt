@@ -1,5 +1,5 @@
 // What a side has, read from its bytes.
-ghost use Rattle.std.specs.Prelude.{◌≡◌, ◌⊎◌, ◌≤◌, ◌++◌, ◌∷◌, map, IfOk, IfSome, IfNone, IsErrOf};
+ghost use Rattle.std.specs.Prelude.{◌≡◌, ◌⊎◌, ◌≤◌, ◌++◌, ◌∷◌, length, take, IfOk, IfSome, IfNone, IsErrOf};
 ghost use Rattle.gate_journal.specs.Reading.{HasNoHeader, HasNoRecords, HasRecords, IsNext};
 ghost use Rattle.gate_journal.specs.Records.{header, place_of, IsClosed, IsNoJournal};
 ghost use Rattle.host_model.specs.Causes.{Rose};
@@ -8,6 +8,7 @@ ghost use Rattle.host_model.specs.Hosts.{MeetsAll, NowOf, StillAll};
 use crate::faults::OpenFault;
 use crate::format::{FIRST_GATE, OPEN, SIDE_END};
 use host_model::{Host, Side};
+use sequences::Sequence;
 use std::alloc::{AllocError, Global};
 
 /// The generation and the bytes behind it.
@@ -64,17 +65,19 @@ pub(crate) fn next_record(bytes: &[u8]) -> Next<'_>
     }
 }
 
-/// Where whole records end that begin at the first gate, and their payloads, up to a gate that isn't open.
+/// Where whole records end that begin at the first gate, and their payloads, up to a gate that isn't open. A record
+/// that would end past the last place is refused before its payload is copied.
 pub(crate) fn read_records(
     alloc: Global,
     bytes: &[u8],
-) -> Result<Option<(u64, Vec<Vec<u8>>)>, AllocError>
-    ensures some { IfOk result (λ found. IfSome found (λ records. HasRecords (map (λ v. v.items) records.1.items) bytes.now)) }
-    ensures place { IfOk result (λ found. IfSome found (λ records. records.0 ≡ place_of (map (λ v. v.items) records.1.items))) }
+) -> Result<Option<(u64, Sequence<Sequence<u8>>)>, AllocError>
+    ensures some { IfOk result (λ found. IfSome found (λ records. HasRecords records.1 bytes.now)) }
+    ensures place { IfOk result (λ found. IfSome found (λ records. records.0 ≡ place_of records.1)) }
     ensures none { IfOk result (λ found. IfNone found (HasNoRecords bytes.now)) }
 {
-    let mut payloads = Vec::new(alloc);
+    let mut payloads = Sequence::new(alloc);
     let mut rest = bytes;
+    let mut place = FIRST_GATE;
     loop {
         match next_record(rest) {
             Next::End => break,
@@ -83,16 +86,18 @@ pub(crate) fn read_records(
                 payload,
                 rest: behind,
             } => {
-                payloads.push(payload.to_vec(alloc)?)?;
+                let end = place + payload.len() as u64 + 5;
+                if end >= SIDE_END {
+                    return Ok(None);
+                }
+                let copy = Sequence::from_vec(payload.to_vec(alloc)?);
+                payloads.push(copy)?;
                 rest = behind;
+                place = end;
             }
         }
     }
-    let size = (bytes.len() - rest.len()) as u64;
-    if size >= SIDE_END - FIRST_GATE {
-        return Ok(None);
-    }
-    Ok(Some((FIRST_GATE + size, payloads)))
+    Ok(Some((place, payloads)))
 }
 
 /// Why a side without a header is not open.
@@ -108,13 +113,15 @@ pub(crate) fn without_header(bytes: &[u8]) -> OpenFault
     }
 }
 
-/// All bytes of a side, where the host tells what it holds.
+/// The bytes of a side, where the host tells what it holds. What is past the last place where records may end counts
+/// for nothing, and isn't read.
 pub(crate) fn read_side<H: Host>(
     alloc: Global,
     host: &mut H,
     side: Side,
 ) -> Result<Vec<u8>, OpenFault>
-    ensures bytes { H.tells → IfOk result (λ bytes. bytes.items ≡ H.reads host.old side) }
+    ensures bytes { H.tells → IfOk result (λ bytes. bytes.items ≡ take SIDE_END (H.reads host.old side)) }
+    ensures most { IfOk result (λ bytes. length bytes.items ≤ SIDE_END) }
     ensures still { H.tells → StillAll H.Host host.old host.new }
     ensures any_moment { H.tells → MeetsAll H.Host host.old host.new (NowOf H.Host host.old) }
     ensures cause { IsErrOf result OpenFault.DiskFault → Rose (H.disk_faults host.old) (H.disk_faults host.new) }
@@ -122,7 +129,7 @@ pub(crate) fn read_side<H: Host>(
     ensures say_faults { H.say_faults host.new ≡ H.say_faults host.old }
     ensures no_other { (IsErrOf result OpenFault.Closed → ⊥) × (IsErrOf result OpenFault.NotAJournal → ⊥) }
 {
-    let len = host.len(side)?;
+    let len = host.len(side)?.min(SIDE_END);
     let mut bytes = vec![in alloc; 0; len as usize]?;
     let count = host.read(side, 0, &mut bytes)?;
     bytes.truncate(count);

@@ -75,6 +75,14 @@ since_now host [] t l r u le now = now
 since_now host (call ∷ past) zero l r u le now = inr (since_now (after host call) past zero l r u (omega arith) now)
 since_now host (call ∷ past) (suc t) l r u le now = since_now (after host call) past t l r u (omega arith) now
 
+-- what might be met since a later moment might be met since an earlier one
+pub since_earlier : (host : HostState) (past : List PastCall) (earlier later : ℕ) (l r u : List ℕ) → earlier ≤ later → MightSince host past later l r u → MightSince host past earlier l r u
+since_earlier host [] earlier later l r u le met = met
+since_earlier host (call ∷ past) zero zero l r u le met = met
+since_earlier host (call ∷ past) zero (suc later) l r u le met = inr (since_earlier (after host call) past zero later l r u (omega arith) met)
+since_earlier host (call ∷ past) (suc earlier) zero l r u le met = absurd (omega arith)
+since_earlier host (call ∷ past) (suc earlier) (suc later) l r u le met = since_earlier (after host call) past earlier later l r u (omega arith) met
+
 -- since this moment there is no other
 pub since_last : (host : HostState) (past : List PastCall) (l r u : List ℕ) → MightSince host past (length past) l r u → IsNow (images_of (state_after host past)) (state_after host past).text l r u
 since_last host [] l r u met = met

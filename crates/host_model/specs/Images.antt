@@ -24,6 +24,10 @@ Follows step old new = (c : List ℕ) → new c → IsAfter step old c
 abbrev pub Permits : (List ℕ → List ℕ → Type 0) → (List ℕ → Type 0) → (List ℕ → Type 0) → Type 0
 Permits step old new = (c d : List ℕ) → old c → step c d → new d
 
+-- each old image is a new one
+pub record Stay (old new : List ℕ → Type 0) : Type 0 where
+  pub each : (c : List ℕ) → old c → new c
+
 -- there is no image but this
 abbrev pub Only : List ℕ → (List ℕ → Type 0) → Type 0
 Only image images = (c : List ℕ) → images c → c ≡ image

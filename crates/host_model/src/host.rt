@@ -3,7 +3,7 @@ ghost use Rattle.std.specs.Prelude.{◌≡◌, ℕ, ◌+◌, ◌-◌, ◌^◌, �
 ghost use Rattle.host_model.specs.declared.side.Side.{Side};
 ghost use Rattle.host_model.specs.Causes.{HasCause};
 ghost use Rattle.host_model.specs.Sides.{other};
-ghost use Rattle.host_model.specs.Images.{overwritten, Torn, Follows, Permits, Only};
+ghost use Rattle.host_model.specs.Images.{overwritten, Torn, Follows, Permits, Stay, Only};
 ghost use Rattle.host_model.specs.Moments.{IsNow, IsSaying, Elapses, KeepsSide, IsStill, KeepsOther};
 
 use crate::Side;
@@ -80,11 +80,12 @@ pub trait Host {
     ///
     /// Until the side's next sync that answers `Ok`, a crash may leave anything in the range and past the old end,
     /// and any length from the old one to the new one. After an `Err` each image is an image of before, torn in this
-    /// range or whole, and reads give one of the images.
+    /// range or whole, and reads give one of the images. Whatever the answer, an image of before stays one.
     fn write_at(&mut self, side: Side, at: u64, bytes: &[u8]) -> Result<(), DiskFailed>
         ensures after { tells → OnOk result (reads self.new side ≡ overwritten (reads self.old side) at bytes.now) }
         ensures crash { tells → Follows (Torn at (length bytes.now)) (images self.old side) (images self.new side) }
         ensures torn_is_image { tells → OnOk result (Permits (Torn at (length bytes.now)) (images self.old side) (images self.new side)) }
+        ensures images_stay { tells → Stay (images self.old side) (images self.new side) }
         ensures rest { tells → KeepsOther reads images said (other side) self.old self.new }
         ensures time { tells → Elapses (moment self.old) (moment self.new) (might self.old) (might self.new)
             (IsNow (images self.new) (said self.new)) }
@@ -95,12 +96,13 @@ pub trait Host {
         ensures fits { disk_faults self.new < 2 ^ 64 }
         ensures say_faults { say_faults self.new ≡ say_faults self.old };
 
-    /// After an `Ok` a crash leaves on that side what reads give, and nothing else. After an `Err` each image is one
-    /// of before, and reads give one of the images.
+    /// After an `Ok` a crash leaves on that side what reads give, and nothing else. After an `Err` the images are
+    /// those of before, and reads give one of them.
     fn sync(&mut self, side: Side) -> Result<(), DiskFailed>
         ensures durable { tells → OnOk result (Only (reads self.old side) (images self.new side)) }
         ensures after { tells → OnOk result (reads self.new side ≡ reads self.old side) }
         ensures crash { tells → (c : List ℕ) → images self.new side c → images self.old side c }
+        ensures images_stay { tells → OnErr result (Stay (images self.old side) (images self.new side)) }
         ensures rest { tells → KeepsOther reads images said (other side) self.old self.new }
         ensures time { tells → Elapses (moment self.old) (moment self.new) (might self.old) (might self.new)
             (IsNow (images self.new) (said self.new)) }
@@ -130,6 +132,10 @@ pub trait Host {
     /// This moment is one of those since an earlier one.
     ghost counts_now: { (host : Self) (t : ℕ) (l r u : List ℕ) → tells → t ≤ moment host
         → IsNow (images host) (said host) l r u → might host t l r u };
+
+    /// What might be met since a later moment might be met since an earlier one.
+    ghost since_earlier: { (host : Self) (earlier later : ℕ) (l r u : List ℕ) → tells → earlier ≤ later
+        → might host later l r u → might host earlier l r u };
 
     /// Since this moment there is no other.
     ghost only_now: { (host : Self) (l r u : List ℕ) → tells → might host (moment host) l r u

@@ -1,15 +1,11 @@
 -- A store that isn't opened is bad.
-use Rattle.std.proofs.Common.{◌≡◌, List, ℕ, Vec, map, IsErr, subst, sym, ◌∙◌, rules}
-use Rattle.std.specs.declared.alloc.Global.{Global}
+use Rattle.std.proofs.Common.{◌≡◌, List, ℕ, IsErr, subst, sym, ◌∙◌, rules}
 use Rattle.host_model.specs.declared.side.Side.{Side}
 use Rattle.host_model.specs.declared.side.Side.TheVariants.{Left, Right}
 use Rattle.gate_journal.specs.Records.{IsOpen, IsNoJournal}
-use Rattle.client_core.specs.Opening.{HasFirst, IsLast}
+use Rattle.client_core.specs.Opening.{HasFirst}
 use Rattle.client_core.proofs.Refusing.{no_journal, no_journal_not_closed, not_opened, open_not_closed, opened_stands, opened_holds}
 use Rattle.client_core.proofs.opening.open_store.Goals as goal
-
-abbrev items : Vec ℕ Global → List ℕ
-items v = v.items
 
 pub returns-in-Err-NotAJournal-clause-bad_store : goal.returns-in-Err-NotAJournal-clause-bad_store
 returns-in-Err-NotAJournal-clause-bad_store g c is tells =
@@ -25,8 +21,8 @@ returns-in_ok-last_state-in-Ok-clause-opened g c =
     let h = g.H.Host in
     let new = c.open.new.host in
     let last = c.in_ok-last_state-in-Ok.field-0 in
-    opened_holds h (map items c.in-Ok.payloads.items) new last c.in_ok-right.right c.in-Ok.journal c.opened.result c.opened.ensures.ok c.in-Ok.ensures.opened c.in-Ok.ensures.side
-    (λ tells. subst (λ (vs : List (Vec ℕ Global)). IsLast (map items vs) last) c.deref.ensures.value c.in_ok-last_state-in-Ok.ensures)
+    opened_holds h c.in-Ok.payloads new last c.in_ok-right.right c.in-Ok.journal c.opened.result c.opened.ensures.ok c.in-Ok.ensures.opened c.in-Ok.ensures.side
+    (λ tells. c.in_ok-last_state-in-Ok.ensures)
     (λ tells. subst (λ (d : List ℕ). HasFirst d c.in_ok-right.right) (sym (c.open.ensures.rest tells).reads_same) (c.in_ok-right.ensures.first tells))
     (λ tells image held.
     let rest = c.open.ensures.rest tells in
@@ -37,13 +33,13 @@ returns-in_ok-last_state-in-Ok-clause-stands g c =
     let h = g.H.Host in
     let start = c.args.host.now in
     let journal = c.in-Ok.journal in
-    let payloads = map items c.in-Ok.payloads.items in
+    let payloads = c.in-Ok.payloads in
     let last = c.in_ok-last_state-in-Ok.field-0 in
     opened_stands journal.generation payloads (h.reads start Left) (h.reads start Right) last c.in_ok-right.right journal c.opened.result h.tells c.opened.ensures.ok
     (λ tells.
     let back : h.reads c.open.new.host Left ≡ h.reads start Left = search rules in
     subst (λ (d : List ℕ). IsOpen journal.generation payloads d) back (subst (λ (x : Side). IsOpen journal.generation payloads (h.reads c.open.new.host x)) c.in-Ok.ensures.side (c.in-Ok.ensures.opened tells).side))
-    (λ tells. subst (λ (vs : List (Vec ℕ Global)). IsLast (map items vs) last) c.deref.ensures.value c.in_ok-last_state-in-Ok.ensures)
+    (λ tells. c.in_ok-last_state-in-Ok.ensures)
     (λ tells. subst (λ (d : List ℕ). HasFirst d c.in_ok-right.right) (c.in_ok-right.ensures.same tells) (c.in_ok-right.ensures.first tells))
 
 pub returns-in_ok-last_state-in-Ok-clause-bad_store : goal.returns-in_ok-last_state-in-Ok-clause-bad_store
@@ -51,12 +47,12 @@ returns-in_ok-last_state-in-Ok-clause-bad_store g c is tells =
     let h = g.H.Host in
     let start = c.args.host.now in
     let journal = c.in-Ok.journal in
-    let payloads = map items c.in-Ok.payloads.items in
+    let payloads = c.in-Ok.payloads in
     let fails : IsErr c.opened.result = search rules in
     let back : h.reads c.open.new.host Left ≡ h.reads start Left = search rules in
     let found = c.in-Ok.ensures.opened tells in
     let side = subst (λ (d : List ℕ). IsOpen journal.generation payloads d) back (subst (λ (x : Side). IsOpen journal.generation payloads (h.reads c.open.new.host x)) c.in-Ok.ensures.side found.side) in
-    let last = subst (λ (vs : List (Vec ℕ Global)). IsLast (map items vs) c.in_ok-last_state-in-Ok.field-0) c.deref.ensures.value c.in_ok-last_state-in-Ok.ensures in
+    let last = c.in_ok-last_state-in-Ok.ensures in
     let first = subst (λ (d : List ℕ). HasFirst d c.in_ok-right.right) (c.in_ok-right.ensures.same tells) (c.in_ok-right.ensures.first tells) in
     record {
       found = λ absent. open_not_closed journal.generation payloads (h.reads start Left) side absent.left;

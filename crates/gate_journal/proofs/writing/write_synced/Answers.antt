@@ -1,8 +1,9 @@
-use Rattle.std.proofs.Common.{length}
+use Rattle.std.proofs.Common.{length, sym, ◌∙◌}
 use Rattle.host_model.specs.Hosts.{OnSideOf}
 use Rattle.host_model.specs.Images.{Torn, IsAfter}
 use Rattle.host_model.proofs.Meeting.{started, goes_on, kept_twice, met_on_side, met_at_start}
 use Rattle.host_model.proofs.Tearing.{torn_none}
+use Rattle.gate_journal.proofs.Answering.{both_ok}
 use Rattle.gate_journal.proofs.writing.write_synced.Goals as goal
 
 pub returns-in_err-write_at-clause-any_moment : goal.returns-in_err-write_at-clause-any_moment
@@ -31,3 +32,7 @@ returns-clause-any_moment g c tells =
     goes_on h.moment h.might start c.write_at.new.self c.sync.new.self Q _ written (c.sync.ensures.time tells)
     (met_on_side h.reads h.images h.said c.args.side start c.sync.new.self P (λ d left. c.write_at.ensures.crash tells d (c.sync.ensures.crash tells d left))
     (kept_twice h.reads h.images h.said _ _ _ _ (c.write_at.ensures.rest tells) (c.sync.ensures.rest tells)))
+
+pub returns-clause-durable : goal.returns-clause-durable
+returns-clause-durable g c tells =
+    both_ok c.sync.result (λ only same image left. only image left ∙ sym same) (c.sync.ensures.durable tells) (c.sync.ensures.after tells)

@@ -1,5 +1,6 @@
 use Rattle.std.proofs.Common.{◌+◌, ◌-◌, ◌<◌, length, arith}
 use Rattle.gate_journal.proofs.Appending.{first_met, second_met, appended}
+use Rattle.gate_journal.proofs.Ranges.{record_within, gate_within}
 use Rattle.gate_journal.proofs.journal.Journal.append.Goals as goal
 
 -- the first write leaves the payloads as they were
@@ -26,3 +27,22 @@ pub returns-clause-acknowledged : goal.returns-clause-acknowledged
 returns-clause-acknowledged g c tells payloads stands =
     appended g.H.Host _ _ c.self.view_is c.args.host.now c.write_synced.new.host c.write_synced-2.new.host payloads c.args.next.now c.written.result.now (c.end_after-end.result - 1) (omega arith) (omega arith) stands
     c.written.ensures.bytes (c.in_ok-write_synced.ensures.after tells) (c.in_ok-write_synced-2.ensures.after tells) (c.in_ok-write_synced-2.ensures.durable tells)
+
+-- both writes are within the record and its gate
+pub returns-in_err-write_synced-clause-range : goal.returns-in_err-write_synced-clause-range
+returns-in_err-write_synced-clause-range g c tells =
+    record_within g.H.Host _ _ c.self.view_is c.args.host.now (length c.args.next.now) (length c.written.result.now) (omega arith) c.write_synced.new.host (c.write_synced.ensures.any_moment tells)
+
+pub returns-in_err-write_synced-2-clause-range : goal.returns-in_err-write_synced-2-clause-range
+returns-in_err-write_synced-2-clause-range g c tells =
+    let mid = c.write_synced.new.host in
+    gate_within g.H.Host _ _ c.self.view_is c.args.host.now (length c.args.next.now) (length c.written.result.now) (omega arith) mid c.write_synced-2.new.host
+    (λ l r u le now. g.met.H.Host.counts_now mid (g.H.Host.moment c.args.host.now) l r u tells le now) (λ s. g.met.H.Host.read_is_image mid s tells)
+    (c.write_synced.ensures.any_moment tells) (c.write_synced.ensures.rest tells) (c.write_synced-2.ensures.any_moment tells)
+
+pub returns-clause-range : goal.returns-clause-range
+returns-clause-range g c tells =
+    let mid = c.write_synced.new.host in
+    gate_within g.H.Host _ _ c.self.view_is c.args.host.now (length c.args.next.now) (length c.written.result.now) (omega arith) mid c.write_synced-2.new.host
+    (λ l r u le now. g.met.H.Host.counts_now mid (g.H.Host.moment c.args.host.now) l r u tells le now) (λ s. g.met.H.Host.read_is_image mid s tells)
+    (c.write_synced.ensures.any_moment tells) (c.write_synced.ensures.rest tells) (c.write_synced-2.ensures.any_moment tells)

@@ -1,11 +1,18 @@
-use Rattle.std.proofs.Common.{[], ◌∷◌, length, arith, length-append}
+use Rattle.std.proofs.Common.{◌+◌, [], ◌∷◌, length, arith, length-append}
 use Rattle.host_model.proofs.Meeting.{kept_twice}
 use Rattle.gate_journal.proofs.Appending.{length-framed}
-use Rattle.gate_journal.proofs.Making.{made, made_done, opening_met, behind_met}
+use Rattle.gate_journal.proofs.Making.{made, made_done, opening_met, header_met, behind_met}
+use Rattle.gate_journal.proofs.Ranges.{write_within, then_within}
 use Rattle.gate_journal.specs.Records.{framed}
 use Rattle.gate_journal.proofs.journal.Journal.make.Goals as goal
 
 -- the writes behind the first byte leave the side closed
+pub returns-in_err-write_at-clause-any_moment : goal.returns-in_err-write_at-clause-any_moment
+returns-in_err-write_at-clause-any_moment g c tells =
+    let old = c.args.host.now in
+    header_met c.args.generation c.args.first.now c.requires.known c.requires.fits g.H.Host c.args.side old c.write_at.new.self 9
+    (c.requires.shut tells) (λ l r u met. g.met.H.Host.only_now old l r u tells met) (c.write_at.ensures.crash tells) (c.write_at.ensures.rest tells) (c.write_at.ensures.time tells)
+
 pub returns-in_err-write_synced-clause-any_moment : goal.returns-in_err-write_synced-clause-any_moment
 returns-in_err-write_synced-clause-any_moment g c tells =
     let old = c.args.host.now in
@@ -57,3 +64,52 @@ returns-clause-made g c tells =
       };
       gate = omega (arith, done.gate, length-framed payload, length-append (1 ∷ framed payload) []);
     }
+
+-- all three writes are within the journal's bytes
+pub returns-in_err-write_at-clause-range : goal.returns-in_err-write_at-clause-range
+returns-in_err-write_at-clause-range g c tells =
+    let old = c.args.host.now in
+    let size = length c.args.first.now + 15 in
+    write_within g.H.Host old c.args.side 0 size c.write_at.new.self 1 9 (omega arith) (omega arith)
+    (λ l r u met. g.met.H.Host.only_now old l r u tells met) (c.write_at.ensures.crash tells) (c.write_at.ensures.rest tells) (c.write_at.ensures.time tells)
+
+pub returns-in_err-write_synced-clause-range : goal.returns-in_err-write_synced-clause-range
+returns-in_err-write_synced-clause-range g c tells =
+    let h = g.H.Host in
+    let old = c.args.host.now in
+    let size = length c.args.first.now + 15 in
+    let mid = c.write_at.new.self in
+    let first = write_within g.H.Host old c.args.side 0 size c.write_at.new.self 1 9 (omega arith) (omega arith)
+    (λ l r u met. g.met.H.Host.only_now old l r u tells met) (c.write_at.ensures.crash tells) (c.write_at.ensures.rest tells) (c.write_at.ensures.time tells) in
+    then_within h old c.args.side 0 size mid c.write_synced.new.host 10 (length c.written.result.now) (omega arith) (omega arith)
+    (λ l r u le now. g.met.H.Host.counts_now mid (h.moment old) l r u tells le now) (λ s. g.met.H.Host.read_is_image mid s tells) first (c.write_at.ensures.rest tells) (c.write_synced.ensures.any_moment tells)
+
+pub returns-in_err-write_synced-2-clause-range : goal.returns-in_err-write_synced-2-clause-range
+returns-in_err-write_synced-2-clause-range g c tells =
+    let h = g.H.Host in
+    let old = c.args.host.now in
+    let size = length c.args.first.now + 15 in
+    let mid = c.write_at.new.self in
+    let late = c.write_synced.new.host in
+    let first = write_within g.H.Host old c.args.side 0 size c.write_at.new.self 1 9 (omega arith) (omega arith)
+    (λ l r u met. g.met.H.Host.only_now old l r u tells met) (c.write_at.ensures.crash tells) (c.write_at.ensures.rest tells) (c.write_at.ensures.time tells) in
+    let second = then_within h old c.args.side 0 size mid late 10 (length c.written.result.now) (omega arith) (omega arith)
+    (λ l r u le now. g.met.H.Host.counts_now mid (h.moment old) l r u tells le now) (λ s. g.met.H.Host.read_is_image mid s tells) first (c.write_at.ensures.rest tells) (c.write_synced.ensures.any_moment tells) in
+    then_within h old c.args.side 0 size late c.write_synced-2.new.host 0 1 (omega arith) (omega arith)
+    (λ l r u le now. g.met.H.Host.counts_now late (h.moment old) l r u tells le now) (λ s. g.met.H.Host.read_is_image late s tells) second
+    (kept_twice h.reads h.images h.said _ old mid late (c.write_at.ensures.rest tells) (c.write_synced.ensures.rest tells)) (c.write_synced-2.ensures.any_moment tells)
+
+pub returns-clause-range : goal.returns-clause-range
+returns-clause-range g c tells =
+    let h = g.H.Host in
+    let old = c.args.host.now in
+    let size = length c.args.first.now + 15 in
+    let mid = c.write_at.new.self in
+    let late = c.write_synced.new.host in
+    let first = write_within g.H.Host old c.args.side 0 size c.write_at.new.self 1 9 (omega arith) (omega arith)
+    (λ l r u met. g.met.H.Host.only_now old l r u tells met) (c.write_at.ensures.crash tells) (c.write_at.ensures.rest tells) (c.write_at.ensures.time tells) in
+    let second = then_within h old c.args.side 0 size mid late 10 (length c.written.result.now) (omega arith) (omega arith)
+    (λ l r u le now. g.met.H.Host.counts_now mid (h.moment old) l r u tells le now) (λ s. g.met.H.Host.read_is_image mid s tells) first (c.write_at.ensures.rest tells) (c.write_synced.ensures.any_moment tells) in
+    then_within h old c.args.side 0 size late c.write_synced-2.new.host 0 1 (omega arith) (omega arith)
+    (λ l r u le now. g.met.H.Host.counts_now late (h.moment old) l r u tells le now) (λ s. g.met.H.Host.read_is_image late s tells) second
+    (kept_twice h.reads h.images h.said _ old mid late (c.write_at.ensures.rest tells) (c.write_synced.ensures.rest tells)) (c.write_synced-2.ensures.any_moment tells)

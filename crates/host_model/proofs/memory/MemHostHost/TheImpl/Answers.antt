@@ -1,7 +1,7 @@
 -- The methods' own clauses give what the trait ensures.
 use Rattle.std.proofs.Common.{◌≡◌, ◌↔◌, ℕ, ◌+◌, ◌≤◌, List, ◌++◌, length, take, refl, sym, arith, append-nil}
 use Rattle.host_model.specs.Causes.{Rose}
-use Rattle.host_model.specs.Images.{overwritten, Torn, Follows, Permits, Only}
+use Rattle.host_model.specs.Images.{overwritten, Torn, Follows, Permits, Stay, Only}
 use Rattle.host_model.specs.Memory.{MemHost, logged, with_disk_fault, with_say_fault}
 use Rattle.host_model.specs.Moments.{IsNow, IsSaying, Elapses}
 use Rattle.host_model.specs.Sides.{other}
@@ -27,6 +27,10 @@ write_at-tells c =
           (λ image. (call.write_images old.log side at bytes image).0) (λ image left. (image, left, torn_none at (length bytes) image));
       torn_is_image = λ tells. call.after_ok c.result new past (λ (h : MemHost). Permits (Torn at (length bytes)) (images_of (state_of old.log) side) (images_of (state_of h.log) side)) ok
           (λ image torn is step. (call.write_images old.log side at bytes torn).1 (image, is, step));
+      images_stay = λ tells. record {
+        each = call.after_either c.result new past fault (λ (h : MemHost). (image : List ℕ) → images_of (state_of old.log) side image → images_of (state_of h.log) side image) ok err
+            (λ image left. (call.write_images old.log side at bytes image).1 (image, left, torn_none at (length bytes) image)) (λ image left. left);
+      };
       rest = λ tells. record {
         reads_same = call.after_either c.result new past fault (λ (h : MemHost). (side_of (state_of h.log) (other side)).read ≡ (side_of (state_of old.log) (other side)).read) ok err (call.write_other_read old.log side at bytes) refl;
         images_same = call.after_either c.result new past fault (λ (h : MemHost). (image : List ℕ) → images_of (state_of h.log) (other side) image ↔ images_of (state_of old.log) (other side) image) ok err (call.write_other_images old.log side at bytes) (λ image. (λ left. left, λ left. left));
@@ -55,6 +59,7 @@ sync-tells c =
       durable = λ tells. call.after_ok c.result new past (λ (h : MemHost). Only (side_of (state_of old.log) side).read (images_of (state_of h.log) side)) ok (call.sync_only old.log side);
       after = λ tells. call.after_ok c.result new past (λ (h : MemHost). (side_of (state_of h.log) side).read ≡ (side_of (state_of old.log) side).read) ok (call.sync_read old.log side);
       crash = λ tells. call.after_either c.result new past fault (λ (h : MemHost). (image : List ℕ) → images_of (state_of h.log) side image → images_of (state_of old.log) side image) ok err (call.sync_images old.log side) (λ image left. left);
+      images_stay = λ tells. call.after_err c.result new fault (λ (h : MemHost). Stay (images_of (state_of old.log) side) (images_of (state_of h.log) side)) err (record { each = λ image left. left });
       rest = λ tells. record {
         reads_same = call.after_either c.result new past fault (λ (h : MemHost). (side_of (state_of h.log) (other side)).read ≡ (side_of (state_of old.log) (other side)).read) ok err (call.sync_other_read old.log side) refl;
         images_same = call.after_either c.result new past fault (λ (h : MemHost). (image : List ℕ) → images_of (state_of h.log) (other side) image ↔ images_of (state_of old.log) (other side) image) ok err (call.sync_other_images old.log side) (λ image. (λ left. left, λ left. left));
