@@ -1,15 +1,9 @@
-//! The program: its arguments, its clock, and the real source, shelf and host.
+//! The program: its arguments, its clock, and the real source, shelf and host. The line on standard error tells the
+//! status, and of a fault what failed and what the system answered.
 #![tactic(auto)]
 
 mod arguments;
-mod clock;
-mod counting;
-mod host;
 mod notice;
-mod output;
-mod shelf;
-mod side_file;
-mod source;
 #[cfg(test)]
 mod tests;
 
@@ -18,41 +12,61 @@ ghost use Rattle.std.specs.Process.{exit_status};
 ghost use Rattle.session_run.specs.Statuses.{code_of};
 
 use arguments::read_words;
-use clock::moment;
-use host::FolderHost;
 use jexl_transforms::{
     Transform, TransformTable, bucket_transform, date_transform, version_transform,
 };
 use jexl_value::{Attributes, Value};
 use notice::Notice;
-use output::write_flushed;
 use session_run::{RunStatus, nimbus};
-use shelf::FolderShelf;
-use source::StdinSource;
 use std::alloc::AllocError;
 use std::fs::File;
 use std::io;
+use std::io::Read;
 use std::process::ExitCode;
 use std::rt::{Clock, Env, Files};
 use std::time::SystemTime;
+use system_host::{
+    Cause, FolderHost, FolderShelf, Place, StdinSource, moment, take_standard, write_flushed,
+};
 
-// Prints a notice, or does what the words ask for.
-fn run<R: Files<File = File> + Env + Clock + Print + Input + AllocGlobal>(rt: &R) -> RunStatus {
+// Prints a notice, or does what the words ask for, and tells the status.
+fn run<R: Files<File = File> + Env + Clock + Print + Eprint + Input + AllocGlobal>(
+    rt: &R,
+) -> RunStatus {
     let words = match read_words(rt) {
         Ok(words) => words,
-        Err(status) => return status,
+        Err(status) => return told(rt, status, None),
     };
     if let Some(notice) = Notice::of(&words) {
         return print(rt, notice);
     }
+    // No file is opened before, so none gets a standard descriptor that was closed.
+    let _standard = match take_standard(rt) {
+        Ok(standard) => standard,
+        Err(cause) => return told(rt, RunStatus::DiskFault, Some(&cause)),
+    };
     match run_words(rt, &words) {
         Ok(status) => status,
-        Err(_) => RunStatus::OutOfMemory,
+        Err(_) => told(rt, RunStatus::OutOfMemory, None),
     }
 }
 
-// Does what the words ask for, with the standard transforms of targeting.
-fn run_words<R: Files<File = File> + Env + Clock + Print + Input + AllocGlobal>(
+// Tells a status other than `Done` on standard error, with the cause of a fault. Where standard error fails, the exit
+// number still tells the status.
+fn told(rt: &impl Eprint, status: RunStatus, cause: Option<&Cause>) -> RunStatus
+    ensures { result ≡ status }
+{
+    if status != RunStatus::Done {
+        let _ = match cause {
+            Some(cause) => eprintln!(rt; "nimbus: {status}: {cause}"),
+            None => eprintln!(rt; "nimbus: {status}"),
+        };
+    }
+    status
+}
+
+// Does what the words ask for, with the standard transforms of targeting, and tells the status.
+fn run_words<R: Files<File = File> + Env + Clock + Print + Eprint + Input + AllocGlobal>(
     rt: &R,
     words: &[String],
 ) -> Result<RunStatus, AllocError> {
@@ -81,12 +95,12 @@ fn run_words<R: Files<File = File> + Env + Clock + Print + Input + AllocGlobal>(
         table.push(alloc, "date", date),
         table.push(alloc, "bucketSample", bucket),
     ) else {
-        return Ok(RunStatus::OutOfMemory);
+        return Ok(told(rt, RunStatus::OutOfMemory, None));
     };
     let mut source = StdinSource::new(rt.reader());
     let mut shelf = FolderShelf::new(rt);
     let mut host = FolderHost::new(rt);
-    Ok(nimbus(
+    let status = nimbus(
         alloc,
         words,
         moment(SystemTime::now(rt)),
@@ -94,14 +108,34 @@ fn run_words<R: Files<File = File> + Env + Clock + Print + Input + AllocGlobal>(
         &mut source,
         &mut shelf,
         &mut host,
-    ))
+    );
+    Ok(told(rt, status, cause_of(status, &source, &shelf, &host)))
+}
+
+// Why a run ended with this status, where one of its objects has failed.
+fn cause_of<'a, I: Read, R: Files + Print>(
+    status: RunStatus,
+    source: &'a StdinSource<I>,
+    shelf: &'a FolderShelf<'_, R>,
+    host: &'a FolderHost<'_, R>,
+) -> Option<&'a Cause> {
+    match status {
+        RunStatus::SourceFault => source.cause(),
+        RunStatus::ShelfFault => shelf.cause(),
+        RunStatus::DiskFault => host.disk_cause(),
+        RunStatus::SayFault => host.say_cause(),
+        _ => None,
+    }
 }
 
 // Prints a notice on standard output.
-fn print(rt: &impl Print, notice: Notice) -> RunStatus {
+fn print<R: Print + Eprint>(rt: &R, notice: Notice) -> RunStatus {
     match write_flushed(&mut io::writer(rt), notice.text().as_bytes()) {
         Ok(()) => RunStatus::Done,
-        Err(_) => RunStatus::SayFault,
+        Err(error) => {
+            let cause = Cause::new(Place::Named("standard output"), error);
+            told(rt, RunStatus::SayFault, Some(&cause))
+        }
     }
 }
 
@@ -113,10 +147,5 @@ fn exit_code(status: RunStatus) -> ExitCode
 }
 
 fn main(rt: HostRuntime) -> ExitCode {
-    let status = run(&rt);
-    if status != RunStatus::Done {
-        // Where standard error fails, the exit number still tells the status.
-        let _ = eprintln!(rt; "nimbus: {status}");
-    }
-    exit_code(status)
+    exit_code(run(&rt))
 }

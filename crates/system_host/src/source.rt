@@ -1,9 +1,9 @@
 // A script from a reader, as standard input.
-ghost use Rattle.std.specs.Prelude.{[], ◌<◌, ◌^◌};
+ghost use Rattle.std.specs.Prelude.{◌≡◌, [], None, option_map};
 ghost use Rattle.std.specs.Io.{ReadsAtMost};
 ghost use Rattle.std.specs.Io.KnownBytes.{ReadConsumes};
 
-use crate::counting::counted;
+use crate::faults::{Cause, Faults, Place};
 use host_model::{Source, SourceFailed};
 use std::io;
 use std::io::{ErrorKind, Read};
@@ -13,16 +13,28 @@ const TRIES: u32 = 64;
 
 /// The bytes of a reader. It tells nothing of them.
 #[derive(Drop)]
-pub(crate) struct StdinSource<R: Read> {
+pub struct StdinSource<R: Read> {
     input: R,
-    faults: u64,
-    ghost fits: { faults < 2 ^ 64 },
+    pub(crate) faults: Faults,
 }
 
 impl<R: Read> StdinSource<R> {
     /// A source that has not failed yet.
-    pub(crate) fn new(input: R) -> StdinSource<R> {
-        StdinSource { input, faults: 0 }
+    pub fn new(input: R) -> StdinSource<R>
+        ensures faults { result.faults.count ≡ 0 }
+        ensures cause { result.faults.cause ≡ None }
+    {
+        StdinSource {
+            input,
+            faults: Faults::none(),
+        }
+    }
+
+    /// Why it failed the last time, where it did.
+    pub fn cause(&self) -> Option<&Cause>
+        ensures { option_map (λ cause. cause.now) result ≡ self.now.faults.cause }
+    {
+        self.faults.cause()
     }
 }
 
@@ -45,13 +57,11 @@ impl<R: Read> Source for StdinSource<R> {
 
     ghost left = { λ _. [] };
 
-    ghost faults = { λ s. s.faults };
+    ghost faults = { λ s. s.faults.count };
 
     fn read(&mut self, into: &mut [u8]) -> Result<usize, SourceFailed> {
-        counted(
-            read_some(&mut self.input, into),
-            &mut self.faults,
-            SourceFailed,
-        )
+        let answer = read_some(&mut self.input, into);
+        let place = Place::Named("standard input");
+        self.faults.counted(answer, place, SourceFailed)
     }
 }

@@ -1,41 +1,63 @@
 // The two sides as files of the current folder, and standard output.
-ghost use Rattle.std.specs.Prelude.{[], ◌<◌, ◌^◌};
+ghost use Rattle.std.specs.Prelude.{◌≡◌, [], None, option_map};
 
-use crate::counting::counted;
+use crate::faults::{Cause, Faults, Place};
 use crate::output::write_flushed;
 use crate::side_file::SideFile;
 use host_model::{DiskFailed, Host, SayFailed, Side};
-use std::fs::File;
 use std::io;
 use std::rt::Files;
 
 /// The two sides as the files `nimbus.left` and `nimbus.right` of the current folder, and standard output. It tells
 /// nothing of what they hold.
 #[derive(Drop)]
-pub(crate) struct FolderHost<'r, R: Files<File = File> + Print> {
+pub struct FolderHost<'r, R: Files + Print> {
     rt: &'r R,
-    left: SideFile,
-    right: SideFile,
-    disk_faults: u64,
-    say_faults: u64,
-    ghost disk_fits: { disk_faults < 2 ^ 64 },
-    ghost say_fits: { say_faults < 2 ^ 64 },
+    left: SideFile<R>,
+    right: SideFile<R>,
+    pub(crate) disk: Faults,
+    pub(crate) output: Faults,
 }
 
-impl<'r, R: Files<File = File> + Print> FolderHost<'r, R> {
+impl<'r, R: Files + Print> FolderHost<'r, R> {
     /// A host that has not failed yet.
-    pub(crate) fn new(rt: &'r R) -> FolderHost<'r, R> {
+    pub fn new(rt: &'r R) -> FolderHost<'r, R>
+        ensures faults { (result.disk.count ≡ 0) × (result.output.count ≡ 0) }
+        ensures causes { (result.disk.cause ≡ None) × (result.output.cause ≡ None) }
+    {
         FolderHost {
             rt,
             left: SideFile::new("nimbus.left"),
             right: SideFile::new("nimbus.right"),
-            disk_faults: 0,
-            say_faults: 0,
+            disk: Faults::none(),
+            output: Faults::none(),
         }
+    }
+
+    /// Why the disk failed the last time, where it did.
+    pub fn disk_cause(&self) -> Option<&Cause>
+        ensures { option_map (λ cause. cause.now) result ≡ self.now.disk.cause }
+    {
+        self.disk.cause()
+    }
+
+    /// Why the output failed the last time, where it did.
+    pub fn say_cause(&self) -> Option<&Cause>
+        ensures { option_map (λ cause. cause.now) result ≡ self.now.output.cause }
+    {
+        self.output.cause()
     }
 }
 
-impl<R: Files<File = File> + Print> Host for FolderHost<'_, R> {
+// Where a side fails.
+fn place(side: Side) -> Place {
+    match side {
+        Side::Left => Place::Named("nimbus.left"),
+        Side::Right => Place::Named("nimbus.right"),
+    }
+}
+
+impl<R: Files + Print> Host for FolderHost<'_, R> {
     ghost tells = { ⊥ };
 
     ghost reads = { λ _ _. [] };
@@ -50,13 +72,15 @@ impl<R: Files<File = File> + Print> Host for FolderHost<'_, R> {
 
     ghost written = { λ _. 0 };
 
-    ghost disk_faults = { λ h. h.disk_faults };
+    ghost disk_faults = { λ h. h.disk.count };
 
-    ghost say_faults = { λ h. h.say_faults };
+    ghost say_faults = { λ h. h.output.count };
 
     ghost read_is_image = { λ _ _ tells. absurd tells };
 
     ghost counts_now = { λ _ _ _ _ _ tells _ _. absurd tells };
+
+    ghost since_earlier = { λ _ _ _ _ _ _ tells _ _. absurd tells };
 
     ghost only_now = { λ _ _ _ _ tells _. absurd tells };
 
@@ -65,7 +89,7 @@ impl<R: Files<File = File> + Print> Host for FolderHost<'_, R> {
             Side::Left => self.left.len(self.rt),
             Side::Right => self.right.len(self.rt),
         };
-        counted(answer, &mut self.disk_faults, DiskFailed)
+        self.disk.counted(answer, place(side), DiskFailed)
     }
 
     fn read(&mut self, side: Side, at: u64, into: &mut [u8]) -> Result<usize, DiskFailed> {
@@ -73,7 +97,7 @@ impl<R: Files<File = File> + Print> Host for FolderHost<'_, R> {
             Side::Left => self.left.read(self.rt, at, into),
             Side::Right => self.right.read(self.rt, at, into),
         };
-        counted(answer, &mut self.disk_faults, DiskFailed)
+        self.disk.counted(answer, place(side), DiskFailed)
     }
 
     fn write_at(&mut self, side: Side, at: u64, bytes: &[u8]) -> Result<(), DiskFailed> {
@@ -81,7 +105,7 @@ impl<R: Files<File = File> + Print> Host for FolderHost<'_, R> {
             Side::Left => self.left.write_at(self.rt, at, bytes),
             Side::Right => self.right.write_at(self.rt, at, bytes),
         };
-        counted(answer, &mut self.disk_faults, DiskFailed)
+        self.disk.counted(answer, place(side), DiskFailed)
     }
 
     fn sync(&mut self, side: Side) -> Result<(), DiskFailed> {
@@ -89,11 +113,12 @@ impl<R: Files<File = File> + Print> Host for FolderHost<'_, R> {
             Side::Left => self.left.sync(self.rt),
             Side::Right => self.right.sync(self.rt),
         };
-        counted(answer, &mut self.disk_faults, DiskFailed)
+        self.disk.counted(answer, place(side), DiskFailed)
     }
 
     fn say(&mut self, bytes: &[u8]) -> Result<(), SayFailed> {
         let answer = write_flushed(&mut io::writer(self.rt), bytes);
-        counted(answer, &mut self.say_faults, SayFailed)
+        let place = Place::Named("standard output");
+        self.output.counted(answer, place, SayFailed)
     }
 }

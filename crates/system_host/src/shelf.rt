@@ -1,8 +1,9 @@
 // The files of the current folder.
-ghost use Rattle.std.specs.Prelude.{◌≡◌, ◌<◌, ◌^◌, ◌↔◌, None, IfOk, IfSome, IsTrue};
-ghost use Rattle.nimbus_cli.specs.FileNames.{IsFileName};
-ghost use Rattle.nimbus_cli.specs.ShelfAnswers.{IsWithinLimit, FitsBytes};
+ghost use Rattle.std.specs.Prelude.{◌≡◌, ◌≢◌, ◌↔◌, Ok, None, IfOk, IfSome, IsTrue, option_map};
+ghost use Rattle.system_host.specs.FileNames.{IsFileName};
+ghost use Rattle.system_host.specs.ShelfAnswers.{IsWithinLimit, FitsBytes};
 
+use crate::faults::{Cause, Faults, Place};
 use host_model::{Shelf, ShelfAnswer};
 use std::alloc::Global;
 use std::fs::OpenFile;
@@ -18,16 +19,28 @@ const MOST_NAME_BYTES: usize = 255;
 
 /// The files of the current folder. It tells nothing of them.
 #[derive(Drop)]
-pub(crate) struct FolderShelf<'r, R: Files> {
+pub struct FolderShelf<'r, R: Files> {
     rt: &'r R,
-    faults: u64,
-    ghost fits: { faults < 2 ^ 64 },
+    pub(crate) faults: Faults,
 }
 
 impl<'r, R: Files> FolderShelf<'r, R> {
     /// A shelf that has not failed yet.
-    pub(crate) fn new(rt: &'r R) -> FolderShelf<'r, R> {
-        FolderShelf { rt, faults: 0 }
+    pub fn new(rt: &'r R) -> FolderShelf<'r, R>
+        ensures faults { result.faults.count ≡ 0 }
+        ensures cause { result.faults.cause ≡ None }
+    {
+        FolderShelf {
+            rt,
+            faults: Faults::none(),
+        }
+    }
+
+    /// Why it failed the last time, where it did.
+    pub fn cause(&self) -> Option<&Cause>
+        ensures { option_map (λ cause. cause.now) result ≡ self.now.faults.cause }
+    {
+        self.faults.cause()
     }
 }
 
@@ -49,6 +62,7 @@ fn is_file_name(name: &str) -> bool
 fn read_limited<R: Read + Drop>(reader: R, alloc: Global) -> io::Result<ShelfAnswer>
     ensures limit { IfOk result IsWithinLimit }
     ensures bytes { IfOk result (λ answer. IfSome (R.remaining reader) (λ bytes. FitsBytes bytes answer)) }
+    ensures answered { IfOk result (λ answer. answer ≢ ShelfAnswer.Failed) }
 {
     let mut bytes = Vec::new(alloc);
     reader.take(MOST_BYTES + 1).read_to_end(&mut bytes)?;
@@ -61,7 +75,8 @@ fn read_limited<R: Read + Drop>(reader: R, alloc: Global) -> io::Result<ShelfAns
 
 // The bytes of a file that is there, or its length where they are too many.
 fn read_file<R: Files>(rt: &R, alloc: Global, name: &str) -> io::Result<ShelfAnswer>
-    ensures { IfOk result IsWithinLimit }
+    ensures limit { IfOk result IsWithinLimit }
+    ensures answered { IfOk result (λ answer. answer ≢ ShelfAnswer.Failed) }
 {
     let file = fs::open(rt, name)?;
     let metadata = file.metadata()?;
@@ -77,19 +92,20 @@ fn read_file<R: Files>(rt: &R, alloc: Global, name: &str) -> io::Result<ShelfAns
 }
 
 // What there is of this name.
-fn take_file<R: Files>(rt: &R, alloc: Global, name: &str) -> ShelfAnswer
-    ensures absent { ¬ IsFileName name.now → result ≡ ShelfAnswer.Absent }
-    ensures limit { IsWithinLimit result }
+fn take_file<R: Files>(rt: &R, alloc: Global, name: &str) -> io::Result<ShelfAnswer>
+    ensures absent { ¬ IsFileName name.now → result ≡ Ok ShelfAnswer.Absent }
+    ensures limit { IfOk result IsWithinLimit }
+    ensures answered { IfOk result (λ answer. answer ≢ ShelfAnswer.Failed) }
 {
     if !is_file_name(name) {
-        return ShelfAnswer::Absent;
+        return Ok(ShelfAnswer::Absent);
     }
     match read_file(rt, alloc, name) {
-        Ok(answer) => answer,
+        Ok(answer) => Ok(answer),
         Err(error) => match error.kind() {
-            ErrorKind::NotFound => ShelfAnswer::Absent,
-            ErrorKind::OutOfMemory => ShelfAnswer::OutOfMemory,
-            _ => ShelfAnswer::Failed,
+            ErrorKind::NotFound => Ok(ShelfAnswer::Absent),
+            ErrorKind::OutOfMemory => Ok(ShelfAnswer::OutOfMemory),
+            _ => Err(error),
         },
     }
 }
@@ -99,15 +115,15 @@ impl<R: Files> Shelf for FolderShelf<'_, R> {
 
     ghost file = { λ _ _. None };
 
-    ghost faults = { λ s. s.faults };
+    ghost faults = { λ s. s.faults.count };
 
     fn take(&mut self, alloc: Global, name: &str) -> ShelfAnswer {
         match take_file(self.rt, alloc, name) {
-            ShelfAnswer::Failed => {
-                self.faults = self.faults.saturating_add(1);
+            Ok(answer) => answer,
+            Err(error) => {
+                self.faults.add(Place::file(alloc, name), error);
                 ShelfAnswer::Failed
             }
-            answer => answer,
         }
     }
 }

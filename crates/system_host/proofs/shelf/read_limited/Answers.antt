@@ -1,6 +1,6 @@
 use Rattle.std.proofs.Common.{arith}
-use Rattle.nimbus_cli.proofs.Limits.{within_limit}
-use Rattle.nimbus_cli.proofs.shelf.read_limited.Goals as goal
+use Rattle.system_host.proofs.Limits.{within_limit}
+use Rattle.system_host.proofs.shelf.read_limited.Goals as goal
 
 pub returns-clause-bytes : goal.returns-clause-bytes
 returns-clause-bytes g c =

@@ -10,7 +10,7 @@ const LAST_MOMENT: u64 = 253_402_300_799;
 
 /// The whole seconds since 1970 that the clock reads, at most those of the last second of the year 9999. They are 0
 /// where the clock can't be read, as before 1970.
-pub(crate) fn moment(reading: io::Result<SystemTime>) -> u64
+pub fn moment(reading: io::Result<SystemTime>) -> u64
     ensures read { IfOk reading (λ time. result ≡ min (system_time_nanos time / 1000000000) 253402300799) }
     ensures unread { OnErr reading (result ≡ 0) }
     ensures last { result ≤ 253402300799 }

@@ -6,7 +6,7 @@ use std::io;
 use std::io::Write;
 
 /// Writes all the bytes, and flushes.
-pub(crate) fn write_flushed<W: Write>(output: &mut W, bytes: &[u8]) -> io::Result<()>
+pub fn write_flushed<W: Write>(output: &mut W, bytes: &[u8]) -> io::Result<()>
     ensures { OnOk result (Appends (W.contents output.old) (W.contents output.new) bytes.now) }
 {
     output.write_all(bytes)?;

@@ -1,5 +1,5 @@
 use Rattle.std.specs.Io.KnownBytes.{Keeps}
-use Rattle.nimbus_cli.proofs.source.read_some.Given as goal
+use Rattle.system_host.proofs.source.read_some.Given as goal
 
 -- a read that a signal cut short took no byte
 abbrev pub invariant-loop : goal.invariant-loop
