@@ -7,4 +7,6 @@ mod hosts;
 #[cfg(test)]
 mod journals;
 #[cfg(test)]
+mod pairs;
+#[cfg(test)]
 mod spellings;

@@ -1,0 +1,5 @@
+pub mod Choice
+pub mod Moments
+pub mod Pair
+pub mod Repair
+pub mod Store
