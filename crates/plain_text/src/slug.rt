@@ -5,18 +5,20 @@ ghost use Rattle.std.specs.Cmp.{partial_equiv_from_equiv};
 ghost use Rattle.std.specs.Cmp.Lexicographic.{slice_cmp, nat_list_eq_equiv, nat_list_cmp_total, texts_po, texts_ties};
 ghost use Rattle.plain_text.specs.Names.{is_slug_byte, bad_place};
 
-use sequences::Text;
+use sequences::{ExactClone, Text};
 use std::alloc::{AllocError, Global};
 use std::cmp::Ordering;
 use std::marker::Model;
+use std::rc::Rc;
 use std::str;
 
 const MAX_LEN: usize = 80;
 
-/// 1 to 80 bytes of `a` to `z`, `0` to `9`, `-` and `_`. Contracts see it as its bytes.
+/// 1 to 80 bytes of `a` to `z`, `0` to `9`, `-` and `_`. Contracts see it as its bytes. A clone
+/// shares the text.
 #[derive(Drop)]
 pub struct Slug {
-    text: Text,
+    text: Rc<Text>,
 }
 
 impl Model for Slug {
@@ -25,9 +27,9 @@ impl Model for Slug {
 
     ghost Value = { List ℕ };
 
-    ghost view = { λ s. s.text };
+    ghost view = { λ s. s.text.value };
 
-    ghost invariant = { λ s. bad_place s.text ≡ None };
+    ghost invariant = { λ s. bad_place s.text.value ≡ None };
 }
 
 /// Why `slug_of` gives no slug.
@@ -61,10 +63,17 @@ pub fn slug_of(alloc: Global, bytes: &[u8]) -> Result<Slug, SlugFault>
     let Ok(text) = str::from_utf8(bytes) else {
         unreachable!();
     };
-    match Text::new(alloc, text) {
+    match shared(alloc, text) {
         Ok(text) => Ok(Slug { text }),
         Err(_) => Err(SlugFault::OutOfMemory),
     }
+}
+
+/// A text that slugs can share.
+fn shared(alloc: Global, text: &str) -> Result<Rc<Text>, AllocError>
+    ensures { IfOk result (λ t. t.value ≡ text.now) }
+{
+    Ok(Rc::new(alloc, Text::new(alloc, text)?)?)
 }
 
 /// Where the bytes fail to be a slug.
@@ -99,6 +108,7 @@ fn is_slug_byte(byte: u8) -> bool
     byte.is_ascii_lowercase() || byte.is_ascii_digit() || byte == b'-' || byte == b'_'
 }
 
+/// The same text with one more owner. It takes no memory.
 impl Clone for Slug {
     ghost is_clone = { λ s t. t ≡ s };
 
@@ -146,4 +156,8 @@ impl Ord for Slug {
     fn cmp(&self, other: &Slug) -> Ordering {
         self.text.cmp(&other.text)
     }
+}
+
+impl ExactClone for Slug {
+    ghost exact = { λ s t same. same };
 }

@@ -1,10 +1,13 @@
-//! A text and a sequence, which contracts see as their bytes and as the list of their items.
+//! A text, a sequence and a shared list, which contracts see as their bytes and as the list of their
+//! items.
 #![tactic(auto)]
 
 mod sequence;
+mod shared;
 mod text;
 
 pub use sequence::Sequence;
+pub use shared::{ExactClone, SharedList};
 pub use text::Text;
 
 #[cfg(test)]

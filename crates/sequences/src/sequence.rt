@@ -1,6 +1,6 @@
 // A sequence, seen as the list of its items.
-ghost use Rattle.std.specs.Prelude.{◌≡◌, ◌≤◌, ◌↔◌, [], ◌∷◌, ◌++◌, length, IsNone, IsTrue, IfSome, IfNone, OnOk, OnErr, slice_get, option_map};
-ghost use Rattle.std.specs.List.{insert, AllZip};
+ghost use Rattle.std.specs.Prelude.{◌≡◌, ◌<◌, ◌≤◌, ◌↔◌, [], ◌∷◌, ◌++◌, length, Some, IsNone, IsTrue, IfSome, IfNone, OnOk, OnErr, slice_get, slice_set, option_map};
+ghost use Rattle.std.specs.List.{insert, remove, AllZip};
 ghost use Rattle.std.specs.Cmp.Lexicographic.{pointwise, lists_per};
 
 use std::alloc::{AllocError, Global};
@@ -94,6 +94,23 @@ impl<T: Drop> Sequence<T> {
     {
         self.items.insert(place, item)?;
         Ok(())
+    }
+
+    /// Puts an item in the place of the one at `place`.
+    pub fn replace(&mut self, place: usize, item: T)
+        requires { place < length self.old }
+        ensures { self.new ≡ slice_set self.old place item }
+    {
+        self.items[place] = item;
+    }
+
+    /// Takes the item at `place` out, and gives it.
+    pub fn remove(&mut self, place: usize) -> T
+        requires { place < length self.old }
+        ensures rest { self.new ≡ remove self.old place }
+        ensures item { slice_get self.old place ≡ Some result }
+    {
+        self.items.remove(place)
     }
 
     /// Takes the last item away, where there is one.

@@ -22,3 +22,25 @@ fn items_and_bytes_are_kept(rt: HostRuntime) -> Result<(), Fail> {
     assert_eq!(rt; string.as_str(), "a text");
     Ok(())
 }
+
+#[test]
+fn a_shared_list_changes_alone(rt: HostRuntime) -> Result<(), Fail> {
+    let alloc = rt.alloc();
+    let mut names: SharedList<Text> = SharedList::new(alloc);
+    names.push(Text::new(alloc, "b")?)?;
+    let before = names.clone()?;
+    names.insert(0, Text::new(alloc, "a")?)?;
+    assert_eq!(rt; names.len(), 2);
+    assert_eq!(rt; before.len(), 1);
+    assert!(rt; !before.is_empty());
+    assert_eq!(rt; names.get(0).map(Text::as_str), Some("a"));
+    names.replace(0, Text::new(alloc, "c")?)?;
+    assert_eq!(rt; names.get(0).map(Text::as_str), Some("c"));
+    names.remove(0)?;
+    assert!(rt; names == before);
+    let mut numbers: Sequence<Text> = Sequence::new(alloc);
+    numbers.push(Text::new(alloc, "b")?)?;
+    let same = SharedList::from_sequence(alloc, numbers)?;
+    assert!(rt; same == before);
+    Ok(())
+}

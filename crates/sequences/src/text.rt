@@ -4,6 +4,7 @@ ghost use Rattle.std.specs.Ordering.{nat_cmp};
 ghost use Rattle.std.specs.Cmp.{partial_equiv_from_equiv};
 ghost use Rattle.std.specs.Cmp.Lexicographic.{slice_cmp, nat_list_eq_equiv, nat_list_cmp_total, texts_po, texts_ties};
 
+use crate::shared::ExactClone;
 use std::alloc::{AllocError, Global};
 use std::cmp::Ordering;
 use std::marker::Model;
@@ -103,4 +104,8 @@ impl Ord for Text {
     fn cmp(&self, other: &Text) -> Ordering {
         self.as_str().cmp(other.as_str())
     }
+}
+
+impl ExactClone for Text {
+    ghost exact = { λ t u same. same };
 }

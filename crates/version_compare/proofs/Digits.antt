@@ -6,8 +6,8 @@ use Rattle.std.proofs.lemmas.Bool.{lt-ltb, le-ltb}
 use Rattle.std.proofs.lemmas.Bool.Decides.{nat_tests}
 use Rattle.version_compare.specs.Counting.{magnitude_from, FitsCount, AddsDigit}
 use Rattle.std.specs.Char.{is_ascii_digit}
-use Rattle.version_compare.specs.Runs.{prepend, run}
-use Rattle.version_compare.specs.Versions.{magnitude, value_from}
+use Rattle.sequences.specs.Runs.{prepend, run, value_from}
+use Rattle.version_compare.specs.Versions.{magnitude}
 
 pub run_on : (b : ℕ) (bs rest : List ℕ) → bs ≡ b ∷ rest → is_ascii_digit b ≡ true → run is_ascii_digit bs ≡ prepend b (run is_ascii_digit rest)
 unfolding run

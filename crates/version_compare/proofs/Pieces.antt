@@ -6,7 +6,8 @@ use Rattle.std.specs.Ordering.{ordering_then, nat_cmp}
 use Rattle.std.specs.Cmp.Lexicographic.{slice_cmp}
 use Rattle.std.specs.declared.cmp.Ordering.{Ordering}
 use Rattle.std.specs.declared.cmp.Ordering.TheVariants.{Less, Equal, Greater}
-use Rattle.version_compare.specs.Runs.{is_string_byte, run}
+use Rattle.sequences.specs.Runs.{run}
+use Rattle.version_compare.specs.Bytes.{is_string_byte}
 use Rattle.version_compare.specs.Versions.{Part, finite_part, infinite_part, is_plus_in_front, is_star, missing_last, number_in_front, part_of, part_of_pieces, part_with_string, raised_part, string_cmp}
 use Rattle.version_compare.proofs.RunLaws.{taken}
 

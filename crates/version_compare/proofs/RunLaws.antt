@@ -3,7 +3,8 @@ use Rattle.std.proofs.Common.{◌≡◌, ℕ, Bool, true, false, cond, List, [],
 use Rattle.std.specs.Prelude.{◌==◌, take}
 use Rattle.std.proofs.lemmas.Bool.{eqb-true, eq-eqb}
 use Rattle.std.proofs.lemmas.List.{take_at}
-use Rattle.version_compare.specs.Runs.{is_no_dot, prepend, run}
+use Rattle.sequences.specs.Runs.{prepend, run}
+use Rattle.version_compare.specs.Bytes.{is_no_dot}
 
 -- the bytes after a run stay the same past a byte that passes
 pub after_on : (test : ℕ → Bool) (all : List ℕ) (b : ℕ) (bs rest : List ℕ) (passes : Bool) → all ≡ (run test bs).1 → bs ≡ b ∷ rest → passes ≡ test b → passes ≡ true → all ≡ (run test rest).1

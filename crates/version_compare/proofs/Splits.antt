@@ -5,7 +5,8 @@ use Rattle.std.specs.Cmp.Lexicographic.{slice_cmp}
 use Rattle.std.specs.Ordering.{is_ne, ordering_then}
 use Rattle.std.specs.declared.cmp.Ordering.{Ordering}
 use Rattle.std.specs.declared.cmp.Ordering.TheVariants.{Less, Equal, Greater}
-use Rattle.version_compare.specs.Runs.{is_no_dot, prepend, run}
+use Rattle.sequences.specs.Runs.{prepend, run}
+use Rattle.version_compare.specs.Bytes.{is_no_dot}
 use Rattle.version_compare.specs.Versions.{Part, empty_part, part_cmp, part_of, parts, parts_cmp, split, version_order, with_first_byte}
 use Rattle.version_compare.specs.Cutting.{without_first, IsCut}
 use Rattle.version_compare.proofs.RunLaws.{run_short, taken}

@@ -7,7 +7,7 @@ use Rattle.std.specs.declared.cmp.Ordering.{Ordering}
 use Rattle.std.specs.declared.cmp.Ordering.TheVariants.{Less, Equal, Greater}
 use Rattle.std.specs.Prelude.{IsTrue}
 use Rattle.version_compare.specs.Laws.{IsVersionOrderTotal}
-use Rattle.version_compare.specs.Runs.{run}
+use Rattle.sequences.specs.Runs.{run}
 use Rattle.version_compare.specs.Versions.{Part, empty_part, missing_last, part_cmp, parts, parts_cmp, version_order}
 use Rattle.version_compare.proofs.Splits.{both, pad_left, pad_right}
 

@@ -2,7 +2,7 @@
 use Rattle.std.proofs.Common.{◌≡◌, ℕ, Bool, cond, List, [], ◌∷◌, refl, sym, ap, subst, ◌∙◌}
 use Rattle.std.specs.Char.{is_ascii_digit}
 use Rattle.std.specs.Prelude.{ℤ, pos, neg_ℤ, ◌==◌}
-use Rattle.version_compare.specs.Runs.{prepend, run}
+use Rattle.sequences.specs.Runs.{prepend, run}
 use Rattle.version_compare.specs.Versions.{magnitude, number_after_minus, number_in_front, number_of_digits}
 use Rattle.version_compare.proofs.RunLaws.{differs}
 

@@ -1,6 +1,6 @@
 -- Numbers read a digit at a time.
 use Rattle.std.specs.Prelude.{◌≡◌, ℕ, ◌+◌, ◌^◌, ◌<◌, ◌≤◌, if◌then◌else◌, nat_lt, List, ◌∷◌, length}
-use Rattle.version_compare.specs.Versions.{value_from}
+use Rattle.sequences.specs.Runs.{value_from}
 
 -- what `count` digits of this value make with these digits after them
 abbrev pub magnitude_from : ℕ → ℕ → List ℕ → ℕ

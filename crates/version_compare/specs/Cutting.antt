@@ -1,6 +1,7 @@
 -- The first part of a version, and what follows it.
 use Rattle.std.specs.Prelude.{◌≡◌, List, ℕ, [], ◌∷◌}
-use Rattle.version_compare.specs.Runs.{run, is_no_dot}
+use Rattle.sequences.specs.Runs.{run}
+use Rattle.version_compare.specs.Bytes.{is_no_dot}
 
 abbrev pub without_first : List ℕ → List ℕ
 without_first [] = []

@@ -1,4 +1,4 @@
-pub mod Runs
+pub mod Bytes
 pub mod Versions
 pub mod Cutting
 pub mod Counting

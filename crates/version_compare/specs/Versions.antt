@@ -1,13 +1,14 @@
 -- The version order of the toolkit version format, over the bytes of two texts.
 --     version    parts with a dot between each two
 --     part       `*`, or number-a string-b number-c string-d, where each may be missing
-use Rattle.std.specs.Prelude.{ℕ, ◌+◌, ◌-◌, ◌*◌, ◌^◌, ℤ, pos, neg_ℤ, ◌+ℤ◌, Bool, false, if◌then◌else◌, ◌==◌, nat_lt, List, [], ◌∷◌, ◌++◌, map, length, replicate, codes, Option, Some, None}
+use Rattle.std.specs.Prelude.{ℕ, ◌-◌, ◌^◌, ℤ, pos, neg_ℤ, ◌+ℤ◌, Bool, false, if◌then◌else◌, ◌==◌, nat_lt, List, [], ◌∷◌, ◌++◌, map, length, replicate, codes, Option, Some, None}
 use Rattle.std.specs.Char.{is_ascii_digit}
 use Rattle.std.specs.Cmp.Lexicographic.{slice_cmp}
 use Rattle.std.specs.Ordering.{nat_cmp, int_cmp, ordering_then}
 use Rattle.std.specs.declared.cmp.Ordering.{Ordering}
 use Rattle.std.specs.declared.cmp.Ordering.TheVariants.{Less, Equal, Greater}
-use Rattle.version_compare.specs.Runs.{run, is_string_byte}
+use Rattle.sequences.specs.Runs.{run, value_from}
+use Rattle.version_compare.specs.Bytes.{is_string_byte}
 
 -- ---- the parts of a version
 
@@ -17,11 +18,6 @@ pub record Part : Type 0 where
   pub string_b : Option (List ℕ)
   pub number_c : ℤ
   pub string_d : Option (List ℕ)
-
--- the decimal number that n becomes with these digits after it
-abbrev pub value_from : ℕ → List ℕ → ℕ
-value_from n [] = n
-value_from n (digit ∷ digits) = value_from (10 * n + (digit - 48)) digits
 
 -- the number that the digits write; more than 18 digits count as 10 ^ 18
 abbrev pub magnitude : List ℕ → ℕ

@@ -1,7 +1,8 @@
 //! What stands at the front of some bytes.
 
 ghost use Rattle.std.specs.Prelude.{◌≡◌, ◌<◌, ◌≤◌, ◌-◌, [], ◌∷◌, length, take, IfSome, MatchOption, option_copied};
-ghost use Rattle.version_compare.specs.Runs.{is_no_dot, is_string_byte, run};
+ghost use Rattle.sequences.specs.Runs.{run};
+ghost use Rattle.version_compare.specs.Bytes.{is_no_dot, is_string_byte};
 ghost use Rattle.version_compare.specs.Versions.{is_plus_in_front, is_star, string_of};
 
 /// The first byte, and the bytes after it.

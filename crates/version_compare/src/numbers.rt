@@ -3,7 +3,7 @@
 ghost use Rattle.std.specs.Char.{is_ascii_digit};
 ghost use Rattle.std.specs.Prelude.{◌≡◌, ◌<◌, ◌≤◌, ◌+◌, ◌*◌, ◌-◌, ◌^◌, pos, ◌≤ℤ◌, true, [], ◌∷◌, length, IfSome, MatchOption};
 ghost use Rattle.version_compare.specs.Counting.{magnitude_from, FitsCount, AddsDigit};
-ghost use Rattle.version_compare.specs.Runs.{prepend, run};
+ghost use Rattle.sequences.specs.Runs.{prepend, run};
 ghost use Rattle.version_compare.specs.Versions.{magnitude, number_in_front};
 
 use crate::front::first_of;

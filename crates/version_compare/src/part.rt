@@ -1,7 +1,8 @@
 //! The parts of a version, and their order.
 
 ghost use Rattle.std.specs.Prelude.{◌≡◌, option_copied};
-ghost use Rattle.version_compare.specs.Runs.{is_string_byte, run};
+ghost use Rattle.sequences.specs.Runs.{run};
+ghost use Rattle.version_compare.specs.Bytes.{is_string_byte};
 ghost use Rattle.version_compare.specs.Seen.{part_seen};
 ghost use Rattle.version_compare.specs.Versions.{missing_last, part_cmp, part_of, part_of_pieces, part_with_string, string_cmp};
 

@@ -1,4 +1,5 @@
-use Rattle.version_compare.specs.Runs.{is_string_byte, run}
+use Rattle.sequences.specs.Runs.{run}
+use Rattle.version_compare.specs.Bytes.{is_string_byte}
 use Rattle.version_compare.proofs.RunLaws.{after_on, after_stop, after_none}
 use Rattle.version_compare.proofs.front.after_string.Goals as goal
 

@@ -1,5 +1,6 @@
 use Rattle.std.proofs.Common.{◌≡◌, length}
-use Rattle.version_compare.specs.Runs.{is_string_byte, run}
+use Rattle.sequences.specs.Runs.{run}
+use Rattle.version_compare.specs.Bytes.{is_string_byte}
 use Rattle.version_compare.proofs.front.after_string.Given as goal
 
 abbrev pub invariant-loop-b : goal.invariant-loop-b

@@ -1,4 +1,5 @@
-use Rattle.version_compare.specs.Runs.{is_no_dot, run}
+use Rattle.sequences.specs.Runs.{run}
+use Rattle.version_compare.specs.Bytes.{is_no_dot}
 use Rattle.version_compare.proofs.RunLaws.{dot_on, dot_stop, after_none}
 use Rattle.version_compare.proofs.front.from_dot.Goals as goal
 

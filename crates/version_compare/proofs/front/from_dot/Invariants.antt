@@ -1,5 +1,6 @@
 use Rattle.std.proofs.Common.{◌≡◌, length}
-use Rattle.version_compare.specs.Runs.{is_no_dot, run}
+use Rattle.sequences.specs.Runs.{run}
+use Rattle.version_compare.specs.Bytes.{is_no_dot}
 use Rattle.version_compare.proofs.front.from_dot.Given as goal
 
 abbrev pub invariant-loop-b : goal.invariant-loop-b

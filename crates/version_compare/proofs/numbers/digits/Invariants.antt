@@ -1,7 +1,7 @@
 use Rattle.std.proofs.Common.{◌≡◌, length}
 use Rattle.std.specs.Char.{is_ascii_digit}
 use Rattle.version_compare.specs.Counting.{magnitude_from, FitsCount}
-use Rattle.version_compare.specs.Runs.{run}
+use Rattle.sequences.specs.Runs.{run}
 use Rattle.version_compare.specs.Versions.{magnitude}
 use Rattle.version_compare.proofs.numbers.digits.Given as goal
 
