@@ -1,6 +1,5 @@
 pub mod Growing
-pub mod Inserting
-pub mod Turns
+pub mod Converting
 pub mod OfData
 pub mod ToData
 pub mod Whole

@@ -2,7 +2,6 @@ pub mod Json
 pub mod Tree
 pub mod Weights
 pub mod Bytes
-pub mod Reads
 pub mod Laws
 pub mod Equal
 pub mod Inverse

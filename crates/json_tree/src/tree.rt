@@ -1,5 +1,5 @@
 // The tree of a JSON value: what it keeps by its type, how it is built, and how a key is found.
-ghost use Rattle.std.specs.Prelude.{◌≡◌, [], ◌∷◌, ◌++◌, map, option_map, OnOk, OnErr};
+ghost use Rattle.std.specs.Prelude.{◌≡◌, [], ◌∷◌, ◌++◌, map, option_map, IfOk, OnOk, OnErr};
 
 use sequences::Text;
 use std::alloc::{AllocError, Global};
@@ -92,6 +92,15 @@ impl Items {
         }
     }
 
+    /// A list without items that has room for so many.
+    pub(crate) fn with_capacity(alloc: Global, capacity: usize) -> Result<Items, AllocError>
+        ensures { IfOk result (λ xs. xs ≡ []) }
+    {
+        Ok(Items {
+            items: Vec::with_capacity(alloc, capacity)?,
+        })
+    }
+
     pub(crate) fn allocator(&self) -> Global {
         *self.items.allocator()
     }
@@ -128,6 +137,15 @@ impl Members {
         }
     }
 
+    /// An object without members that has room for so many.
+    pub(crate) fn with_capacity(alloc: Global, capacity: usize) -> Result<Members, AllocError>
+        ensures { IfOk result (λ ms. ms ≡ []) }
+    {
+        Ok(Members {
+            members: Vec::with_capacity(alloc, capacity)?,
+        })
+    }
+
     pub(crate) fn allocator(&self) -> Global {
         *self.members.allocator()
     }
@@ -162,14 +180,6 @@ impl Members {
         ensures sound { AreSoundMembers (members_of self.now) }
     {
         self.members.as_slice()
-    }
-
-    /// The keys and their values, in order. It takes no memory.
-    pub(crate) fn into_pairs(self) -> Vec<(Text, Tree)>
-        ensures members { map member_of result.items ≡ self }
-        ensures sound { AreSoundMembers (members_of self) }
-    {
-        self.members
     }
 }
 

@@ -3,3 +3,4 @@ pub mod Splitting
 pub mod Slugs
 pub mod Days
 pub mod Written
+pub mod Forms

@@ -18,7 +18,7 @@ two_of a b rest ha hb =
     let second : (48 + b) - 48 ≡ b = omega arith in
     rw (is_digit a ha, is_digit b hb, first, second)
 
-two-two_digits : (n : ℕ) (rest : List ℕ) → n < 100 → two (two_digits n ++ rest) ≡ Some (n, rest)
+pub two-two_digits : (n : ℕ) (rest : List ℕ) → n < 100 → two (two_digits n ++ rest) ≡ Some (n, rest)
 two-two_digits n rest h =
     let whole : 10 * (n / 10) + n % 10 ≡ n = omega arith in
     two_of (n / 10) (n % 10) rest (omega arith) (omega arith) ∙ ap (λ k. Some (k, rest)) whole
@@ -33,7 +33,7 @@ month_and_day-written year month day rest valid =
     ∙ ap (option_and_then (λ d. option_map (λ s. (s, d.1)) (day_seconds year month d.0))) (two-two_digits day rest (omega (arith, valid.2.1, days_in_month-small (pos year) month)))
     ∙ ap (option_map (λ s. (s, rest))) (day_seconds-civil year month day valid)
 
-date-written : (year month day : ℕ) (rest : List ℕ) → IsCivilDate (pos year) month day → date (date_text year month day ++ rest) ≡ Some (days_from_civil (pos year) month day *ℤ pos 86400, rest)
+pub date-written : (year month day : ℕ) (rest : List ℕ) → IsCivilDate (pos year) month day → date (date_text year month day ++ rest) ≡ Some (days_from_civil (pos year) month day *ℤ pos 86400, rest)
 date-written year month day rest valid =
     let later = 45 ∷ two_digits month ++ 45 ∷ two_digits day ++ rest in
     let below : year < 10000 = omega (arith, signed_arith, valid.0.1) in
@@ -41,7 +41,7 @@ date-written year month day rest valid =
     ap (option_and_then (λ c. option_and_then (λ y. month_and_day (100 * c.0 + y.0) y.1) (two c.1))) (two-two_digits (year / 100) (two_digits (year % 100) ++ later) (omega arith))
     ∙ ap (option_and_then (λ y. month_and_day (100 * (year / 100) + y.0) y.1)) (two-two_digits (year % 100) later (omega arith)) ∙ ap (λ y. month_and_day y later) whole ∙ month_and_day-written year month day rest valid
 
-hours_and_minutes-written : (hour minute : ℕ) (rest : List ℕ) → hour < 24 → minute < 60 → hours_and_minutes (two_digits hour ++ 58 ∷ two_digits minute ++ rest) ≡ Some (3600 * hour + 60 * minute, rest)
+pub hours_and_minutes-written : (hour minute : ℕ) (rest : List ℕ) → hour < 24 → minute < 60 → hours_and_minutes (two_digits hour ++ 58 ∷ two_digits minute ++ rest) ≡ Some (3600 * hour + 60 * minute, rest)
 hours_and_minutes-written hour minute rest less few =
     ap (option_and_then (λ h. option_and_then (λ m. if nat_le h.0 23 && nat_le m.0 59 then Some (3600 * h.0 + 60 * m.0, m.1) else None) (then_two 58 h.1))) (two-two_digits hour (58 ∷ two_digits minute ++ rest) (omega arith))
     ∙ ap (option_and_then (λ m. if nat_le hour 23 && nat_le m.0 59 then Some (3600 * hour + 60 * m.0, m.1) else None)) (two-two_digits minute rest (omega arith))

@@ -8,7 +8,7 @@ mod numbers;
 mod slug;
 mod spans;
 
-pub use laws::written_moment_reads_back;
+pub use laws::{moments_read_back, written_moment_reads_back};
 pub use moments::read_moment;
 pub use names::is_name;
 pub use numbers::read_number;
