@@ -1,7 +1,11 @@
 -- The state draw by draw, and the draws of the first record and of the others.
-use Rattle.std.proofs.Common.{◌≡◌, ◌≢◌, ◌+◌, ℕ, zero, suc, refl, sym, ap, ◌∙◌, arith}
+use Rattle.std.proofs.Common.{◌≡◌, ◌≢◌, ◌+◌, ◌*◌, ◌%◌, ◌^◌, ℕ, zero, suc, refl, sym, ap, ◌∙◌, arith}
 use Rattle.recipe_drill.specs.Draws.{draws, drawn, next_state, state_after}
 use Rattle.recipe_drill.specs.declared.draws.Draws.{Draws}
+
+-- a product and a sum that wrap are the next state
+pub wrapped : (x : ℕ) → (x * 6364136223846793005 % 2 ^ 64 + 1442695040888963407) % 2 ^ 64 ≡ next_state x
+wrapped x = omega arith
 
 pub state_step : (start k j : ℕ) {x : ℕ} → x ≡ state_after start k → j ≡ k + 1 → next_state x ≡ state_after start j
 unfolding state_after

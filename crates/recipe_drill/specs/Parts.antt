@@ -13,7 +13,7 @@ pub record Parts : Type 0 where
   pub recipes : List ℕ
 
 abbrev pub parts_of : Drill → Parts
-parts_of d = record { id = d.id; script = d.script.items; manifest = d.manifest.items; context = d.context.items; recipes = d.recipes.items }
+parts_of d = record { id = d.id; script = d.script; manifest = d.manifest; context = d.context; recipes = d.recipes }
 
 abbrev pub drill_id : List ℕ
 drill_id = codes "00000000-0000-4000-8000-000000000000"
@@ -28,6 +28,6 @@ most_bytes = 4194304
 
 -- no file is longer than a file may be
 pub record HasRoom (d : Drill) : Type 0 where
-  pub manifest : length d.manifest.items ≤ most_bytes
-  pub context : length d.context.items ≤ most_bytes
-  pub recipes : length d.recipes.items ≤ most_bytes
+  pub manifest : length d.manifest ≤ most_bytes
+  pub context : length d.context ≤ most_bytes
+  pub recipes : length d.recipes ≤ most_bytes

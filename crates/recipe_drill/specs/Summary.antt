@@ -1,27 +1,35 @@
 -- The summary of a state: how many rows have each status.
-use Rattle.std.specs.Prelude.{ℕ, List, [], ◌∷◌, ◌++◌, codes, decimal, bytes_eq, count_by}
-use Rattle.std.specs.List.{flat_map}
+use Rattle.std.specs.Prelude.{ℕ, Bool, true, false, List, ◌++◌, codes, decimal, count_by}
+use Rattle.enrol_states.specs.Statuses.{is_enrolled, was_enrolled}
 use Rattle.enrol_states.specs.declared.state.State.{State}
 use Rattle.enrol_states.specs.declared.state.Row.{Row}
 use Rattle.enrol_states.specs.declared.status.Status.{Status}
-use Rattle.enrol_states.specs.declared.status.Status.TheVariants.{Enrolled, NotEnrolled, Disqualified, WasEnrolled, Error}
+use Rattle.enrol_states.specs.declared.status.Status.TheVariants.{NotEnrolled, Disqualified, Error}
 
-abbrev pub status_name : Status → List ℕ
-status_name (Enrolled reason branch) = codes "Enrolled"
-status_name (NotEnrolled reason) = codes "NotEnrolled"
-status_name (Disqualified reason branch) = codes "Disqualified"
-status_name (WasEnrolled branch ended) = codes "WasEnrolled"
-status_name (Error cause) = codes "Error"
+abbrev pub is_not_enrolled : Status → Bool
+is_not_enrolled (NotEnrolled reason) = true
+is_not_enrolled s = false
 
-abbrev pub status_names : List (List ℕ)
-status_names = codes "Enrolled" ∷ codes "NotEnrolled" ∷ codes "Disqualified" ∷ codes "WasEnrolled" ∷ codes "Error" ∷ []
+abbrev pub is_disqualified : Status → Bool
+is_disqualified (Disqualified reason branch) = true
+is_disqualified s = false
 
--- how many rows have the status of this name
-abbrev pub count_of : List Row → List ℕ → ℕ
-count_of rows name = count_by (λ row. bytes_eq (status_name row.status) name) rows
+abbrev pub is_error : Status → Bool
+is_error (Error cause) = true
+is_error s = false
 
-unfoldable pub count_line : List Row → List ℕ → List ℕ
-count_line rows name = name ++ codes " " ++ decimal (count_of rows name) ++ codes "\n"
+-- how many rows have such a status
+abbrev pub count_of : (Status → Bool) → List Row → ℕ
+count_of is rows = count_by (λ (row : Row). is row.status) rows
+
+unfoldable pub count_line : List ℕ → ℕ → List ℕ
+count_line name count = name ++ codes " " ++ decimal count ++ codes "\n"
 
 unfoldable pub summary : ℕ → ℕ → State → List ℕ
-summary start count state = codes "drill " ++ decimal start ++ codes " " ++ decimal count ++ codes "\n" ++ flat_map (count_line state.rows) status_names
+summary start count state =
+    codes "drill " ++ decimal start ++ codes " " ++ decimal count ++ codes "\n"
+    ++ count_line (codes "Enrolled") (count_of is_enrolled state.rows)
+    ++ count_line (codes "NotEnrolled") (count_of is_not_enrolled state.rows)
+    ++ count_line (codes "Disqualified") (count_of is_disqualified state.rows)
+    ++ count_line (codes "WasEnrolled") (count_of was_enrolled state.rows)
+    ++ count_line (codes "Error") (count_of is_error state.rows)

@@ -2,11 +2,9 @@
 ghost use Rattle.std.specs.Prelude.{◌≡◌, ◌+◌, ◌*◌, ◌/◌, ◌<◌, ◌^◌, ℕ};
 ghost use Rattle.recipe_drill.specs.Draws.{draws, drawn, next_state, state_after};
 
-const MULTIPLIER: u128 = 6_364_136_223_846_793_005;
+const MULTIPLIER: u64 = 6_364_136_223_846_793_005;
 
-const INCREMENT: u128 = 1_442_695_040_888_963_407;
-
-const MODULUS: u128 = 18_446_744_073_709_551_616;
+const INCREMENT: u64 = 1_442_695_040_888_963_407;
 
 /// What is drawn for a record.
 #[derive(Clone, Copy)]
@@ -63,10 +61,11 @@ fn five_draws(start: u64, state: &mut u64, index: u32) -> Draws
 }
 
 /// The next number. The state moves on by a draw.
+#[tactic(auto, using(crate::proofs::Drawing::wrapped))]
 fn draw(state: &mut u64) -> u32
     ensures state { state.new ≡ next_state state.old }
     ensures draw { result ≡ state.new / 2 ^ 33 }
 {
-    *state = ((u128::from(*state) * MULTIPLIER + INCREMENT) % MODULUS) as u64;
+    *state = state.wrapping_mul(MULTIPLIER).wrapping_add(INCREMENT);
     (*state >> 33) as u32
 }

@@ -3,7 +3,7 @@ ghost use Rattle.std.specs.Prelude.{◌≡◌, ◌≤◌, IfOk};
 ghost use Rattle.recipe_drill.specs.Parts.{parts_of, drill, HasRoom};
 
 use crate::files::{context_text, manifest_text, recipes_text, script_text};
-use sequences::Text;
+use sequences::{Sequence, Text};
 use std::alloc::{AllocError, Global};
 
 /// The most records that a drill has.
@@ -15,13 +15,13 @@ pub struct Drill {
     /// The id of the store, as 32 lower-case hexadecimal digits with hyphens.
     pub id: Text,
     /// The lines of the script, each with its end.
-    pub script: Vec<u8>,
+    pub script: Sequence<u8>,
     /// `manifest.json`.
-    pub manifest: Vec<u8>,
+    pub manifest: Sequence<u8>,
     /// `context.json`.
-    pub context: Vec<u8>,
+    pub context: Sequence<u8>,
     /// `recipes.json`.
-    pub recipes: Vec<u8>,
+    pub recipes: Sequence<u8>,
 }
 
 impl Drill {
@@ -40,10 +40,10 @@ impl Drill {
         let recipes = recipes_text(alloc, start, count)?;
         Ok(Drill {
             id,
-            script,
-            manifest,
-            context,
-            recipes,
+            script: Sequence::from_vec(script),
+            manifest: Sequence::from_vec(manifest),
+            context: Sequence::from_vec(context),
+            recipes: Sequence::from_vec(recipes),
         })
     }
 }

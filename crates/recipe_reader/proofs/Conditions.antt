@@ -134,7 +134,7 @@ parts_id : (o : Option (Seq ℕ)) (v : Result Tree SkipReason) (f : FeatureValue
 parts_id None v f e = absurd cc
 parts_id (Some id) v f e = named_id id (is_name id) v f e
 
-feature_id : (x : Json) (f : FeatureValue) → feature_of x ≡ Ok f → text_at (codes "featureId") x ≡ Some f.feature
+pub feature_id : (x : Json) (f : FeatureValue) → feature_of x ≡ Ok f → text_at (codes "featureId") x ≡ Some f.feature
 unfolding feature_of
 feature_id x f e = parts_id (text_at (codes "featureId") x) (value_of (present (get (codes "value") x))) f e
 
@@ -175,19 +175,19 @@ branch_read b =
     let one = present (get (codes "feature") b) in
     branch_parts_read (slug_in BadBranches b) ratio (listed l one) ∙ ap₂ (λ s fs. s && is_some ratio && fs) (slug_read BadBranches b) (listed_read l one)
 
-slug_text : (r : SkipReason) (x : Json) (s : Seq ℕ) → slug_in r x ≡ Ok s → text_at (codes "slug") x ≡ Some s
+pub slug_text : (r : SkipReason) (x : Json) (s : Seq ℕ) → slug_in r x ≡ Ok s → text_at (codes "slug") x ≡ Some s
 unfolding slug_in
 slug_text r x s e =
     let b = bind_ok (needed r (text_at (codes "slug") x)) (λ t. needed r (only_if (is_slug t) t)) s e in
     let g = only_if_ok (is_slug b.0) b.0 s (needed_ok r (only_if (is_slug b.0) b.0) s b.2) in
     needed_ok r (text_at (codes "slug") x) b.0 b.1 ∙ ap (λ t. Some t) g.1
 
-branch_slug : (x : Json) (b : Branch) → branch_of x ≡ Ok b → text_at (codes "slug") x ≡ Some b.slug
+pub branch_slug : (x : Json) (b : Branch) → branch_of x ≡ Ok b → text_at (codes "slug") x ≡ Some b.slug
 unfolding branch_of
 branch_slug x b e =
     slug_text BadBranches x b.slug (branch_parts (slug_in BadBranches x) (count_at (codes "ratio") 0 1000000 x) (listed (present (get (codes "features") x)) (present (get (codes "feature") x))) b e).0
 
-branch_ratio : (x : Json) (b : Branch) → branch_of x ≡ Ok b → count_at (codes "ratio") 0 1000000 x ≡ Some b.ratio
+pub branch_ratio : (x : Json) (b : Branch) → branch_of x ≡ Ok b → count_at (codes "ratio") 0 1000000 x ≡ Some b.ratio
 unfolding branch_of
 branch_ratio x b e = (branch_parts (slug_in BadBranches x) (count_at (codes "ratio") 0 1000000 x) (listed (present (get (codes "features") x)) (present (get (codes "feature") x))) b e).1
 

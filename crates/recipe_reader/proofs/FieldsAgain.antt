@@ -69,10 +69,10 @@ bucket_of_parts u n s c t = do
   total ← needed BadBucket t
   Ok (record { unit = unit; namespace = namespace; start = start; count = count; total = total })
 
-abbrev ArePartsOf : Result (List ℕ) SkipReason → Result (List ℕ) SkipReason → Option ℕ → Option ℕ → Option ℕ → Bucket → Type 0
+abbrev pub ArePartsOf : Result (List ℕ) SkipReason → Result (List ℕ) SkipReason → Option ℕ → Option ℕ → Option ℕ → Bucket → Type 0
 ArePartsOf u n s c t b = (u ≡ Ok b.unit) × (n ≡ Ok b.namespace) × (s ≡ Some b.start) × (c ≡ Some b.count) × (t ≡ Some b.total)
 
-bucket_parts : (u n : Result (List ℕ) SkipReason) (s c t : Option ℕ) (b : Bucket) → bucket_of_parts u n s c t ≡ Ok b → ArePartsOf u n s c t b
+pub bucket_parts : (u n : Result (List ℕ) SkipReason) (s c t : Option ℕ) (b : Bucket) → bucket_of_parts u n s c t ≡ Ok b → ArePartsOf u n s c t b
 bucket_parts (Err r) n s c t b e = absurd cc
 bucket_parts (Ok u) (Err r) s c t b e = absurd cc
 bucket_parts (Ok u) (Ok n) None c t b e = absurd cc

@@ -13,3 +13,9 @@ pub mod Places
 pub mod Shallows
 pub mod Conditions
 pub mod FirstReason
+pub mod RecordSums
+pub mod Shorts
+pub mod Taken
+pub mod Searching
+pub mod SameKind
+pub mod Stated

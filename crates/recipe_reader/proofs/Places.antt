@@ -9,27 +9,10 @@ use Rattle.recipe_reader.specs.declared.recipe.Recipe.{Recipe}
 use Rattle.recipe_reader.specs.Records.{IsValid}
 use Rattle.recipe_reader.specs.Payloads.{slug_cmp, AreAbove, AreBelow, AreInOrder, AreValid, has_slug, recipe_with, with_recipe, IsPlace}
 
-above_trans : (a b : List ℕ) (rs : List Recipe) → slug_cmp a b ≡ Less → AreAbove b rs → AreAbove a rs
-above_trans a b [] h above = tt
-above_trans a b (r ∷ rs) h above = (nat_list_cmp_total.trans a b r.slug h above.0, above_trans a b rs h above.1)
-
-above_at : (a : List ℕ) (rs : List Recipe) (i : ℕ) (d : Recipe) → i < length rs → AreAbove a rs → slug_cmp a (get_or rs i d).slug ≡ Less
+pub above_at : (a : List ℕ) (rs : List Recipe) (i : ℕ) (d : Recipe) → i < length rs → AreAbove a rs → slug_cmp a (get_or rs i d).slug ≡ Less
 above_at a [] i d lt above = absurd (omega arith)
 above_at a (r ∷ rs) zero d lt above = above.0
 above_at a (r ∷ rs) (suc i) d lt above = above_at a rs i d (omega arith) above.1
-
--- those up to one that is below s are below s
-pub below_through : (s : List ℕ) (rs : List Recipe) (i : ℕ) (d : Recipe) → i < length rs → AreInOrder rs → slug_cmp (get_or rs i d).slug s ≡ Less → AreBelow s (take (suc i) rs)
-below_through s [] i d lt order h = absurd (omega arith)
-below_through s (r ∷ rs) zero d lt order h = (h, tt)
-below_through s (r ∷ rs) (suc i) d lt order h =
-    (nat_list_cmp_total.trans r.slug (get_or rs i d).slug s (above_at r.slug rs i d (omega arith) order.0) h, below_through s rs i d (omega arith) order.1 h)
-
--- those from one on that is above s are above s
-pub above_from : (s : List ℕ) (rs : List Recipe) (i : ℕ) (d : Recipe) → i < length rs → AreInOrder rs → slug_cmp s (get_or rs i d).slug ≡ Less → AreAbove s (drop i rs)
-above_from s [] i d lt order h = absurd (omega arith)
-above_from s (r ∷ rs) zero d lt order h = (h, above_trans s r.slug rs h order.0)
-above_from s (r ∷ rs) (suc i) d lt order h = above_from s rs i d (omega arith) order.1 h
 
 pub turned : (a b : List ℕ) → slug_cmp a b ≡ Greater → slug_cmp b a ≡ Less
 turned a b h = nat_list_cmp_total.antisymm b a ∙ ap ordering_reverse h

@@ -5,8 +5,12 @@ pub mod Parts
 pub mod Branches
 pub mod Records
 pub mod Payloads
+pub mod Kinds
 pub mod Shared
 pub mod Reasons
 pub mod Equal
 pub mod Equals
 pub mod Laws
+pub mod Lengths
+pub mod Taken
+pub mod Stated

@@ -8,7 +8,6 @@ ghost use Rattle.recipe_reader.specs.Shared.{shared_recipes};
 use crate::recipe::Recipe;
 use sequences::Sequence;
 use std::alloc::{AllocError, Global};
-use std::cmp::Ordering;
 use std::marker::Model;
 use std::rc::Rc;
 
@@ -174,22 +173,12 @@ fn put_in(list: &mut Rc<Sequence<Recipe>>, place: usize, recipe: Recipe) -> Resu
     recipes.insert(place, recipe)
 }
 
-/// Where the recipe with the slug is, or else where one belongs.
+/// Where the recipe with the slug is, or else where one belongs, by a binary search.
 fn place_of(recipes: &[Recipe], slug: &str) -> Result<usize, usize>
     requires { AreInOrder recipes.now }
     ensures found { IfOk result (λ i. recipe_with slug.now recipes.now ≡ slice_get recipes.now i) }
     ensures there { IfOk result (λ _. has_slug slug.now recipes.now ≡ true) }
     ensures absent { IfErr result (λ i. IsPlace slug.now recipes.now i) }
 {
-    let mut low = 0;
-    let mut high = recipes.len();
-    while low < high {
-        let middle = low + (high - low) / 2;
-        match recipes[middle].slug.text().cmp(slug) {
-            Ordering::Less => low = middle + 1,
-            Ordering::Equal => return Ok(middle),
-            Ordering::Greater => high = middle,
-        }
-    }
-    Err(low)
+    recipes.binary_search_by(|recipe| recipe.slug.text().cmp(slug))
 }

@@ -1,37 +1,17 @@
-use Rattle.std.proofs.Common.{◌≡◌, ◌+◌, ◌-◌, ◌/◌, Less, Equal, Greater, subst, arith, add-one}
-use Rattle.recipe_reader.specs.Payloads.{slug_cmp}
-use Rattle.recipe_reader.specs.declared.recipe.Recipe.{Recipe}
-use Rattle.recipe_reader.proofs.Places.{below_through, above_from, turned, has_at, with_at}
+use Rattle.std.proofs.Common.{rules}
+use Rattle.std.specs.List.Sorted.{IsBinarySearchResult}
+use Rattle.std.proofs.lemmas.Fn.{always_returns_same}
+use Rattle.recipe_reader.proofs.Searching.{slug_order, searched_found, searched_there, searched_absent}
 use Rattle.recipe_reader.proofs.recipes.place_of.Goals as goal
 
-pub loop-low-preserved-in-Less : goal.loop-low-preserved-in-Less
-loop-low-preserved-in-Less c =
-    let x = c.index-recipes-middle.result in
-    let middle = c.loop-low.low + (c.loop-low.high - c.loop-low.low) / 2 in
-    let here : slug_cmp x.slug c.args.slug.now ≡ Less = cc in
-    let there = subst (λ (r : Recipe). slug_cmp r.slug c.args.slug.now ≡ Less) c.index-recipes-middle.is here in
-    (omega arith, c.loop-low.invariant.1, rw add-one (below_through c.args.slug.now c.args.recipes.now middle x (omega arith) c.requires there), c.loop-low.invariant.3)
+pub returns-clause-found : goal.returns-clause-found
+returns-clause-found c =
+    searched_found c.args.slug.now c.args.recipes.now _ c.requires c.binary_search_by.ensures.bound (c.binary_search_by.ensures.position (slug_order c.args.slug.now) (always_returns_same _ _ _ (λ a r g called. search rules)))
 
-pub returns-in-Equal-clause-found : goal.returns-in-Equal-clause-found
-returns-in-Equal-clause-found c =
-    let x = c.index-recipes-middle.result in
-    let middle = c.loop-low.low + (c.loop-low.high - c.loop-low.low) / 2 in
-    let here : slug_cmp x.slug c.args.slug.now ≡ Equal = cc in
-    let there = subst (λ (r : Recipe). slug_cmp r.slug c.args.slug.now ≡ Equal) c.index-recipes-middle.is here in
-    with_at c.args.slug.now c.args.recipes.now middle x (omega arith) c.requires there
+pub returns-clause-there : goal.returns-clause-there
+returns-clause-there c =
+    searched_there c.args.slug.now c.args.recipes.now _ c.requires c.binary_search_by.ensures.bound (c.binary_search_by.ensures.position (slug_order c.args.slug.now) (always_returns_same _ _ _ (λ a r g called. search rules)))
 
-pub returns-in-Equal-clause-there : goal.returns-in-Equal-clause-there
-returns-in-Equal-clause-there c =
-    let x = c.index-recipes-middle.result in
-    let middle = c.loop-low.low + (c.loop-low.high - c.loop-low.low) / 2 in
-    let here : slug_cmp x.slug c.args.slug.now ≡ Equal = cc in
-    let there = subst (λ (r : Recipe). slug_cmp r.slug c.args.slug.now ≡ Equal) c.index-recipes-middle.is here in
-    has_at c.args.slug.now c.args.recipes.now middle x (omega arith) there
-
-pub loop-low-preserved : goal.loop-low-preserved
-loop-low-preserved c =
-    let x = c.index-recipes-middle.result in
-    let middle = c.loop-low.low + (c.loop-low.high - c.loop-low.low) / 2 in
-    let here : slug_cmp x.slug c.args.slug.now ≡ Greater = cc in
-    let there = subst (λ (r : Recipe). slug_cmp c.args.slug.now r.slug ≡ Less) c.index-recipes-middle.is (turned x.slug c.args.slug.now here) in
-    (omega arith, omega arith, c.loop-low.invariant.2, above_from c.args.slug.now c.args.recipes.now middle x (omega arith) c.requires there)
+pub returns-clause-absent : goal.returns-clause-absent
+returns-clause-absent c =
+    searched_absent c.args.slug.now c.args.recipes.now _ c.requires c.binary_search_by.ensures.bound (c.binary_search_by.ensures.position (slug_order c.args.slug.now) (always_returns_same _ _ _ (λ a r g called. search rules)))

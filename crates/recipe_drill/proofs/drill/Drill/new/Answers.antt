@@ -1,5 +1,5 @@
 -- The parts, and the room that the files have.
-use Rattle.std.proofs.Common.{◌≡◌, ◌≤◌, ℕ, List, length, arith, sym, subst}
+use Rattle.std.proofs.Common.{◌≡◌, ◌≤◌, ℕ, List, length, arith, sym, subst, ◌∙◌}
 use Rattle.recipe_drill.specs.Parts.{most_bytes}
 use Rattle.recipe_drill.proofs.FileRoom.{context-le, recipes-le}
 use Rattle.recipe_drill.proofs.ManifestRoom.{manifest-le}
@@ -7,10 +7,10 @@ use Rattle.recipe_drill.proofs.drill.Drill.new.Goals as goal
 
 pub returns-clause-drill : goal.returns-clause-drill
 returns-clause-drill c =
-    let script = c.in_ok-script.ensures in
-    let manifest = c.in_ok-manifest.ensures in
-    let context = c.in_ok-context.ensures in
-    let recipes = c.in_ok-recipes.ensures in
+    let script = c.from_vec.ensures ∙ c.in_ok-script.ensures in
+    let manifest = c.from_vec-2.ensures ∙ c.in_ok-manifest.ensures in
+    let context = c.from_vec-3.ensures ∙ c.in_ok-context.ensures in
+    let recipes = c.from_vec-4.ensures ∙ c.in_ok-recipes.ensures in
     λ k. record { id = c.in_ok-id.ensures k; script = script k; manifest = manifest k; context = context k; recipes = recipes k }
 
 -- what has a bounded list's length has its bound
@@ -19,7 +19,7 @@ within same short = subst (λ zs. length zs ≤ most_bytes) (sym same) short
 
 pub returns-clause-room : goal.returns-clause-room
 returns-clause-room c = record {
-  manifest = within c.in_ok-manifest.ensures manifest-le;
-  context = within c.in_ok-context.ensures context-le;
-  recipes = within c.in_ok-recipes.ensures (recipes-le c.args.start c.args.count (omega (arith, c.requires.at_least)) c.requires.at_most);
+  manifest = within (c.from_vec-2.ensures ∙ c.in_ok-manifest.ensures) manifest-le;
+  context = within (c.from_vec-3.ensures ∙ c.in_ok-context.ensures) context-le;
+  recipes = within (c.from_vec-4.ensures ∙ c.in_ok-recipes.ensures) (recipes-le c.args.start c.args.count (omega (arith, c.requires.at_least)) c.requires.at_most);
 }
