@@ -6,11 +6,11 @@ use Rattle.jexl_parser.specs.declared.node.BinarySign.{BinarySign}
 use Rattle.jexl_parser.specs.Tree as trees
 use Rattle.jexl_parser.specs.Tree.{Tree, Trees, Pairs, Member, Index, Filter, Transform, Not, Binary, Choose, OrElse}
 use Rattle.jexl_value.specs.Meaning.{is_truthy}
-use Rattle.jexl_value.specs.Value.{as_json}
-use Rattle.jexl_value.specs.declared.value.Value.{Value}
 use Rattle.jexl_eval.specs.declared.fault.EvalFault.{EvalFault}
 use Rattle.jexl_eval.specs.Faults.{Fault, ◌>>=◌}
 use Rattle.jexl_eval.specs.Gives.{Fails, Gives}
+use Rattle.jexl_eval.specs.Seen.{found_as_json}
+use Rattle.jexl_eval.specs.declared.found.Found.{Found}
 use Rattle.jexl_eval.specs.Elements.{member, index}
 use Rattle.jexl_eval.specs.Operations.{decided, operate, filter_items}
 use Rattle.jexl_eval.specs.Meaning.{meaning, meanings, pair_meanings, transformed, unless_decided, kept, with_members}
@@ -71,8 +71,8 @@ module _ (names : List (List ℕ)) (attributes : Members) (current : Json) where
   pub member_fail : (a : Tree) (name : List ℕ) (f : EvalFault) → Fails f (m a) → Fails f (m (Member a name))
   member_fail a name f h = fails_then f (m a) (λ x. Ok (member name x)) h
 
-  pub member_goes : (a : Tree) (name : List ℕ) (x : Json) (r : Result Value EvalFault) → m a ≡ Ok x → Gives as_json r (Ok (member name x)) → Gives as_json r (m (Member a name))
-  member_goes a name x r e h = goes (Gives as_json r) (m a) x (λ x. Ok (member name x)) e h
+  pub member_goes : (a : Tree) (name : List ℕ) (x : Json) (r : Result Found EvalFault) → m a ≡ Ok x → Gives found_as_json r (Ok (member name x)) → Gives found_as_json r (m (Member a name))
+  member_goes a name x r e h = goes (Gives found_as_json r) (m a) x (λ x. Ok (member name x)) e h
 
   pub index_fail : (a b : Tree) (f : EvalFault) → Fails f (m a) → Fails f (m (Index a b))
   index_fail a b f h = fails_then f (m a) (index_on b) h
@@ -80,8 +80,8 @@ module _ (names : List (List ℕ)) (attributes : Members) (current : Json) where
   pub key_fail : (a b : Tree) (x : Json) (f : EvalFault) → m a ≡ Ok x → Fails f (m b) → Fails f (m (Index a b))
   key_fail a b x f e h = goes (Fails f) (m a) x (index_on b) e (fails_then f (m b) (λ key. Ok (index x key)) h)
 
-  pub index_goes : (a b : Tree) (x y : Json) (r : Result Value EvalFault) → m a ≡ Ok x → m b ≡ Ok y → Gives as_json r (Ok (index x y)) → Gives as_json r (m (Index a b))
-  index_goes a b x y r e d h = goes (Gives as_json r) (m a) x (index_on b) e (goes (Gives as_json r) (m b) y (λ key. Ok (index x key)) d h)
+  pub index_goes : (a b : Tree) (x y : Json) (r : Result Found EvalFault) → m a ≡ Ok x → m b ≡ Ok y → Gives found_as_json r (Ok (index x y)) → Gives found_as_json r (m (Index a b))
+  index_goes a b x y r e d h = goes (Gives found_as_json r) (m a) x (index_on b) e (goes (Gives found_as_json r) (m b) y (λ key. Ok (index x key)) d h)
 
   pub filter_fail : (a b : Tree) (f : EvalFault) → Fails f (m a) → Fails f (m (Filter a b))
   filter_fail a b f h = fails_then f (m a) (filter_on b) h
@@ -101,9 +101,9 @@ module _ (names : List (List ℕ)) (attributes : Members) (current : Json) where
   pub arguments_fail : (a : Tree) (name : List ℕ) (ts : Trees) (x : Json) (f : EvalFault) → m a ≡ Ok x → Fails f (meanings names attributes current ts) → Fails f (m (Transform a name ts))
   arguments_fail a name ts x f e h = goes (Fails f) (m a) x (transform_on name ts) e (fails_then f (meanings names attributes current ts) (λ xs. transformed names name x xs) h)
 
-  pub transform_goes : (a : Tree) (name : List ℕ) (ts : Trees) (x : Json) (xs : List Json) (r : Result Value EvalFault) → m a ≡ Ok x → meanings names attributes current ts ≡ Ok xs
-      → Gives as_json r (transformed names name x xs) → Gives as_json r (m (Transform a name ts))
-  transform_goes a name ts x xs r e d h = goes (Gives as_json r) (m a) x (transform_on name ts) e (goes (Gives as_json r) (meanings names attributes current ts) xs (λ xs. transformed names name x xs) d h)
+  pub transform_goes : (a : Tree) (name : List ℕ) (ts : Trees) (x : Json) (xs : List Json) (r : Result Found EvalFault) → m a ≡ Ok x → meanings names attributes current ts ≡ Ok xs
+      → Gives found_as_json r (transformed names name x xs) → Gives found_as_json r (m (Transform a name ts))
+  transform_goes a name ts x xs r e d h = goes (Gives found_as_json r) (m a) x (transform_on name ts) e (goes (Gives found_as_json r) (meanings names attributes current ts) xs (λ xs. transformed names name x xs) d h)
 
   pub not_fail : (a : Tree) (f : EvalFault) → Fails f (m a) → Fails f (m (Not a))
   not_fail a f h = fails_then f (m a) (λ x. Ok (truth (not (is_truthy x)))) h
@@ -121,18 +121,18 @@ module _ (names : List (List ℕ)) (attributes : Members) (current : Json) where
   right_fail o a b x f e is h =
       goes (Fails f) (m a) x (binary_on o b) e (subst (λ d. Fails f (unless_decided d (m b >>= λ y. operate o x y))) (sym is) (fails_then f (m b) (λ y. operate o x y) h))
 
-  pub binary_goes : (o : BinarySign) (a b : Tree) (x y : Json) (r : Result Value EvalFault) → m a ≡ Ok x → decided o x ≡ None → m b ≡ Ok y → Gives as_json r (operate o x y) → Gives as_json r (m (Binary o a b))
+  pub binary_goes : (o : BinarySign) (a b : Tree) (x y : Json) (r : Result Found EvalFault) → m a ≡ Ok x → decided o x ≡ None → m b ≡ Ok y → Gives found_as_json r (operate o x y) → Gives found_as_json r (m (Binary o a b))
   binary_goes o a b x y r e is d h =
-      goes (Gives as_json r) (m a) x (binary_on o b) e (subst (λ d. Gives as_json r (unless_decided d (m b >>= λ y. operate o x y))) (sym is) (goes (Gives as_json r) (m b) y (λ y. operate o x y) d h))
+      goes (Gives found_as_json r) (m a) x (binary_on o b) e (subst (λ d. Gives found_as_json r (unless_decided d (m b >>= λ y. operate o x y))) (sym is) (goes (Gives found_as_json r) (m b) y (λ y. operate o x y) d h))
 
   pub condition_fail : (a b c : Tree) (f : EvalFault) → Fails f (m a) → Fails f (m (Choose a b c))
   condition_fail a b c f h = fails_then f (m a) (choose_on b c) h
 
-  pub choose_first : (a b c : Tree) (x : Json) (r : Result Value EvalFault) → m a ≡ Ok x → true ≡ is_truthy x → Gives as_json r (m b) → Gives as_json r (m (Choose a b c))
-  choose_first a b c x r e is h = goes (Gives as_json r) (m a) x (choose_on b c) e (subst (λ d. Gives as_json r (if d then m b else m c)) is h)
+  pub choose_first : (a b c : Tree) (x : Json) (r : Result Found EvalFault) → m a ≡ Ok x → true ≡ is_truthy x → Gives found_as_json r (m b) → Gives found_as_json r (m (Choose a b c))
+  choose_first a b c x r e is h = goes (Gives found_as_json r) (m a) x (choose_on b c) e (subst (λ d. Gives found_as_json r (if d then m b else m c)) is h)
 
-  pub choose_second : (a b c : Tree) (x : Json) (r : Result Value EvalFault) → m a ≡ Ok x → false ≡ is_truthy x → Gives as_json r (m c) → Gives as_json r (m (Choose a b c))
-  choose_second a b c x r e is h = goes (Gives as_json r) (m a) x (choose_on b c) e (subst (λ d. Gives as_json r (if d then m b else m c)) is h)
+  pub choose_second : (a b c : Tree) (x : Json) (r : Result Found EvalFault) → m a ≡ Ok x → false ≡ is_truthy x → Gives found_as_json r (m c) → Gives found_as_json r (m (Choose a b c))
+  choose_second a b c x r e is h = goes (Gives found_as_json r) (m a) x (choose_on b c) e (subst (λ d. Gives found_as_json r (if d then m b else m c)) is h)
 
   pub first_fail : (a c : Tree) (f : EvalFault) → Fails f (m a) → Fails f (m (OrElse a c))
   first_fail a c f h = fails_then f (m a) (or_else_on c) h
@@ -140,5 +140,5 @@ module _ (names : List (List ℕ)) (attributes : Members) (current : Json) where
   pub first_counts : (a c : Tree) (x : Json) → m a ≡ Ok x → true ≡ is_truthy x → m (OrElse a c) ≡ Ok x
   first_counts a c x e is = then_ok (m a) x (or_else_on c) e ∙ ap (λ d. if d then Ok x else m c) (sym is)
 
-  pub second_counts : (a c : Tree) (x : Json) (r : Result Value EvalFault) → m a ≡ Ok x → false ≡ is_truthy x → Gives as_json r (m c) → Gives as_json r (m (OrElse a c))
-  second_counts a c x r e is h = goes (Gives as_json r) (m a) x (or_else_on c) e (subst (λ d. Gives as_json r (if d then Ok x else m c)) is h)
+  pub second_counts : (a c : Tree) (x : Json) (r : Result Found EvalFault) → m a ≡ Ok x → false ≡ is_truthy x → Gives found_as_json r (m c) → Gives found_as_json r (m (OrElse a c))
+  second_counts a c x r e is h = goes (Gives found_as_json r) (m a) x (or_else_on c) e (subst (λ d. Gives found_as_json r (if d then Ok x else m c)) is h)

@@ -43,13 +43,14 @@ module _ (names : List (List ℕ)) (attributes : Members) (current : Json) where
   abbrev pub of_pairs : List (List ℕ × Node) → Result (List (List ℕ × Json)) Fault
   of_pairs ps = pair_meanings names attributes current (view_pairs ps)
 
-  pub nodes_begin : (ns : List Node) → of_nodes ns ≡ onto [] (of_nodes ns)
-  nodes_begin ns = onto_none (of_nodes ns)
+  pub nodes_begin : (ns : List Node) (xs : List Json) → xs ≡ [] → of_nodes ns ≡ onto xs (of_nodes ns)
+  nodes_begin ns xs e = onto_none (of_nodes ns) ∙ ap (λ ys. onto ys (of_nodes ns)) (sym e)
 
-  pub nodes_turn : (ns : List Node) (i : ℕ) (n : Node) (xs : List Json) (x : Json) → i < length ns → n ≡ get_or ns i n → meaning names attributes current (view n) ≡ Ok x
-      → onto xs (of_nodes (drop i ns)) ≡ onto (xs ++ x ∷ []) (of_nodes (drop (i + 1) ns))
-  nodes_turn ns i n xs x h is e =
+  pub nodes_turn : (ns : List Node) (i : ℕ) (n : Node) (xs new : List Json) (x : Json) → i < length ns → n ≡ get_or ns i n → meaning names attributes current (view n) ≡ Ok x → new ≡ xs ++ x ∷ []
+      → onto xs (of_nodes (drop i ns)) ≡ onto new (of_nodes (drop (i + 1) ns))
+  nodes_turn ns i n xs new x h is e pushed =
       ap (λ l. onto xs (of_nodes l)) (drop_next ns i n h is) ∙ ap (λ r. onto xs (r >>= λ y. of_nodes (drop (i + 1) ns) >>= λ ys. Ok (y ∷ ys))) e ∙ onto_more xs x (of_nodes (drop (i + 1) ns))
+      ∙ ap (λ ys. onto ys (of_nodes (drop (i + 1) ns))) (sym pushed)
 
   pub nodes_fail : (ns : List Node) (i : ℕ) (n : Node) (xs : List Json) (f : EvalFault) → i < length ns → n ≡ get_or ns i n → Fails f (meaning names attributes current (view n))
       → Fails f (onto xs (of_nodes (drop i ns)))
@@ -60,10 +61,14 @@ module _ (names : List (List ℕ)) (attributes : Members) (current : Json) where
   pub nodes_end : (ns : List Node) (i : ℕ) (xs : List Json) → length ns ≤ i → onto xs (of_nodes (drop i ns)) ≡ Ok xs
   nodes_end ns i xs h = ap (λ l. onto xs (of_nodes l)) (drop_all i ns h) ∙ ap Ok (append-nil xs)
 
-  pub pairs_turn : (ps : List (List ℕ × Node)) (i : ℕ) (p : List ℕ × Node) (so_far : List (List ℕ × Json)) (x : Json) → i < length ps → p ≡ get_or ps i p → meaning names attributes current (view p.1) ≡ Ok x
-      → into so_far (of_pairs (drop i ps)) ≡ into (with_member p.0 x so_far) (of_pairs (drop (i + 1) ps))
-  pairs_turn ps i p so_far x h is e =
+  pub pairs_begin : (ps : List (List ℕ × Node)) (ms : List (List ℕ × Json)) → ms ≡ [] → into [] (of_pairs ps) ≡ into ms (of_pairs ps)
+  pairs_begin ps ms e = ap (λ m. into m (of_pairs ps)) (sym e)
+
+  pub pairs_turn : (ps : List (List ℕ × Node)) (i : ℕ) (p : List ℕ × Node) (so_far new : List (List ℕ × Json)) (x : Json) → i < length ps → p ≡ get_or ps i p → meaning names attributes current (view p.1) ≡ Ok x
+      → new ≡ with_member p.0 x so_far → into so_far (of_pairs (drop i ps)) ≡ into new (of_pairs (drop (i + 1) ps))
+  pairs_turn ps i p so_far new x h is e put =
       ap (λ l. into so_far (of_pairs l)) (drop_next ps i p h is) ∙ ap (λ r. into so_far (r >>= λ y. of_pairs (drop (i + 1) ps) >>= λ ms. Ok ((p.0, y) ∷ ms))) e ∙ into_more so_far (p.0, x) (of_pairs (drop (i + 1) ps))
+      ∙ ap (λ ms. into ms (of_pairs (drop (i + 1) ps))) (sym put)
 
   pub pairs_fail : (ps : List (List ℕ × Node)) (i : ℕ) (p : List ℕ × Node) (so_far : List (List ℕ × Json)) (f : EvalFault) → i < length ps → p ≡ get_or ps i p → Fails f (meaning names attributes current (view p.1))
       → Fails f (into so_far (of_pairs (drop i ps)))
@@ -78,24 +83,28 @@ module _ (names : List (List ℕ)) (attributes : Members) (current : Json) where
 abbrev pub kept_of : (Json → Result Json Fault) → List Value → Result (List Json) Fault
 kept_of condition vs = kept condition (items_of (map as_json vs))
 
-pub kept_begin : (condition : Json → Result Json Fault) (vs : List Value) → kept_of condition vs ≡ onto [] (kept_of condition vs)
-kept_begin condition vs = onto_none (kept_of condition vs)
-
 onto_if : (b : Bool) (ks : List Json) (x : Json) (r : Result (List Json) Fault) → onto ks (r >>= λ ys. Ok (if b then x ∷ ys else ys)) ≡ onto (if b then ks ++ x ∷ [] else ks) r
 onto_if true ks x r = onto_more ks x r
 onto_if false ks x (Ok ys) = refl
 onto_if false ks x (Err f) = refl
 
-pub kept_turn : (condition : Json → Result Json Fault) (vs ws : List Value) (v : Value) (ks new : List Json) (t : Json) → vs ≡ v ∷ ws → condition (as_json v) ≡ Ok t → new ≡ (if is_truthy t then ks ++ as_json v ∷ [] else ks)
-    → onto ks (kept_of condition vs) ≡ onto new (kept_of condition ws)
-kept_turn condition vs ws v ks new t steps e is =
-    ap (λ l. onto ks (kept_of condition l)) steps ∙ ap (λ r. onto ks (r >>= λ y. kept_of condition ws >>= λ ys. Ok (if is_truthy y then as_json v ∷ ys else ys))) e
-    ∙ onto_if (is_truthy t) ks (as_json v) (kept_of condition ws) ∙ ap (λ l. onto l (kept_of condition ws)) (sym is)
+-- by the place in the list
+module _ (condition : Json → Result Json Fault) (vs : List Value) where
+  pub kept_begin : (ks : List Json) → ks ≡ [] → kept_of condition vs ≡ onto ks (kept_of condition vs)
+  kept_begin ks e = onto_none (kept_of condition vs) ∙ ap (λ l. onto l (kept_of condition vs)) (sym e)
 
-pub kept_fail : (condition : Json → Result Json Fault) (vs ws : List Value) (v : Value) (ks : List Json) (f : EvalFault) → vs ≡ v ∷ ws → Fails f (condition (as_json v)) → Fails f (onto ks (kept_of condition vs))
-kept_fail condition vs ws v ks f steps e =
-    subst (λ l. Fails f (onto ks (kept_of condition l))) (sym steps)
-    (fails_then f (kept_of condition (v ∷ ws)) (λ ys. Ok (ks ++ ys)) (fails_then f (condition (as_json v)) (λ y. kept_of condition ws >>= λ ys. Ok (if is_truthy y then as_json v ∷ ys else ys)) e))
+  pub kept_turn : (i : ℕ) (v : Value) (ks new : List Json) (t : Json) → i < length vs → v ≡ get_or vs i v → condition (as_json v) ≡ Ok t → new ≡ (if is_truthy t then ks ++ as_json v ∷ [] else ks)
+      → onto ks (kept_of condition (drop i vs)) ≡ onto new (kept_of condition (drop (i + 1) vs))
+  kept_turn i v ks new t h is e kept =
+      let ws = drop (i + 1) vs in
+      ap (λ l. onto ks (kept_of condition l)) (drop_next vs i v h is) ∙ ap (λ r. onto ks (r >>= λ y. kept_of condition ws >>= λ ys. Ok (if is_truthy y then as_json v ∷ ys else ys))) e
+      ∙ onto_if (is_truthy t) ks (as_json v) (kept_of condition ws) ∙ ap (λ l. onto l (kept_of condition ws)) (sym kept)
 
-pub kept_end : (condition : Json → Result Json Fault) (vs : List Value) (ks : List Json) → vs ≡ [] → onto ks (kept_of condition vs) ≡ Ok ks
-kept_end condition vs ks none = ap (λ l. onto ks (kept_of condition l)) none ∙ ap Ok (append-nil ks)
+  pub kept_fail : (i : ℕ) (v : Value) (ks : List Json) (f : EvalFault) → i < length vs → v ≡ get_or vs i v → Fails f (condition (as_json v)) → Fails f (onto ks (kept_of condition (drop i vs)))
+  kept_fail i v ks f h is e =
+      let ws = drop (i + 1) vs in
+      subst (λ l. Fails f (onto ks (kept_of condition l))) (sym (drop_next vs i v h is))
+      (fails_then f (kept_of condition (v ∷ ws)) (λ ys. Ok (ks ++ ys)) (fails_then f (condition (as_json v)) (λ y. kept_of condition ws >>= λ ys. Ok (if is_truthy y then as_json v ∷ ys else ys)) e))
+
+  pub kept_end : (i : ℕ) (ks : List Json) → length vs ≤ i → onto ks (kept_of condition (drop i vs)) ≡ Ok ks
+  kept_end i ks h = ap (λ l. onto ks (kept_of condition l)) (drop_all i vs h) ∙ ap Ok (append-nil ks)

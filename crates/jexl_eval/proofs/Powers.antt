@@ -4,7 +4,7 @@ use Rattle.std.proofs.lemmas.Bool.{le-ltb}
 use Rattle.std.proofs.Math.Nat.{pow-le-pow_left, pow-le-pow_right}
 use Rattle.std.specs.Int.{int_pow}
 use Rattle.jexl_eval.specs.Faults.{Overflow}
-use Rattle.jexl_eval.specs.Numbers.{fits, in_range}
+use Rattle.jexl_eval.specs.Numbers.{in_range}
 
 pub one_pow : (e : ℕ) → 1 ^ e ≡ 1
 one_pow zero = refl

@@ -6,7 +6,7 @@ use Rattle.std.proofs.lemmas.Nat.{div-mul-add, div-add-mod'}
 use Rattle.std.proofs.Math.Nat.{div-le_self, div-eq_of_eq-mul_left, suc-mod, mod-eq_of_lt, mod-lt, mod_self}
 use mathlib.Core.Bool.{beq, not}
 use Rattle.std.specs.Prelude.{int_div, int_rem, int_lt}
-use Rattle.jexl_eval.specs.Numbers.{fits, in_range, floor_quotient}
+use Rattle.jexl_eval.specs.Numbers.{in_range, floor_quotient}
 
 -- where the number after a is a multiple of d, and where it isn't
 whole_div : (a d q r : ℕ) → q * d + r ≡ a → suc r ≡ d → suc a / d ≡ suc q

@@ -4,3 +4,4 @@ pub mod Elements
 pub mod Operations
 pub mod Meaning
 pub mod Gives
+pub mod Seen

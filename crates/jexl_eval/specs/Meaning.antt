@@ -69,3 +69,12 @@ abbrev mutual
   pub pair_meanings : List (List ℕ) → Members → Json → Pairs → Result (List (List ℕ × Json)) Fault
   pair_meanings names attributes current no_pair = Ok []
   pair_meanings names attributes current (pair name t ps) = meaning names attributes current t >>= λ x. pair_meanings names attributes current ps >>= λ ms. Ok ((name, x) ∷ ms)
+
+-- the truth value that a value is; values of other kinds are none
+abbrev pub truth_of : Json → Option Bool
+truth_of (truth b) = Some b
+truth_of x = None
+
+-- the truth value that is meant, or the fault in its place
+abbrev pub truth_meant : Result Json Fault → Result (Option Bool) Fault
+truth_meant meant = meant >>= λ x. Ok (truth_of x)

@@ -7,7 +7,7 @@ ghost use Rattle.jexl_eval.specs.Numbers.{sum, difference, product, quotient, re
 use crate::fault::EvalFault;
 
 /// `left + right`. Overflow exactly where it doesn't fit.
-pub fn sum(left: i64, right: i64) -> Result<i64, EvalFault>
+pub(crate) fn sum(left: i64, right: i64) -> Result<i64, EvalFault>
     ensures { Gives (λ n. n) result (sum left right) }
 {
     match left.checked_add(right) {
@@ -17,7 +17,7 @@ pub fn sum(left: i64, right: i64) -> Result<i64, EvalFault>
 }
 
 /// `left - right`. Overflow exactly where it doesn't fit.
-pub fn difference(left: i64, right: i64) -> Result<i64, EvalFault>
+pub(crate) fn difference(left: i64, right: i64) -> Result<i64, EvalFault>
     ensures { Gives (λ n. n) result (difference left right) }
 {
     match left.checked_sub(right) {
@@ -27,7 +27,7 @@ pub fn difference(left: i64, right: i64) -> Result<i64, EvalFault>
 }
 
 /// `left * right`. Overflow exactly where it doesn't fit.
-pub fn product(left: i64, right: i64) -> Result<i64, EvalFault>
+pub(crate) fn product(left: i64, right: i64) -> Result<i64, EvalFault>
     ensures { Gives (λ n. n) result (product left right) }
 {
     match left.checked_mul(right) {
@@ -38,7 +38,7 @@ pub fn product(left: i64, right: i64) -> Result<i64, EvalFault>
 
 /// `left / right`, rounded down. ZeroDivisor exactly where the right side is 0, and Overflow exactly
 /// where the quotient doesn't fit.
-pub fn quotient(left: i64, right: i64) -> Result<i64, EvalFault>
+pub(crate) fn quotient(left: i64, right: i64) -> Result<i64, EvalFault>
     ensures { Gives (λ n. n) result (quotient left right) }
 {
     if right == 0 {
@@ -66,7 +66,7 @@ fn floored(left: i64, right: i64) -> Result<i64, EvalFault>
 
 /// What is left of `left` after the division by `right`, with the sign of `left`. ZeroDivisor exactly
 /// where the right side is 0.
-pub fn remainder(left: i64, right: i64) -> Result<i64, EvalFault>
+pub(crate) fn remainder(left: i64, right: i64) -> Result<i64, EvalFault>
     ensures { Gives (λ n. n) result (remainder left right) }
 {
     if right == 0 {
@@ -78,7 +78,7 @@ pub fn remainder(left: i64, right: i64) -> Result<i64, EvalFault>
 
 /// `base` to the power `exponent`. Kind exactly where the exponent is below 0, and Overflow exactly
 /// where the power doesn't fit.
-pub fn power(base: i64, exponent: i64) -> Result<i64, EvalFault>
+pub(crate) fn power(base: i64, exponent: i64) -> Result<i64, EvalFault>
     ensures { Gives (λ n. n) result (power base exponent) }
 {
     if exponent < 0 {

@@ -3,50 +3,73 @@ ghost use Rattle.std.specs.Prelude.{◌≡◌, Ok, option_map};
 ghost use Rattle.json_tree.specs.Json.{list, whole, items_of};
 ghost use Rattle.jexl_value.specs.Value.{as_json};
 ghost use Rattle.jexl_eval.specs.Gives.{Gives};
+ghost use Rattle.jexl_eval.specs.Seen.{found_as_json};
 ghost use Rattle.jexl_eval.specs.Elements.{or_null, member, index, item_at, is_item, is_inside, occurs};
 
 use crate::fault::EvalFault;
+use crate::found::Found;
 use jexl_value::{Value, Values, same};
 use memchr::memmem;
 
-/// A copy of the value that was found, or null.
-pub fn copy_or_null(found: Option<&Value>) -> Result<Value, EvalFault>
-    ensures { Gives as_json result (Ok (or_null (option_map (λ x. as_json x.now) found.entry))) }
+/// The value that was found, or null. It takes no memory.
+pub(crate) fn value_or_null(found: Option<&Value>) -> Found<'_>
+    ensures { found_as_json result ≡ or_null (option_map (λ x. as_json x.now) found.entry) }
 {
     match found {
-        Some(value) => Ok(value.clone()?),
-        None => Ok(Value::Null),
+        Some(value) => Found::Borrowed(value),
+        None => Found::Owned(Value::Null),
     }
 }
 
-/// The object's member of this name; null where there is none, and for every other kind.
-pub fn member(value: &Value, name: &str) -> Result<Value, EvalFault>
-    ensures { Gives as_json result (Ok (member name.now (as_json value.now))) }
+/// The object's member of this name; null where there is none, and for every other kind. It takes no
+/// memory.
+pub(crate) fn member_of<'a>(value: &'a Value, name: &str) -> Found<'a>
+    ensures { found_as_json result ≡ member name.now (as_json value.now) }
 {
     match value {
-        Value::Object(members) => copy_or_null(members.get(name)),
-        _ => Ok(Value::Null),
+        Value::Object(members) => value_or_null(members.get(name)),
+        _ => Found::Owned(Value::Null),
     }
 }
 
-/// An object's member by a text, a list's item by its place from 0, else null.
-pub fn index(value: &Value, key: &Value) -> Result<Value, EvalFault>
-    ensures { Gives as_json result (Ok (index (as_json value.now) (as_json key.now))) }
+/// The member of what was found, which is copied where it was built.
+pub(crate) fn member<'a>(found: Found<'a>, name: &str) -> Result<Found<'a>, EvalFault>
+    ensures { Gives found_as_json result (Ok (member name.now (found_as_json found.entry))) }
+{
+    match found {
+        Found::Borrowed(value) => Ok(member_of(value, name)),
+        Found::Owned(value) => Ok(Found::Owned(member_of(&value, name).into_value()?)),
+    }
+}
+
+/// An object's member by a text, a list's item by its place from 0, else null. It takes no memory.
+fn part_at<'a>(value: &'a Value, key: &Value) -> Found<'a>
+    ensures { found_as_json result ≡ index (as_json value.now) (as_json key.now) }
 {
     match (value, key) {
-        (Value::Object(members), Value::Text(name)) => copy_or_null(members.get(name.as_str())),
+        (Value::Object(members), Value::Text(name)) => value_or_null(members.get(name.as_str())),
         (Value::List(items), Value::Whole(place)) => item(items, *place),
-        _ => Ok(Value::Null),
+        _ => Found::Owned(Value::Null),
     }
 }
 
-fn item(items: &Values, place: i64) -> Result<Value, EvalFault>
-    ensures { Gives as_json result (Ok (index (list (items_of items.now)) (whole place))) }
+/// The part of what was found at a key, which is copied where it was built.
+pub(crate) fn index<'a>(found: Found<'a>, key: &Value) -> Result<Found<'a>, EvalFault>
+    ensures { Gives found_as_json result (Ok (index (found_as_json found.entry) (as_json key.now))) }
+{
+    match found {
+        Found::Borrowed(value) => Ok(part_at(value, key)),
+        Found::Owned(value) => Ok(Found::Owned(part_at(&value, key).into_value()?)),
+    }
+}
+
+fn item(items: &Values, place: i64) -> Found<'_>
+    ensures { found_as_json result ≡ index (list (items_of items.now)) (whole place) }
 {
     if place < 0 {
-        Ok(Value::Null)
+        Found::Owned(Value::Null)
     } else {
-        copy_or_null(item_at(items, place as usize))
+        value_or_null(item_at(items, place as usize))
     }
 }
 
@@ -59,7 +82,7 @@ fn item_at(items: &Values, place: usize) -> Option<&Value>
 
 /// Whether the left value is an item of the list, a part of the text or a name of the object that the
 /// right one is. It takes no memory.
-pub fn inside(left: &Value, right: &Value) -> bool
+pub(crate) fn inside(left: &Value, right: &Value) -> bool
     ensures { result ≡ is_inside (as_json left.now) (as_json right.now) }
 {
     match (left, right) {

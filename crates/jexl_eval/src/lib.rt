@@ -1,14 +1,16 @@
 //! The meaning of Jexl expressions: the value of a tree, for attributes and a table of transforms.
 //!
 //! `eval` gives the value that `specs/Meaning.antt` defines, or the first fault from the left.
+//! `eval_truth` says which truth value it is, if it is one, and copies nothing for that.
 #![tactic(auto)]
 
 mod arithmetic;
 mod elements;
 mod evaluation;
 mod fault;
+mod found;
 mod operations;
 mod transforms;
 
-pub use evaluation::eval;
+pub use evaluation::{eval, eval_truth};
 pub use fault::EvalFault;

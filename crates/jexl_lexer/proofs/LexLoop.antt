@@ -5,7 +5,7 @@ use Rattle.jexl_lexer.specs.declared.token.TokenKind.{TokenKind}
 use Rattle.jexl_lexer.specs.declared.fault.LexFault.{LexFault}
 use Rattle.jexl_lexer.specs.declared.fault.LexFault.TheVariants as faults
 use Rattle.jexl_lexer.specs.Lexing.{is_blank, Stops, Begins, Fault, FaultAt, BadChar, OpenText, BigNumber, Decimal, TooManyTokens, Lexes, done, skip, next, Faults, skip_on, next_on, too_many, here}
-use Rattle.jexl_lexer.specs.Scanning.{with_byte, run}
+use Rattle.sequences.specs.Runs.{prepend, run}
 use Rattle.jexl_lexer.specs.Reading.{TokenRead, token_of}
 use Rattle.jexl_lexer.specs.Answering.{FaultsAs, FailsAs}
 use Rattle.jexl_lexer.proofs.Soundness.{Tells, tells, shrinks}
@@ -39,7 +39,7 @@ past_blank bytes rest b so_far e r =
       shorter = omega (arith, s);
     }
 
-blanks_by : (bytes rest : List ℕ) (b : ℕ) (so_far : List Token) (t : Bool) → is_blank b ≡ t → Reaches bytes (b ∷ rest) so_far → (Reaches bytes rest so_far → Reaches bytes (run is_blank rest).1 so_far) → Reaches bytes (cond t (with_byte b (run is_blank rest)) ([], b ∷ rest)).1 so_far
+blanks_by : (bytes rest : List ℕ) (b : ℕ) (so_far : List Token) (t : Bool) → is_blank b ≡ t → Reaches bytes (b ∷ rest) so_far → (Reaches bytes rest so_far → Reaches bytes (run is_blank rest).1 so_far) → Reaches bytes (cond t (prepend b (run is_blank rest)) ([], b ∷ rest)).1 so_far
 blanks_by bytes rest b so_far true e r h = h (past_blank bytes rest b so_far e r)
 blanks_by bytes rest b so_far false e r h = r
 

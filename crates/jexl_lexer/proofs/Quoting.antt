@@ -5,7 +5,8 @@ use Rattle.std.proofs.lemmas.Bool.{eqb-true, eq-eqb, ltb-true, ltb-false}
 use Rattle.std.proofs.lemmas.Str.{encode_ascii, inside_one}
 use Rattle.jexl_lexer.proofs.Bytes.{char_long}
 use Rattle.jexl_lexer.specs.Scanning.{with_bytes}
-use Rattle.jexl_lexer.specs.Scanning.{with_byte, inside}
+use Rattle.sequences.specs.Runs.{prepend}
+use Rattle.jexl_lexer.specs.Scanning.{inside}
 
 -- each byte is at least 128
 abbrev pub AllPastAscii : List ℕ → Type 0
@@ -37,7 +38,7 @@ map_none : (o : Found) → option_map (with_bytes []) o ≡ o
 map_none None = refl
 map_none (Some x) = refl
 
-map_one : (c : ℕ) (w : List ℕ) (o : Found) → option_map (with_byte c) (option_map (with_bytes w) o) ≡ option_map (with_bytes (c ∷ w)) o
+map_one : (c : ℕ) (w : List ℕ) (o : Found) → option_map (prepend c) (option_map (with_bytes w) o) ≡ option_map (with_bytes (c ∷ w)) o
 map_one c w None = refl
 map_one c w (Some x) = refl
 
@@ -52,26 +53,26 @@ high : (q : ℕ) → 92 ≡ q → q < 92 → ⊥
 high q e l = omega arith
 
 -- a byte that is neither
-one_plain : (q c : ℕ) (cs : List ℕ) → (c ≡ q → ⊥) → (c ≡ 92 → ⊥) → inside q false (c ∷ cs) ≡ option_map (with_byte c) (inside q false cs)
+one_plain : (q c : ℕ) (cs : List ℕ) → (c ≡ q → ⊥) → (c ≡ 92 → ⊥) → inside q false (c ∷ cs) ≡ option_map (prepend c) (inside q false cs)
 unfolding inside
 one_plain q c cs n m =
-    ap (λ (t : Bool). cond t (Some ([], cs)) (cond (c == 92) (inside q true cs) (option_map (with_byte c) (inside q false cs)))) (not_eq c q n (c == q) refl)
-    ∙ ap (λ (t : Bool). cond t (inside q true cs) (option_map (with_byte c) (inside q false cs))) (not_eq c 92 m (c == 92) refl)
+    ap (λ (t : Bool). cond t (Some ([], cs)) (cond (c == 92) (inside q true cs) (option_map (prepend c) (inside q false cs)))) (not_eq c q n (c == q) refl)
+    ∙ ap (λ (t : Bool). cond t (inside q true cs) (option_map (prepend c) (inside q false cs))) (not_eq c 92 m (c == 92) refl)
 
 big_plain : (q : ℕ) (xs rest : List ℕ) → q < 92 → AllPastAscii xs → inside q false (xs ++ rest) ≡ option_map (with_bytes xs) (inside q false rest)
 big_plain q [] rest l h = sym (map_none (inside q false rest))
 big_plain q (x ∷ xs) rest l h =
     one_plain q x (xs ++ rest) (λ e. big_not x q h.0 (omega arith) e) (λ e. big_not x 92 h.0 (omega arith) e)
-    ∙ ap (option_map (with_byte x)) (big_plain q xs rest l h.1)
+    ∙ ap (option_map (prepend x)) (big_plain q xs rest l h.1)
     ∙ map_one x xs (inside q false rest)
 
-one_escaped : (q c : ℕ) (cs : List ℕ) → inside q true (c ∷ cs) ≡ option_map (with_byte c) (inside q false cs)
+one_escaped : (q c : ℕ) (cs : List ℕ) → inside q true (c ∷ cs) ≡ option_map (prepend c) (inside q false cs)
 unfolding inside
 one_escaped q c cs = refl
 
 big_escaped : (q : ℕ) (xs rest : List ℕ) → 1 ≤ length xs → q < 92 → AllPastAscii xs → inside q true (xs ++ rest) ≡ option_map (with_bytes xs) (inside q false rest)
 big_escaped q [] rest s l h = absurd (omega arith)
-big_escaped q (x ∷ xs) rest s l h = one_escaped q x (xs ++ rest) ∙ ap (option_map (with_byte x)) (big_plain q xs rest l h.1) ∙ map_one x xs (inside q false rest)
+big_escaped q (x ∷ xs) rest s l h = one_escaped q x (xs ++ rest) ∙ ap (option_map (prepend x)) (big_plain q xs rest l h.1) ∙ map_one x xs (inside q false rest)
 
 ascii_plain : (q c : ℕ) (rest : List ℕ) → c < 128 → (c ≡ q → ⊥) → (c ≡ 92 → ⊥) → inside q false (encode_utf8 c ++ rest) ≡ option_map (with_bytes (encode_utf8 c)) (inside q false rest)
 ascii_plain q c rest l n m =
@@ -99,7 +100,7 @@ unfolding inside
 inside_close q c bs rest l e f =
     let s : encode_utf8 c ≡ c ∷ [] = encode_ascii c (omega arith) in
     ap (inside q false) (e ∙ ap (λ (w : List ℕ). w ++ rest) s)
-    ∙ ap (λ (t : Bool). cond t (Some ([], rest)) (cond (c == 92) (inside q true rest) (option_map (with_byte c) (inside q false rest)))) (eq-eqb c q f)
+    ∙ ap (λ (t : Bool). cond t (Some ([], rest)) (cond (c == 92) (inside q true rest) (option_map (prepend c) (inside q false rest)))) (eq-eqb c q f)
 
 pub inside_plain : (q c : ℕ) (bs rest : List ℕ) → q < 92 → bs ≡ encode_utf8 c ++ rest → (c ≡ q → ⊥) → (c ≡ 92 → ⊥) → inside q false bs ≡ option_map (with_bytes (encode_utf8 c)) (inside q false rest)
 inside_plain q c bs rest l e n m = ap (inside q false) e ∙ plain_by q c rest (nat_lt c 128) refl l n m

@@ -4,8 +4,8 @@ use Rattle.std.proofs.lemmas.Bool.Decides.{nat_tests}
 use Rattle.std.specs.Prelude.{nat_lt}
 use Rattle.std.proofs.lemmas.Bool.{ltb-false, lt-ltb, le-ltb}
 use Rattle.jexl_lexer.specs.Scanning.{NoAsciiFront, with_bytes, capped}
-use Rattle.jexl_lexer.specs.Lexing.{is_blank, is_digit, is_word, value_from}
-use Rattle.jexl_lexer.specs.Scanning.{run, with_byte}
+use Rattle.sequences.specs.Runs.{prepend, run, value_from}
+use Rattle.jexl_lexer.specs.Lexing.{is_blank, is_digit, is_word}
 
 big_no_digit : (b : ℕ) → 128 ≤ b → is_digit b ≡ false
 big_no_digit b h = grind (arith, nat_tests)
@@ -13,13 +13,13 @@ big_no_digit b h = grind (arith, nat_tests)
 big_no_word : (b : ℕ) → 128 ≤ b → is_word b ≡ false
 big_no_word b h = grind (arith, nat_tests)
 
-pub run_on : (p : ℕ → Bool) (b : ℕ) (bs rest : List ℕ) → bs ≡ b ∷ rest → p b ≡ true → run p bs ≡ with_byte b (run p rest)
+pub run_on : (p : ℕ → Bool) (b : ℕ) (bs rest : List ℕ) → bs ≡ b ∷ rest → p b ≡ true → run p bs ≡ prepend b (run p rest)
 unfolding run
-run_on p b bs rest e t = ap (run p) e ∙ ap (λ (s : Bool). cond s (with_byte b (run p rest)) ([], b ∷ rest)) t
+run_on p b bs rest e t = ap (run p) e ∙ ap (λ (s : Bool). cond s (prepend b (run p rest)) ([], b ∷ rest)) t
 
 run_stop_at : (p : ℕ → Bool) (b : ℕ) (rest : List ℕ) → p b ≡ false → run p (b ∷ rest) ≡ ([], b ∷ rest)
 unfolding run
-run_stop_at p b rest t = ap (λ (s : Bool). cond s (with_byte b (run p rest)) ([], b ∷ rest)) t
+run_stop_at p b rest t = ap (λ (s : Bool). cond s (prepend b (run p rest)) ([], b ∷ rest)) t
 
 pub run_stop : (p : ℕ → Bool) (b : ℕ) (bs rest : List ℕ) → bs ≡ b ∷ rest → p b ≡ false → run p bs ≡ ([], bs)
 run_stop p b bs rest e t = subst (λ (w : List ℕ). run p w ≡ ([], w)) (sym e) (run_stop_at p b rest t)
@@ -34,7 +34,7 @@ unfolding run
 run_digit_big [] h = refl
 run_digit_big (b ∷ bs) h = run_stop_at is_digit b bs (big_no_digit b h)
 
-pub before_step : (w : List ℕ) (b : ℕ) (x : List ℕ × List ℕ) → with_bytes (w ++ (b ∷ [])) x ≡ with_bytes w (with_byte b x)
+pub before_step : (w : List ℕ) (b : ℕ) (x : List ℕ × List ℕ) → with_bytes (w ++ (b ∷ [])) x ≡ with_bytes w (prepend b x)
 before_step w b x = ap (λ (y : List ℕ). (y, x.1)) (append_assoc w (b ∷ []) x.0)
 
 pub before_none : (w bs : List ℕ) → with_bytes w ([], bs) ≡ (w, bs)
@@ -64,7 +64,7 @@ capped_by n ds false e =
     capped_high (value_from (2 ^ 63) ds) (grows (2 ^ 63) ds) ∙ sym (capped_high (value_from n ds) (omega (arith, l, g)))
 
 -- a digit more
-pub capped_step : (v w b : ℕ) (x y : List ℕ × List ℕ) → x ≡ with_byte b y → w ≡ capped (10 * v + (b - 48)) → capped (value_from v x.0) ≡ capped (value_from w y.0)
+pub capped_step : (v w b : ℕ) (x y : List ℕ × List ℕ) → x ≡ prepend b y → w ≡ capped (10 * v + (b - 48)) → capped (value_from v x.0) ≡ capped (value_from w y.0)
 capped_step v w b x y e f =
     ap (λ (z : List ℕ × List ℕ). capped (value_from v z.0)) e
     ∙ sym (capped_by (10 * v + (b - 48)) y.0 (nat_lt (10 * v + (b - 48)) (2 ^ 63)) refl)

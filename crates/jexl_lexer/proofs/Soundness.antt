@@ -6,8 +6,9 @@ use Rattle.jexl_lexer.specs.declared.token.Sign.{Sign}
 use Rattle.jexl_lexer.specs.declared.token.Sign.TheVariants.{And, Or, Equal, NotEqual, AtMost, AtLeast, FloorDiv, Less, Greater, Plus, Minus, Star, Percent, Caret, Bang, Question, Colon, Dot, Comma, LeftRound, RightRound, LeftSquare, RightSquare, LeftBrace, RightBrace, Bar}
 use Rattle.jexl_lexer.specs.declared.token.TokenKind.{TokenKind}
 use Rattle.jexl_lexer.specs.declared.token.TokenKind.TheVariants as kinds
-use Rattle.jexl_lexer.specs.Lexing.{is_blank, is_digit, is_start, is_word, is_quote, AllPass, Stops, IsDecimal, value_from, sign_text, IsLongest, Begins, number, name, quoted, sign, TooManyTokens, FaultAt, decimal as decimal_fault, big_number, open_text, bad_char, Lexes, done, skip, next, Faults, skip_on, next_on, too_many, here}
-use Rattle.jexl_lexer.specs.Scanning.{run, inside, first_sign, all_signs}
+use Rattle.sequences.specs.Runs.{run, value_from}
+use Rattle.jexl_lexer.specs.Lexing.{is_blank, is_digit, is_start, is_word, is_quote, AllPass, Stops, IsDecimal, sign_text, IsLongest, Begins, number, name, quoted, sign, TooManyTokens, FaultAt, decimal as decimal_fault, big_number, open_text, bad_char, Lexes, done, skip, next, Faults, skip_on, next_on, too_many, here}
+use Rattle.jexl_lexer.specs.Scanning.{inside, first_sign, all_signs}
 use Rattle.jexl_lexer.specs.Reading.{TokenRead, decimal, value_part, number_part, quote_part, sign_part, other_part, name_part, token_part, token_at, AllRead, in_front, end_of, after_token, room_part, blank_part, lex_from}
 use Rattle.jexl_lexer.proofs.Scans.{run_is, Closed, inside_is}
 use Rattle.jexl_lexer.proofs.LongestSign.{Told, sign_told}

@@ -8,8 +8,9 @@ use Rattle.jexl_lexer.specs.declared.token.Sign.TheVariants as signs
 use Rattle.jexl_lexer.specs.declared.token.TokenKind.{TokenKind}
 use Rattle.jexl_lexer.specs.declared.token.TokenKind.TheVariants as kinds
 use Rattle.jexl_lexer.specs.declared.fault.LexFault.{LexFault}
-use Rattle.jexl_lexer.specs.Lexing.{is_digit, is_start, is_word, is_quote, value_from, NoSign, BadChar, OpenText, BigNumber, Decimal, bad_char}
-use Rattle.jexl_lexer.specs.Scanning.{with_byte, run, inside, first_sign, all_signs}
+use Rattle.sequences.specs.Runs.{prepend, run, value_from}
+use Rattle.jexl_lexer.specs.Lexing.{is_digit, is_start, is_word, is_quote, NoSign, BadChar, OpenText, BigNumber, Decimal, bad_char}
+use Rattle.jexl_lexer.specs.Scanning.{inside, first_sign, all_signs}
 use Rattle.jexl_lexer.specs.Reading.{TokenRead, decimal, value_part, number_part, quote_part, sign_part, other_part, name_part, token_part, token_at, token_of}
 use Rattle.jexl_lexer.specs.Scanning.{NoAsciiFront, capped}
 use Rattle.jexl_lexer.specs.Answering.{Gives}
@@ -87,7 +88,7 @@ module _ (b : ℕ) (text rest : List ℕ) (v : ℕ) (er : rest ≡ (run is_digit
       let n = value_from 0 (b ∷ (run is_digit text).0) in
       whole_part e ∙ ap (value_part n (run is_digit text).1) (value_high n (nat_lt n (2 ^ 63)) refl from_zero l)
 
-pub name_found : (b : ℕ) (text w rest : List ℕ) → (w, rest) ≡ with_byte b (run is_word text) → name_part b text true ≡ Ok (kinds.Name w, rest)
+pub name_found : (b : ℕ) (text w rest : List ℕ) → (w, rest) ≡ prepend b (run is_word text) → name_part b text true ≡ Ok (kinds.Name w, rest)
 name_found b text w rest e = ap (λ (x : List ℕ × List ℕ). name_read x.0 x.1) (sym e)
 
 pub quote_found : (q : ℕ) (text w rest : List ℕ) → Some (w, rest) ≡ inside q false text → other_part q text true ≡ Ok (kinds.Quoted w, rest)

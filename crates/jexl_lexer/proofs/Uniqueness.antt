@@ -6,7 +6,8 @@ use Rattle.std.proofs.lemmas.Bool.Decides.{nat_tests}
 use Rattle.jexl_lexer.specs.declared.token.Token.{Token}
 use Rattle.jexl_lexer.specs.declared.token.TokenKind.{TokenKind}
 use Rattle.jexl_lexer.specs.declared.token.TokenKind.TheVariants as kinds
-use Rattle.jexl_lexer.specs.Lexing.{is_blank, is_digit, is_start, is_word, is_quote, AllPass, Stops, IsDecimal, value_from, sign_text, IsLongest, NoSign, Begins, number, name, quoted, sign, Fault, FaultAt, decimal as decimal_fault, big_number, open_text, bad_char}
+use Rattle.sequences.specs.Runs.{value_from}
+use Rattle.jexl_lexer.specs.Lexing.{is_blank, is_digit, is_start, is_word, is_quote, AllPass, Stops, IsDecimal, sign_text, IsLongest, NoSign, Begins, number, name, quoted, sign, Fault, FaultAt, decimal as decimal_fault, big_number, open_text, bad_char}
 use Rattle.jexl_lexer.specs.Scanning.{inside, first_sign, all_signs}
 use Rattle.jexl_lexer.specs.Reading.{TokenRead, decimal, value_part, number_part, quote_part, sign_part, other_part, name_part, token_part, token_at, token_of}
 use Rattle.std.proofs.lemmas.List.{take_at, drop_at}

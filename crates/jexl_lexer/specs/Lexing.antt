@@ -1,5 +1,6 @@
 -- Which bytes spell which tokens, and where the first fault is.
 use Rattle.std.specs.Prelude.{◌≡◌, ◌≢◌, ℕ, suc, ◌+◌, ◌-◌, ◌*◌, ◌^◌, ◌<◌, ◌≤◌, pos, Bool, true, false, ◌||◌, ◌&&◌, ◌==◌, nat_le, List, [], ◌∷◌, ◌++◌, length, codes}
+use Rattle.sequences.specs.Runs.{value_from}
 use Rattle.jexl_lexer.specs.declared.token.Sign.{Sign}
 use Rattle.jexl_lexer.specs.declared.token.Sign.TheVariants as signs
 use Rattle.jexl_lexer.specs.declared.token.Token.{Token}
@@ -41,11 +42,6 @@ abbrev pub IsDecimal : List ℕ → Type 0
 IsDecimal [] = ⊥
 IsDecimal (b ∷ []) = ⊥
 IsDecimal (b ∷ c ∷ bs) = (b ≡ 46) × (is_digit c ≡ true)
-
--- the number that begins with this value and goes on with these digits
-abbrev pub value_from : ℕ → List ℕ → ℕ
-value_from n [] = n
-value_from n (d ∷ ds) = value_from (10 * n + (d - 48)) ds
 
 -- What may stand between quotes q, and the text that it is: a backslash (92) and any character give that character.
 -- By bytes this holds for every text, since no byte of a longer character is a quote or a backslash

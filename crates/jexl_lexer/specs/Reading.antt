@@ -4,8 +4,9 @@ use Rattle.jexl_lexer.specs.declared.token.Sign.{Sign}
 use Rattle.jexl_lexer.specs.declared.token.Token.{Token}
 use Rattle.jexl_lexer.specs.declared.token.TokenKind.{TokenKind}
 use Rattle.jexl_lexer.specs.declared.token.TokenKind.TheVariants as kinds
-use Rattle.jexl_lexer.specs.Lexing.{is_blank, is_digit, is_start, is_word, is_quote, value_from, Fault, BadChar, OpenText, BigNumber, Decimal, TooManyTokens}
-use Rattle.jexl_lexer.specs.Scanning.{run, inside, first_sign, all_signs}
+use Rattle.sequences.specs.Runs.{run, value_from}
+use Rattle.jexl_lexer.specs.Lexing.{is_blank, is_digit, is_start, is_word, is_quote, Fault, BadChar, OpenText, BigNumber, Decimal, TooManyTokens}
+use Rattle.jexl_lexer.specs.Scanning.{inside, first_sign, all_signs}
 
 -- a token and the bytes after it, or its fault
 abbrev pub TokenRead : Type 0

@@ -1,5 +1,6 @@
 -- Scanning a text from the left, as functions on its bytes: what the functions of the lexer give.
 use Rattle.std.specs.Prelude.{ℕ, ◌^◌, ◌≤◌, Bool, true, false, cond, nat_lt, ◌==◌, List, [], ◌∷◌, ◌++◌, Option, Some, None, option_map}
+use Rattle.sequences.specs.Runs.{prepend}
 use Rattle.jexl_lexer.specs.declared.token.Sign.{Sign}
 use Rattle.jexl_lexer.specs.declared.token.Sign.TheVariants as signs
 use Rattle.jexl_lexer.specs.Lexing.{sign_text}
@@ -13,24 +14,16 @@ NoAsciiFront (b ∷ bs) = 128 ≤ b
 abbrev pub capped : ℕ → ℕ
 capped n = cond (nat_lt n (2 ^ 63)) n (2 ^ 63)
 
--- a byte, or bytes, put before the first part
-abbrev pub with_byte : ℕ → List ℕ × List ℕ → List ℕ × List ℕ
-with_byte b x = (b ∷ x.0, x.1)
-
+-- bytes put before the first part
 abbrev pub with_bytes : List ℕ → List ℕ × List ℕ → List ℕ × List ℕ
 with_bytes w x = (w ++ x.0, x.1)
-
--- the longest run of bytes that pass, and the bytes after it
-unfoldable pub run : (ℕ → Bool) → List ℕ → List ℕ × List ℕ
-run p [] = ([], [])
-run p (b ∷ bs) = cond (p b) (with_byte b (run p bs)) ([], b ∷ bs)
 
 -- the text up to the closing quote q, and the bytes after it; the flag says that a backslash stands before
 unfoldable pub inside : ℕ → Bool → List ℕ → Option (List ℕ × List ℕ)
 inside q e [] = None
-inside q true (c ∷ cs) = option_map (with_byte c) (inside q false cs)
+inside q true (c ∷ cs) = option_map (prepend c) (inside q false cs)
 inside q false (c ∷ cs) =
-    cond (c == q) (Some ([], cs)) (cond (c == 92) (inside q true cs) (option_map (with_byte c) (inside q false cs)))
+    cond (c == q) (Some ([], cs)) (cond (c == 92) (inside q true cs) (option_map (prepend c) (inside q false cs)))
 
 -- the bytes after a text
 abbrev pub strip : List ℕ → List ℕ → Option (List ℕ)

@@ -3,7 +3,8 @@ use Rattle.std.specs.Prelude.{◌≡◌, ℕ, ◌-◌, ◌<◌, ◌≤◌, pos, 
 use Rattle.jexl_lexer.specs.declared.token.Token.{Token}
 use Rattle.jexl_lexer.specs.declared.token.TokenKind.{TokenKind}
 use Rattle.jexl_lexer.specs.declared.token.TokenKind.TheVariants as kinds
-use Rattle.jexl_lexer.specs.Lexing.{is_blank, is_digit, is_quote, AllPass, value_from, sign_text, Inside}
+use Rattle.sequences.specs.Runs.{value_from}
+use Rattle.jexl_lexer.specs.Lexing.{is_blank, is_digit, is_quote, AllPass, sign_text, Inside}
 
 -- the bytes from one place up to another
 abbrev pub slice : List ℕ → ℕ → ℕ → List ℕ

@@ -10,22 +10,22 @@ use thiserror::Error;
 #[derive(Debug, Drop, Error)]
 pub enum LexFault {
     /// No token begins with the character at this place.
-    #[error("no token begins with the character at byte {0}")]
+    #[error("BadChar")]
     BadChar(usize),
     /// The quote at this place is never closed.
-    #[error("the text in quotes at byte {0} is not closed")]
+    #[error("OpenText")]
     OpenText(usize),
     /// The number at this place is above 9223372036854775807.
-    #[error("the number at byte {0} is above 9223372036854775807")]
+    #[error("BigNumber")]
     BigNumber(usize),
     /// A dot and a digit follow the number at this place.
-    #[error("the number at byte {0} has a fraction")]
+    #[error("Decimal")]
     Decimal(usize),
     /// There are 4,096 tokens before this place, and more after it.
-    #[error("there are more than 4096 tokens: one more begins at byte {0}")]
+    #[error("TooManyTokens")]
     TooManyTokens(usize),
     /// Memory is wanting.
-    #[error("out of memory")]
+    #[error("OutOfMemory")]
     OutOfMemory,
 }
 

@@ -2,7 +2,7 @@
 ghost use Rattle.std.specs.Prelude.{◌≡◌, ◌<◌, All, length, IfOk, IfErr, IfSome, MatchOption};
 ghost use Rattle.jexl_lexer.specs.Answering.{FaultsAs};
 ghost use Rattle.jexl_lexer.specs.Lexing.{is_blank, Lexes};
-ghost use Rattle.jexl_lexer.specs.Scanning.{run};
+ghost use Rattle.sequences.specs.Runs.{run};
 ghost use Rattle.jexl_lexer.specs.Spans.{SpansRise, BlanksOutside, IsReadFrom};
 
 use crate::fault::LexFault;

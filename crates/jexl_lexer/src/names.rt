@@ -1,7 +1,7 @@
 // Names at the front of a text.
 ghost use Rattle.std.specs.Prelude.{◌≡◌, ◌<◌, [], length, IfOk, IfSome, MatchOption};
 ghost use Rattle.jexl_lexer.specs.Lexing.{is_word};
-ghost use Rattle.jexl_lexer.specs.Scanning.{run, with_byte};
+ghost use Rattle.sequences.specs.Runs.{prepend, run};
 
 use crate::front::{first_ascii, is_word};
 use sequences::Text;
@@ -10,7 +10,7 @@ use std::alloc::{AllocError, Global};
 /// The byte of a name at the front, and the text after it.
 #[tactic(auto, using(crate::proofs::Runs::run_word_big, crate::proofs::Runs::run_on, crate::proofs::Runs::run_stop))]
 fn word_byte(text: &str) -> Option<(u8, &str)>
-    ensures found { MatchOption result (run is_word text.now ≡ ([], text.now)) (λ x. run is_word text.now ≡ with_byte x.0 (run is_word x.1.now)) }
+    ensures found { MatchOption result (run is_word text.now ≡ ([], text.now)) (λ x. run is_word text.now ≡ prepend x.0 (run is_word x.1.now)) }
     ensures ascii { IfSome result (λ x. x.0 < 128) }
     ensures short { IfSome result (λ x. length x.1.now < length text.now) }
 {
@@ -24,7 +24,7 @@ fn word_byte(text: &str) -> Option<(u8, &str)>
 #[tactic(auto, using(crate::proofs::Runs::before_step, crate::proofs::Runs::before_none))]
 pub fn name(alloc: Global, first: u8, text: &str) -> Result<(Text, &str), AllocError>
     requires { first < 128 }
-    ensures { IfOk result (λ x. (x.0, x.1.now) ≡ with_byte first (run is_word text.now)) }
+    ensures { IfOk result (λ x. (x.0, x.1.now) ≡ prepend first (run is_word text.now)) }
 {
     let mut word = String::new(alloc);
     word.push(first as char)?;

@@ -1,14 +1,15 @@
 // Numbers at the front of a text.
 ghost use Rattle.std.specs.Prelude.{◌≡◌, ◌<◌, ◌≤◌, ◌+◌, ◌*◌, ◌-◌, ◌^◌, [], true, length, IfSome, MatchOption};
-ghost use Rattle.jexl_lexer.specs.Lexing.{is_digit, value_from};
-ghost use Rattle.jexl_lexer.specs.Scanning.{capped, run, with_byte};
+ghost use Rattle.sequences.specs.Runs.{prepend, run, value_from};
+ghost use Rattle.jexl_lexer.specs.Lexing.{is_digit};
+ghost use Rattle.jexl_lexer.specs.Scanning.{capped};
 
 use crate::front::{first_ascii, is_digit};
 
 /// The digit at the front, and the text after it.
 #[tactic(auto, using(crate::proofs::Runs::run_digit_big, crate::proofs::Runs::run_on, crate::proofs::Runs::run_stop))]
 fn digit_byte(text: &str) -> Option<(u8, &str)>
-    ensures found { MatchOption result (run is_digit text.now ≡ ([], text.now)) (λ x. run is_digit text.now ≡ with_byte x.0 (run is_digit x.1.now)) }
+    ensures found { MatchOption result (run is_digit text.now ≡ ([], text.now)) (λ x. run is_digit text.now ≡ prepend x.0 (run is_digit x.1.now)) }
     ensures digit { IfSome result (λ x. is_digit x.0 ≡ true) }
     ensures short { IfSome result (λ x. length x.1.now < length text.now) }
 {

@@ -23,14 +23,17 @@ abbrev some_tree : Tree → Option Tree
 some_tree t = Some t
 
 -- both trees are read where the limit lets them fit
-pub one_tree : OneTree
-one_tree ts t u d e =
+pub one_spelled : (ts : List TokenKind) (t u : Tree) → Spells Expr ts t → Spells Expr ts u → t ≡ u
+one_spelled ts t u d e =
     let limit = max (height t) (height u) in
     let x : Seen × List TokenKind = (cap limit t, []) in
     let y : Seen × List TokenKind = (cap limit u, []) in
-    let same : x ≡ y = some_is x y (sym (read_all limit ts t d.spelled) ∙ read_all limit ts u e.spelled) in
+    let same : x ≡ y = some_is x y (sym (read_all limit ts t d) ∙ read_all limit ts u e) in
     let both : some_tree t ≡ some_tree u = sym (fits limit t (omega arith)) ∙ (ap (λ (p : Seen × List TokenKind). p.0.tree) same ∙ fits limit u (omega arith)) in
     cc
+
+pub one_tree : OneTree
+one_tree ts t u d e = one_spelled ts t u d.spelled e.spelled
 
 -- where nothing is read there is no tree
 pub none_there : (ts : List TokenKind) → read_of 512 AnExpr ts ≡ None → (t : Tree) → SpellsTree ts t → ⊥

@@ -1,19 +1,17 @@
--- Derivations of some rows.
-use Rattle.std.proofs.Common.{ℕ, ◌≤◌, [], ◌∷◌, refl, arith}
-use Rattle.std.specs.Prelude.{ℤ}
-use Rattle.jexl_lexer.specs.declared.token.TokenKind.TheVariants as kinds
+-- The tree of `a || b && c`.
+use Rattle.std.proofs.Common.{◌≡◌, List, ◌∷◌, ◌++◌, refl, subst, append_assoc}
+use Rattle.jexl_lexer.specs.declared.token.TokenKind.{TokenKind}
 use Rattle.jexl_lexer.specs.declared.token.Sign.TheVariants as signs
 use Rattle.jexl_parser.specs.declared.node.BinarySign.TheVariants as binary
-use Rattle.jexl_parser.specs.Tree.{Binary, Literal, Whole}
-use Rattle.jexl_parser.specs.Grammar.{Level, Spells, plain, operation, tightest, positive, primary, number}
+use Rattle.jexl_parser.specs.Tree.{Tree, Binary}
+use Rattle.jexl_parser.specs.Grammar.{Expr, Level, Spells, plain, operation, tighter, sign}
 use Rattle.jexl_parser.specs.Laws.{AndOrFromTheLeft}
-use Rattle.jexl_parser.proofs.Sound.{loosen}
-use Rattle.jexl_parser.proofs.OneTree.{one_tree}
-
-whole_at : (n : ℕ) (a : ℤ) → n ≤ 6 → Spells (Level n) (kinds.Number a ∷ []) (Literal (Whole a))
-whole_at n a le = loosen n 6 (kinds.Number a ∷ []) (Literal (Whole a)) le (tightest (positive (primary (number a))))
+use Rattle.jexl_parser.proofs.OneTree.{one_spelled}
 
 pub and_or_from_the_left : AndOrFromTheLeft
-and_or_from_the_left a b c t d =
-    let left : Spells (Level 1) (kinds.Number a ∷ kinds.Sign signs.Or ∷ kinds.Number b ∷ []) (Binary binary.Or (Literal (Whole a)) (Literal (Whole b))) = operation (kinds.Sign signs.Or) binary.Or refl (whole_at 1 a (omega arith)) (whole_at 2 b (omega arith)) in
-    one_tree _ t _ d (record { spelled = plain (operation (kinds.Sign signs.And) binary.And refl left (whole_at 2 c (omega arith))); closed = refl })
+and_or_from_the_left us vs ws a b c first second third =
+    let tree : Tree = Binary binary.And (Binary binary.Or a b) c in
+    let left : Spells (Level 1) (us ++ (sign signs.Or ∷ vs)) (Binary binary.Or a b) = operation (sign signs.Or) binary.Or refl (tighter first) second in
+    let whole : Spells Expr ((us ++ (sign signs.Or ∷ vs)) ++ (sign signs.And ∷ ws)) tree = plain (operation (sign signs.And) binary.And refl left third) in
+    let spelled : Spells Expr (us ++ (sign signs.Or ∷ (vs ++ (sign signs.And ∷ ws)))) tree = subst (λ (ts : List TokenKind). Spells Expr ts tree) (append_assoc us (sign signs.Or ∷ vs) (sign signs.And ∷ ws)) whole in
+    record { spelled = spelled; only = λ t other. one_spelled _ t tree other spelled }

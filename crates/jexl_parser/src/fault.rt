@@ -10,16 +10,16 @@ use thiserror::Error;
 pub enum ParseFault {
     /// More than 64 brackets are open after some token, more than 64 `!` stand one after another,
     /// or there are more than 64 `?`.
-    #[error("the expression nests too deep")]
+    #[error("TooDeep")]
     TooDeep,
     /// The grammar has no tree for the tokens.
-    #[error("the tokens are no expression")]
+    #[error("Unexpected")]
     Unexpected,
     /// The tree has more than 512 nodes on a path.
-    #[error("the tree of the expression is too tall")]
+    #[error("TooTall")]
     TooTall,
     /// Memory is wanting.
-    #[error("out of memory")]
+    #[error("OutOfMemory")]
     OutOfMemory,
 }
 

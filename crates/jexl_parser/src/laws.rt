@@ -6,7 +6,8 @@ pub fn one_tree()
     ensures { OneTree }
 {}
 
-/// A law, with no effect: `a || b && c` is `(a || b) && c`, and nothing else.
+/// A law, with no effect: for any operands that bind tighter, the tokens of `a || b && c` have the tree
+/// of `(a || b) && c`, and no other.
 pub fn and_or_from_the_left()
     ensures { AndOrFromTheLeft }
 {}

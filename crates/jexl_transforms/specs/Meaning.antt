@@ -1,12 +1,12 @@
 -- What a transform of each standard name gives for a subject and arguments.
-use Rattle.std.specs.Prelude.{ℕ, ◌+◌, ◌-◌, ◌%◌, ℤ, pos, negsuc, neg_ℤ, Bool, nat_lt, nat_le, ◌&&◌, List, [], ◌∷◌, codes, Option, Some, None, option_map, option_and_then, bytes_eq, if◌then◌else◌}
+use Rattle.std.specs.Prelude.{ℕ, ℤ, pos, negsuc, neg_ℤ, Bool, nat_le, ◌&&◌, List, [], ◌∷◌, codes, Option, Some, None, option_map, option_and_then, bytes_eq, if◌then◌else◌}
 use Rattle.std.specs.declared.cmp.Ordering.{Ordering}
 use Rattle.std.specs.declared.cmp.Ordering.TheVariants.{Less, Equal, Greater}
 use Rattle.json_tree.specs.Json.{Json, truth, whole, text}
 use Rattle.json_tree.specs.Bytes.{text_of}
 use Rattle.plain_text.specs.Moments.{moment}
 use Rattle.jexl_transforms.specs.declared.range.Range.{Range}
-use Rattle.sampling.specs.Sampling.{point_of, bucket_of}
+use Rattle.sampling.specs.Sampling.{point_of, is_in_range}
 use Rattle.version_compare.specs.Versions.{version_order}
 
 -- -1 for less, 0 for equal, 1 for greater
@@ -43,13 +43,13 @@ range_of (start ∷ count ∷ total ∷ []) =
     option_and_then (λ s. option_and_then (λ c. option_map (λ t. range s c t) (bound_of 1 total)) (bound_of 0 count)) (bound_of 0 start)
 range_of arguments = None
 
--- the bucket of the point is less than `count` buckets after `start`, where bucket 0 comes after the last one
-abbrev pub is_in_range : ℕ → Range → Bool
-is_in_range point r = nat_lt ((bucket_of point r.total + r.total - r.start % r.total) % r.total) r.count
+-- whether the point's bucket is in the range
+abbrev pub holds_point : Range → ℕ → Bool
+holds_point r point = is_in_range point r.start r.count r.total
 
 -- `bucketSample`: whether the point of any value's compact text is in a range of buckets
 abbrev pub bucket_value : Json → List Json → Option Json
-bucket_value subject arguments = option_map (λ r. truth (is_in_range (point_of (text_of subject)) r)) (range_of arguments)
+bucket_value subject arguments = option_map (λ r. truth (holds_point r (point_of (text_of subject)))) (range_of arguments)
 
 -- the value that the transform of this name has, or none where it refuses the subject and the arguments
 abbrev pub meaning : List ℕ → Json → List Json → Option Json

@@ -3,7 +3,7 @@ ghost use Rattle.std.specs.Prelude.{◌≡◌, ◌<◌, ◌^◌, map, IfOk, IfSo
 ghost use Rattle.json_tree.specs.Bytes.{text_of};
 ghost use Rattle.sampling.specs.Sampling.{point_of};
 ghost use Rattle.jexl_value.specs.Value.{as_json};
-ghost use Rattle.jexl_transforms.specs.Meaning.{bound_within, bound_of, range_of, is_in_range, bucket_value};
+ghost use Rattle.jexl_transforms.specs.Meaning.{bound_within, bound_of, range_of, holds_point, bucket_value};
 ghost use Rattle.jexl_transforms.specs.Answering.{Answers};
 
 use crate::answer::TransformAnswer;
@@ -83,7 +83,7 @@ fn point_of(alloc: Global, value: &Value) -> Result<u64, AllocError>
 fn is_in_range(point: u64, range: Range) -> bool
     requires point { point < 2 ^ 48 }
     requires total { 0 < range.total }
-    ensures { result ≡ is_in_range point range }
+    ensures { result ≡ holds_point range point }
 {
     in_bucket(point, range.start, range.count, range.total)
 }

@@ -1,4 +1,4 @@
-use Rattle.std.proofs.Common.{◌≡◌, ◌≢◌, pos, ◌-ℤ◌, true, FitsSigned, w64, to_z, of_z, sym, ap, ◌∙◌, subst, inl, inr}
+use Rattle.std.proofs.Common.{◌≡◌, ◌≢◌, pos, ◌-ℤ◌, FitsSigned, w64, to_z, of_z, sym, ap, ◌∙◌, subst, inl, inr}
 use Rattle.std.proofs.lemmas.Int.{to_z-of_z}
 use Rattle.std.specs.Prelude.{int_rem, int_lt}
 use Rattle.jexl_eval.specs.Numbers.{floor_quotient}

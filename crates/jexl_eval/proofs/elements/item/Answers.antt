@@ -1,8 +1,6 @@
-use Rattle.std.proofs.Common.{FitsSigned, w64, Ok, sym, ap, subst, ◌∙◌}
+use Rattle.std.proofs.Common.{FitsSigned, w64, sym, ap, ◌∙◌}
 use Rattle.std.proofs.lemmas.Int.{to_z-of_z}
 use Rattle.json_tree.specs.Json.{items_of}
-use Rattle.jexl_value.specs.Value.{as_json}
-use Rattle.jexl_eval.specs.Gives.{Gives}
 use Rattle.jexl_eval.specs.Elements.{or_null}
 use Rattle.jexl_eval.proofs.Walking.{at_place}
 use Rattle.jexl_eval.proofs.elements.item.Goals as goal
@@ -13,4 +11,4 @@ returns-else-place-lt0 c =
     let low = simp to_z-of_z at c.if-place-lt0.false in
     let got = simp to_z-of_z at c.item_at.ensures in
     let place = at_place (items_of c.args.items.now) c.args.place low in
-    subst (λ x. Gives as_json c.copy_or_null.result (Ok x)) (ap or_null got ∙ sym place) c.copy_or_null.ensures
+    c.value_or_null.ensures ∙ ap or_null got ∙ sym place

@@ -1,5 +1,4 @@
 use Rattle.std.proofs.Common.{◌≡◌, [], drop}
-use Rattle.std.specs.Vec.Iter.{into_iter_items}
 use Rattle.json_tree.specs.Json.{members_of}
 use Rattle.jexl_parser.specs.View.{view}
 use Rattle.jexl_transforms.specs.Table.{names_of}
@@ -20,8 +19,8 @@ invariant-loop-name g l =
 
 abbrev pub invariant-loop-item : goal.invariant-loop-item
 invariant-loop-item g l =
-    kept_of (λ x. meaning (names_of l.table) (members_of l.attributes.pairs) x (view l.condition.value)) (into_iter_items l.initial.item-iterator)
-    ≡ onto l.kept (kept_of (λ x. meaning (names_of l.table) (members_of l.attributes.pairs) x (view l.condition.value)) (into_iter_items l.item-iterator))
+    kept_of (λ x. meaning (names_of l.table) (members_of l.attributes.pairs) x (view l.condition.value)) l.items
+    ≡ onto l.kept (kept_of (λ x. meaning (names_of l.table) (members_of l.attributes.pairs) x (view l.condition.value)) (drop l.item-index l.items))
 
 abbrev pub invariant-loop-argument : goal.invariant-loop-argument
 invariant-loop-argument g l = record {

@@ -2,8 +2,8 @@ use denote.Shadow.{shadow}
 use denote.Text.{Utf8}
 use Rattle.std.proofs.Common.{◌≡◌, ◌≤◌, ◌^◌, length}
 use Rattle.jexl_lexer.specs.Scanning.{capped}
-use Rattle.jexl_lexer.specs.Lexing.{is_digit, value_from}
-use Rattle.jexl_lexer.specs.Scanning.{run}
+use Rattle.sequences.specs.Runs.{run, value_from}
+use Rattle.jexl_lexer.specs.Lexing.{is_digit}
 use Rattle.jexl_lexer.proofs.numbers.digits.Given as goal
 
 abbrev pub invariant-loop-b : goal.invariant-loop-b
