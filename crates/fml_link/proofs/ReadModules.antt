@@ -21,44 +21,44 @@ use Rattle.fml_reader.specs.Trees.{tree_from}
 use Rattle.fml_reader.specs.Values.{object_in, imports_of, truth_in, value_in, is_key}
 use Rattle.fml_reader.specs.Walks.{each_item, each_member, keyed, required, optional}
 use Rattle.fml_reader.specs.Fields.{type_in, default_in, field_of, fields_of, variant_of, variants_of, enum_of, enums_of, object_of, objects_of}
-use Rattle.fml_reader.specs.Features.{texts_of, names_of, listed_of, both, entry_of, entries_of, feature_of, features_of}
+use Rattle.fml_reader.specs.Features.{texts_of, names_of, listed_of, in_order, both, entry_of, entries_of, feature_of, features_of}
 use Rattle.fml_reader.specs.Modules.{either, types_in, in_types, module_of}
-use Rattle.fml_reader.specs.declared.fault.ModuleFault.{ModuleFault}
+use Rattle.fml_reader.specs.declared.fault.ModuleRefusal.{ModuleRefusal}
 use Rattle.fml_reader.specs.declared.module.Module.{Module}
 use Rattle.fml_link.specs.Sound.{IsReadField, AreReadFields, HaveVariants, HaveReadFields, IsReadModule}
 use Rattle.fml_link.proofs.Alls.{all_nil, all_cons, all_map}
 use Rattle.fml_link.proofs.Singles.{spelled_single, same_shapes}
 use Rattle.fml_link.proofs.SoundValues.{IsSoundOption, get_sound, of_tree}
 
-ok_of : {A B : Type 0} (r : Result A ModuleFault) (f : A → Result B ModuleFault) (b : B) → (r >>= f) ≡ Ok b → (a : A) × (r ≡ Ok a) × (f a ≡ Ok b)
+ok_of : {A B : Type 0} (r : Result A ModuleRefusal) (f : A → Result B ModuleRefusal) (b : B) → (r >>= f) ≡ Ok b → (a : A) × (r ≡ Ok a) × (f a ≡ Ok b)
 ok_of (Ok a) f b h = (a, refl, h)
 ok_of (Err e) f b h = absurd cc
 
-same_ok : {A : Type 0} (a b : A) → ◌≡◌ {A = Result A ModuleFault} (Ok a) (Ok b) → a ≡ b
+same_ok : {A : Type 0} (a b : A) → ◌≡◌ {A = Result A ModuleRefusal} (Ok a) (Ok b) → a ≡ b
 same_ok a b h = cc
 
-under_ok : {A : Type 0} (k : List ℕ) (r : Result A ModuleFault) (a : A) → under k r ≡ Ok a → r ≡ Ok a
+under_ok : {A : Type 0} (k : List ℕ) (r : Result A ModuleRefusal) (a : A) → under k r ≡ Ok a → r ≡ Ok a
 under_ok k (Ok x) a h = h
 under_ok k (Err e) a h = absurd cc
 
-keyed_ok : {A : Type 0} (c : Bool) (r : Result A ModuleFault) (a : A) → keyed c r ≡ Ok a → IsTrue c × (r ≡ Ok a)
+keyed_ok : {A : Type 0} (c : Bool) (r : Result A ModuleRefusal) (a : A) → keyed c r ≡ Ok a → IsTrue c × (r ≡ Ok a)
 keyed_ok true r a h = (refl, h)
 keyed_ok false r a h = absurd cc
 
-required_ok : {A : Type 0} (k : List ℕ) (read : Json → Result A ModuleFault) (o : Option Json) (a : A) → IsSoundOption o → required k read o ≡ Ok a → (x : Json) × IsSound x × (read x ≡ Ok a)
+required_ok : {A : Type 0} (k : List ℕ) (read : Json → Result A ModuleRefusal) (o : Option Json) (a : A) → IsSoundOption o → required k read o ≡ Ok a → (x : Json) × IsSound x × (read x ≡ Ok a)
 required_ok k read None a sound h = absurd cc
 required_ok k read (Some x) a sound h = (x, sound, under_ok k (read x) a h)
 
-optional_ok : {A : Type 0} (P : A → Type 0) (k : List ℕ) (read : Json → Result A ModuleFault) (without : A) (o : Option Json) (a : A) → P without → ((x : Json) (b : A) → IsSound x → read x ≡ Ok b → P b) → IsSoundOption o → optional k read without o ≡ Ok a → P a
+optional_ok : {A : Type 0} (P : A → Type 0) (k : List ℕ) (read : Json → Result A ModuleRefusal) (without : A) (o : Option Json) (a : A) → P without → ((x : Json) (b : A) → IsSound x → read x ≡ Ok b → P b) → IsSoundOption o → optional k read without o ≡ Ok a → P a
 optional_ok P k read without None a default step sound h = let same : without ≡ a = cc in subst P same default
 optional_ok P k read without (Some x) a default step sound h = step x a sound (under_ok k (read x) a h)
 
-in_types_ok : {A : Type 0} (P : A → Type 0) (k : List ℕ) (read : Json → Result A ModuleFault) (without : A) (o : Option Json) (a : A) → P without → ((x : Json) (b : A) → IsSound x → read x ≡ Ok b → P b) → IsSoundOption o → in_types k read without o ≡ Ok a → P a
+in_types_ok : {A : Type 0} (P : A → Type 0) (k : List ℕ) (read : Json → Result A ModuleRefusal) (without : A) (o : Option Json) (a : A) → P without → ((x : Json) (b : A) → IsSound x → read x ≡ Ok b → P b) → IsSoundOption o → in_types k read without o ≡ Ok a → P a
 in_types_ok P k read without None a default step sound h = let same : without ≡ a = cc in subst P same default
 in_types_ok P k read without (Some x) a default step sound h = optional_ok P k read without (get k x) a default step (get_sound k x sound) (under_ok (codes "types") (optional k read without (get k x)) a h)
 
 -- each item is read
-items_ok : {A : Type 0} (P : A → Type 0) (read : Json → Result A ModuleFault) → ((x : Json) (a : A) → IsSound x → read x ≡ Ok a → P a) → (i : ℕ) (xs : Items) (as' : List A) → AreSoundItems xs → each_item read i xs ≡ Ok as' → All P as'
+items_ok : {A : Type 0} (P : A → Type 0) (read : Json → Result A ModuleRefusal) → ((x : Json) (a : A) → IsSound x → read x ≡ Ok a → P a) → (i : ℕ) (xs : Items) (as' : List A) → AreSoundItems xs → each_item read i xs ≡ Ok as' → All P as'
 items_ok P read step i no_items as' sound h = let same : [] ≡ as' = cc in subst (All P) same (all_nil P)
 items_ok P read step i (item x xs) as' sound h =
     let first = ok_of (under (decimal i) (read x)) (λ a. each_item read (suc i) xs >>= λ bs. Ok (a ∷ bs)) as' h in
@@ -67,7 +67,7 @@ items_ok P read step i (item x xs) as' sound h =
     subst (All P) same (all_cons P first.0 others.0 (step x first.0 sound.0 (under_ok (decimal i) (read x) first.0 first.1)) (items_ok P read step (suc i) xs others.0 sound.1 others.1))
 
 -- each member that is read has its key taken and its value read
-members_ok : {A : Type 0} (P : List ℕ × A → Type 0) (test : List ℕ → Bool) (read : Json → Result A ModuleFault) → ((k : List ℕ) (x : Json) (a : A) → IsTrue (test k) → IsSound x → read x ≡ Ok a → P (k, a)) → (ms : Members) (ps : List (List ℕ × A))
+members_ok : {A : Type 0} (P : List ℕ × A → Type 0) (test : List ℕ → Bool) (read : Json → Result A ModuleRefusal) → ((k : List ℕ) (x : Json) (a : A) → IsTrue (test k) → IsSound x → read x ≡ Ok a → P (k, a)) → (ms : Members) (ps : List (List ℕ × A))
     → AreSoundMembers ms → each_member test read ms ≡ Ok ps → All P ps
 members_ok P test read step no_members ps sound h = let same : [] ≡ ps = cc in subst (All P) same (all_nil P)
 members_ok P test read step (member k x ms) ps sound h =
@@ -173,7 +173,7 @@ entry_sound x e sound h =
     let c = ok_of (optional (codes "channels") listed_of None (get (codes "channels") x)) _ e b.2 in
     let d = ok_of (required (codes "value") value_in (get (codes "value") x)) _ e c.2 in
     let read = required_ok (codes "value") value_in (get (codes "value") x) d.0 (get_sound (codes "value") x sound) d.1 in
-    let same : record { channels = both b.0 c.0; value = d.0 } ≡ e = same_ok _ e d.2 in
+    let same : record { channels = option_map (in_order []) (both b.0 c.0); value = d.0 } ≡ e = same_ok _ e d.2 in
     subst (λ (e : DefaultEntry). IsSound (json_of e.value)) same (value_sound read.0 d.0 read.1 read.2)
 
 entries_sound : (x : Json) (es : List DefaultEntry) → IsSound x → entries_of x ≡ Ok es → AreSoundEntries es

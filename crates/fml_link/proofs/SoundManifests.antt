@@ -9,8 +9,8 @@ use Rattle.fml_types.specs.Ground.{grounding}
 use Rattle.fml_types.specs.Named.{has_name, with_name}
 use Rattle.fml_types.specs.Shapes.{shape_of}
 use Rattle.fml_types.specs.Sound.{unknown_name, AreSoundEntries, AreSoundFields, IsSoundManifest}
-use Rattle.fml_types.specs.declared.grounding.GroundFault.{GroundFault}
-use Rattle.fml_types.specs.declared.grounding.GroundFault.TheVariants as ground_faults
+use Rattle.fml_types.specs.declared.grounding.Ungrounded.{Ungrounded}
+use Rattle.fml_types.specs.declared.grounding.Ungrounded.TheVariants as ungrounded
 use Rattle.fml_types.specs.declared.manifest.EnumDefinition.{EnumDefinition}
 use Rattle.fml_types.specs.declared.manifest.ObjectDefinition.{ObjectDefinition}
 use Rattle.fml_types.specs.declared.manifest.FeatureDefinition.{FeatureDefinition}
@@ -24,16 +24,17 @@ use Rattle.fml_link.specs.Outcome.{◌>>=◌, Gives, each}
 use Rattle.fml_link.specs.Sound.{AreReadFields, HaveVariants, HaveReadFields, HaveNames, HaveReadVariables, HaveSoundEntries, IsReadModule}
 use Rattle.fml_link.specs.Tables.{Tables, no_tables, with_enum, with_object, with_feature, with_module, tables_of}
 use Rattle.fml_link.specs.declared.fault.LinkFault.{LinkFault}
-use Rattle.fml_link.specs.declared.fault.LinkFault.TheVariants as faults
+use Rattle.fml_link.specs.declared.fault.LinkRefusal.{LinkRefusal}
+use Rattle.fml_link.specs.declared.fault.LinkRefusal.TheVariants as refusals
 use Rattle.fml_link.proofs.Alls.{all_nil, all_cons, all_head, all_tail}
 use Rattle.fml_link.proofs.Maps.{turned, left_false, right_false}
 
-bind_ok : {A B : Type 0} (r : Result A LinkFault) (f : A → Result B LinkFault) (b : B) → (r >>= f) ≡ Ok b → (a : A) × (r ≡ Ok a) × (f a ≡ Ok b)
+bind_ok : {A B : Type 0} (r : Result A LinkRefusal) (f : A → Result B LinkRefusal) (b : B) → (r >>= f) ≡ Ok b → (a : A) × (r ≡ Ok a) × (f a ≡ Ok b)
 bind_ok (Ok a) f b h = (a, refl, h)
 bind_ok (Err e) f b h = absurd cc
 
 -- what is kept as each thing is added
-each_keeps : {T A : Type 0} (P : T → Type 0) (Q : A → Type 0) (add : T → A → Result T LinkFault) → ((t u : T) (x : A) → P t → Q x → add t x ≡ Ok u → P u) → (xs : List A) (t u : T) → All Q xs → P t → each add t xs ≡ Ok u → P u
+each_keeps : {T A : Type 0} (P : T → Type 0) (Q : A → Type 0) (add : T → A → Result T LinkRefusal) → ((t u : T) (x : A) → P t → Q x → add t x ≡ Ok u → P u) → (xs : List A) (t u : T) → All Q xs → P t → each add t xs ≡ Ok u → P u
 each_keeps P Q add step [] t u all kept h = let same : t ≡ u = cc in subst P same kept
 each_keeps P Q add step (x ∷ xs) t u all kept h =
     let first = bind_ok (add t x) (λ v. each add v xs) u h in
@@ -82,14 +83,14 @@ record AreSoundTables (t : Tables) : Type 0 where
   pub variables : HaveReadVariables t.features
   pub entries : HaveSoundEntries t.features
 
-added : {A : Type 0} (b : Bool) (e : LinkFault) (t u : A) → (if b then Err e else Ok t) ≡ Ok u → (b ≡ false) × (t ≡ u)
+added : {A : Type 0} (b : Bool) (e : LinkRefusal) (t u : A) → (if b then Err e else Ok t) ≡ Ok u → (b ≡ false) × (t ≡ u)
 added true e t u h = absurd cc
 added false e t u h = (refl, cc)
 
 enum_keeps : (t u : Tables) (e : List ℕ × EnumDefinition) → AreSoundTables t → 0 < length e.1.variants → with_enum t e ≡ Ok u → AreSoundTables u
 unfolding AreApart
 enum_keeps t u e sound one h =
-    let new = added (has_name e.0 t.enums || has_name e.0 t.objects) (faults.DuplicateName e.0) (record t { enums = with_name e t.enums }) u h in
+    let new = added (has_name e.0 t.enums || has_name e.0 t.objects) (refusals.DuplicateName e.0) (record t { enums = with_name e t.enums }) u h in
     subst AreSoundTables new.1 (record {
       variants = all_with (λ (x : List ℕ × EnumDefinition). 0 < length x.1.variants) e t.enums one sound.variants;
       apart = all_with (λ (x : List ℕ × EnumDefinition). has_name x.0 t.objects ≡ false) e t.enums (right_false (has_name e.0 t.enums) (has_name e.0 t.objects) new.0) sound.apart;
@@ -101,7 +102,7 @@ enum_keeps t u e sound one h =
 
 object_keeps : (t u : Tables) (o : List ℕ × ObjectDefinition) → AreSoundTables t → AreReadFields o.1.fields → with_object t o ≡ Ok u → AreSoundTables u
 object_keeps t u o sound one h =
-    let new = added (has_name o.0 t.enums || has_name o.0 t.objects) (faults.DuplicateName o.0) (record t { objects = with_name o t.objects }) u h in
+    let new = added (has_name o.0 t.enums || has_name o.0 t.objects) (refusals.DuplicateName o.0) (record t { objects = with_name o t.objects }) u h in
     subst AreSoundTables new.1 (record {
       variants = sound.variants;
       apart = apart_with o t.objects t.enums (left_false (has_name o.0 t.enums) (has_name o.0 t.objects) new.0) sound.apart;
@@ -118,7 +119,7 @@ IsReadFeature f = IsTrue (is_name f.0) × AreReadFields f.1.variables × AreSoun
 feature_keeps : (t u : Tables) (f : List ℕ × FeatureDefinition) → AreSoundTables t → IsReadFeature f → with_feature t f ≡ Ok u → AreSoundTables u
 unfolding IsReadFeature
 feature_keeps t u f sound one h =
-    let new = added (has_name f.0 t.features) (faults.DuplicateName f.0) (record t { features = with_name f t.features }) u h in
+    let new = added (has_name f.0 t.features) (refusals.DuplicateName f.0) (record t { features = with_name f t.features }) u h in
     subst AreSoundTables new.1 (record {
       variants = sound.variants;
       apart = sound.apart;
@@ -173,11 +174,10 @@ none_found : {A : Type 0} (find : A → Option (List ℕ)) (xs : List A) → fir
 none_found find [] h = all_nil (λ x. find x ≡ None)
 none_found find (x ∷ xs) h = let both = both_none (find x) (first_found find xs) h in all_cons (λ y. find y ≡ None) x xs both.0 (none_found find xs both.1)
 
-grounded_ok : (g : Result (Unit {0}) GroundFault) (u : Unit {0}) → all_grounded g ≡ Ok u → g ≡ Ok tt
+grounded_ok : (g : Result (Unit {0}) Ungrounded) (u : Unit {0}) → all_grounded g ≡ Ok u → g ≡ Ok tt
 grounded_ok (Ok v) u h = refl
-grounded_ok (Err (ground_faults.EndlessObject name)) u h = absurd cc
-grounded_ok (Err (ground_faults.ObjectTooLarge name)) u h = absurd cc
-grounded_ok (Err ground_faults.OutOfMemory) u h = absurd cc
+grounded_ok (Err (ungrounded.EndlessObject name)) u h = absurd cc
+grounded_ok (Err (ungrounded.ObjectTooLarge name)) u h = absurd cc
 
 sound_fields : (types : TypeTable) (fields : List (List ℕ × Field)) → unknown_in types fields ≡ None → AreReadFields fields → AreSoundFields types fields
 sound_fields types fields known read k d h = record {

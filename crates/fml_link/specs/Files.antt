@@ -4,12 +4,12 @@ use Rattle.std.specs.List.{list_any}
 use Rattle.json_tree.specs.Json.{Json, depth}
 use Rattle.json_tree.specs.Bytes.{tree_of, max_depth}
 use Rattle.fml_reader.specs.Modules.{module_of}
-use Rattle.fml_reader.specs.declared.fault.ModuleFault.{ModuleFault}
-use Rattle.fml_reader.specs.declared.fault.ModuleFault.TheVariants as read
+use Rattle.fml_reader.specs.declared.fault.ModuleRefusal.{ModuleRefusal}
+use Rattle.fml_reader.specs.declared.fault.ModuleRefusal.TheVariants as read
 use Rattle.fml_reader.specs.declared.module.Module.{Module}
 use Rattle.fml_link.specs.Outcome.{◌>>=◌, each}
-use Rattle.fml_link.specs.declared.fault.LinkFault.{LinkFault}
-use Rattle.fml_link.specs.declared.fault.LinkFault.TheVariants as faults
+use Rattle.fml_link.specs.declared.fault.LinkRefusal.{LinkRefusal}
+use Rattle.fml_link.specs.declared.fault.LinkRefusal.TheVariants as refusals
 
 -- the most bytes of a file
 abbrev pub max_bytes : ℕ
@@ -20,24 +20,23 @@ abbrev pub max_files : ℕ
 max_files = 64
 
 -- a value that nests at most 64 deep
-abbrev pub shallow_tree : Seq ℕ → Option Json → Result Json LinkFault
-shallow_tree name None = Err (faults.NotJson name)
-shallow_tree name (Some x) = if nat_le (depth x) max_depth then Ok x else Err (faults.NotJson name)
+abbrev pub shallow_tree : Seq ℕ → Option Json → Result Json LinkRefusal
+shallow_tree name None = Err (refusals.NotJson name)
+shallow_tree name (Some x) = if nat_le (depth x) max_depth then Ok x else Err (refusals.NotJson name)
 
 -- the value of the file of this name
-unfoldable pub file_tree : Seq ℕ → Option (Seq ℕ) → Result Json LinkFault
-file_tree name None = Err (faults.AbsentFile name)
-file_tree name (Some bytes) = if nat_lt max_bytes (length bytes) then Err (faults.FileTooLarge name (length bytes)) else shallow_tree name (tree_of bytes)
+unfoldable pub file_tree : Seq ℕ → Option (Seq ℕ) → Result Json LinkRefusal
+file_tree name None = Err (refusals.AbsentFile name)
+file_tree name (Some bytes) = if nat_lt max_bytes (length bytes) then Err (refusals.FileTooLarge name (length bytes)) else shallow_tree name (tree_of bytes)
 
 -- what is read of the file of this name
-abbrev pub in_file : {A : Type 0} → Seq ℕ → Result A ModuleFault → Result A LinkFault
+abbrev pub in_file : {A : Type 0} → Seq ℕ → Result A ModuleRefusal → Result A LinkRefusal
 in_file name (Ok x) = Ok x
-in_file name (Err (read.BadShape path)) = Err (faults.BadShape name path)
-in_file name (Err read.ImportsUnbuilt) = Err (faults.ImportsUnbuilt name)
-in_file name (Err read.OutOfMemory) = Err faults.OutOfMemory
+in_file name (Err (read.BadShape path)) = Err (refusals.BadShape name path)
+in_file name (Err read.ImportsUnbuilt) = Err (refusals.ImportsUnbuilt name)
 
 -- what the file of this name says
-unfoldable pub file_module : Seq ℕ → Option (Seq ℕ) → Result Module LinkFault
+unfoldable pub file_module : Seq ℕ → Option (Seq ℕ) → Result Module LinkRefusal
 file_module name file = do
   x ← file_tree name file
   in_file name (module_of x)
@@ -46,14 +45,14 @@ abbrev pub is_among : Seq ℕ → Seq (Seq ℕ) → Bool
 is_among name names = list_any (λ n. bytes_eq n name) names
 
 -- the names, and after them the include where it isn't there yet
-abbrev pub with_include : Seq (Seq ℕ) → Seq ℕ → Result (Seq (Seq ℕ)) LinkFault
-with_include names include = if is_among include names then Ok names else if nat_lt (length names) max_files then Ok (names ++ include ∷ []) else Err faults.TooManyFiles
+abbrev pub with_include : Seq (Seq ℕ) → Seq ℕ → Result (Seq (Seq ℕ)) LinkRefusal
+with_include names include = if is_among include names then Ok names else if nat_lt (length names) max_files then Ok (names ++ include ∷ []) else Err refusals.TooManyFiles
 
-abbrev pub with_includes : Seq (Seq ℕ) → Seq (Seq ℕ) → Result (Seq (Seq ℕ)) LinkFault
+abbrev pub with_includes : Seq (Seq ℕ) → Seq (Seq ℕ) → Result (Seq (Seq ℕ)) LinkRefusal
 with_includes names includes = each with_include names includes
 
 -- one more file of the list, where there is one, and then the rest
-abbrev pub with_file : (Seq (Seq ℕ) → Seq Module → Result (Seq Module) LinkFault) → (Seq ℕ → Option (Seq ℕ)) → Seq (Seq ℕ) → Seq Module → Option (Seq ℕ) → Result (Seq Module) LinkFault
+abbrev pub with_file : (Seq (Seq ℕ) → Seq Module → Result (Seq Module) LinkRefusal) → (Seq ℕ → Option (Seq ℕ)) → Seq (Seq ℕ) → Seq Module → Option (Seq ℕ) → Result (Seq Module) LinkRefusal
 with_file rest file names modules None = Ok modules
 with_file rest file names modules (Some name) = do
   m ← file_module name (file name)
@@ -61,10 +60,10 @@ with_file rest file names modules (Some name) = do
   rest longer (modules ++ m ∷ [])
 
 -- what all files of a list say, of which the first files have been read and at most so many have not
-unfoldable pub listed : (Seq ℕ → Option (Seq ℕ)) → ℕ → Seq (Seq ℕ) → Seq Module → Result (Seq Module) LinkFault
+unfoldable pub listed : (Seq ℕ → Option (Seq ℕ)) → ℕ → Seq (Seq ℕ) → Seq Module → Result (Seq Module) LinkRefusal
 listed file zero names modules = Ok modules
 listed file (suc n) names modules = with_file (listed file n) file names modules (slice_get names (length modules))
 
 -- what the files of a root say, in order
-abbrev pub modules_of : (Seq ℕ → Option (Seq ℕ)) → Seq ℕ → Result (Seq Module) LinkFault
+abbrev pub modules_of : (Seq ℕ → Option (Seq ℕ)) → Seq ℕ → Result (Seq Module) LinkRefusal
 modules_of file root = listed file max_files (root ∷ []) []

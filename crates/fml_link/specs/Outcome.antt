@@ -5,36 +5,37 @@ use Rattle.json_tree.specs.Tree.{json_of}
 use Rattle.json_tree.specs.declared.tree.Tree.{Tree}
 use Rattle.fml_link.specs.declared.fault.LinkFault.{LinkFault}
 use Rattle.fml_link.specs.declared.fault.LinkFault.TheVariants as faults
+use Rattle.fml_link.specs.declared.fault.LinkRefusal.{LinkRefusal}
 
 infixl 10 ◌>>=◌
-abbrev pub ◌>>=◌ : {A B : Type 0} → Result A LinkFault → (A → Result B LinkFault) → Result B LinkFault
+abbrev pub ◌>>=◌ : {A B : Type 0} → Result A LinkRefusal → (A → Result B LinkRefusal) → Result B LinkRefusal
 (Ok x) >>= f = f x
 (Err e) >>= f = Err e
 
 -- a thing is added after the other, up to the first fault
-abbrev pub each : {T A : Type 0} → (T → A → Result T LinkFault) → T → List A → Result T LinkFault
+abbrev pub each : {T A : Type 0} → (T → A → Result T LinkRefusal) → T → List A → Result T LinkRefusal
 each add t [] = Ok t
 each add t (a ∷ as') = do
   next ← add t a
   each add next as'
 
--- the fault stands, unless it is one that memory or the shelf gives
-abbrev pub Fails : {A : Type 0} → LinkFault → Result A LinkFault → Type 0
-Fails faults.OutOfMemory linked = Unit {0}
+-- a refusal stands; memory and the shelf are free to give a fault
+abbrev pub Fails : {A : Type 0} → LinkFault → Result A LinkRefusal → Type 0
+Fails (faults.Refused refusal) linked = linked ≡ Err refusal
 Fails faults.ShelfFault linked = Unit {0}
-Fails e linked = linked ≡ Err e
+Fails faults.OutOfMemory linked = Unit {0}
 
 -- what a call returned is what linking gives, unless memory ran out or the shelf failed
-abbrev pub Gives : {A : Type 0} → Result A LinkFault → Result A LinkFault → Type 0
+abbrev pub Gives : {A : Type 0} → Result A LinkFault → Result A LinkRefusal → Type 0
 Gives (Ok x) linked = linked ≡ Ok x
 Gives (Err e) linked = Fails e linked
 
 -- the same of a call that returned a tree of the value
-abbrev pub GivesTree : Result Tree LinkFault → Result Json LinkFault → Type 0
+abbrev pub GivesTree : Result Tree LinkFault → Result Json LinkRefusal → Type 0
 GivesTree (Ok t) linked = linked ≡ Ok (json_of t)
 GivesTree (Err e) linked = Fails e linked
 
 -- the same of a call that changes what the linking is about: this is what it leaves
-abbrev pub Leaves : {A B : Type 0} → B → Result A LinkFault → Result B LinkFault → Type 0
+abbrev pub Leaves : {A B : Type 0} → B → Result A LinkFault → Result B LinkRefusal → Type 0
 Leaves left (Ok x) linked = linked ≡ Ok left
 Leaves left (Err e) linked = Fails e linked

@@ -9,10 +9,10 @@ ghost use Rattle.fml_types.specs.declared.manifest.ObjectDefinition.{ObjectDefin
 ghost use Rattle.fml_link.specs.Linking.{first_found, unknown_in, unknown_of, all_known, all_grounded};
 ghost use Rattle.fml_link.specs.Outcome.{Gives};
 
-use crate::fault::LinkFault;
+use crate::fault::{LinkFault, LinkRefusal};
 use fml_types::{
     ByName, FeatureDefinition, Field, FieldType, GroundFault, Key, Manifest, ObjectDefinition,
-    TypeTable, grounded,
+    TypeTable, Ungrounded, grounded,
 };
 use sequences::Text;
 use std::alloc::Global;
@@ -23,10 +23,10 @@ pub(crate) fn all_known(manifest: &Manifest) -> Result<(), LinkFault>
     ensures not_shelf { ¬ IsErrOf result LinkFault.ShelfFault }
 {
     if let Some(name) = unknown_of_objects(&manifest.types) {
-        return Err(LinkFault::UnknownType(name.clone()?));
+        return Err(LinkFault::Refused(LinkRefusal::UnknownType(name.clone()?)));
     }
     if let Some(name) = unknown_of_features(&manifest.types, &manifest.features) {
-        return Err(LinkFault::UnknownType(name.clone()?));
+        return Err(LinkFault::Refused(LinkRefusal::UnknownType(name.clone()?)));
     }
     Ok(())
 }
@@ -38,8 +38,12 @@ pub(crate) fn all_grounded(alloc: Global, types: &TypeTable) -> Result<(), LinkF
 {
     match grounded(alloc, types) {
         Ok(()) => Ok(()),
-        Err(GroundFault::EndlessObject(name)) => Err(LinkFault::EndlessObject(name)),
-        Err(GroundFault::ObjectTooLarge(name)) => Err(LinkFault::ObjectTooLarge(name)),
+        Err(GroundFault::Refused(Ungrounded::EndlessObject(name))) => Err(LinkFault::Refused(
+            LinkRefusal::EndlessObject(name),
+        )),
+        Err(GroundFault::Refused(Ungrounded::ObjectTooLarge(name))) => Err(LinkFault::Refused(
+            LinkRefusal::ObjectTooLarge(name),
+        )),
         Err(GroundFault::OutOfMemory) => Err(LinkFault::OutOfMemory),
     }
 }

@@ -5,9 +5,9 @@ ghost use Rattle.fml_link.specs.declared.fault.LinkFault.TheVariants.{OutOfMemor
 use sequences::Text;
 use std::alloc::{AllocError, AllocFailed};
 
-/// Why `link` gives no manifest. A file is named as the root or an include names it.
+/// Why files are no manifest for a channel. A file is named as the root or an include names it.
 #[derive(Drop)]
-pub enum LinkFault {
+pub enum LinkRefusal {
     /// There is no file of that name.
     AbsentFile(Text),
     /// The file of that name has so many bytes, more than 4,194,304.
@@ -32,6 +32,13 @@ pub enum LinkFault {
     ObjectTooLarge(Text),
     /// The root doesn't have the channel.
     UnknownChannel,
+}
+
+/// Why `link` gives no manifest.
+#[derive(Drop)]
+pub enum LinkFault {
+    /// The files are none for the channel.
+    Refused(LinkRefusal),
     /// The shelf has failed.
     ShelfFault,
     OutOfMemory,

@@ -8,8 +8,8 @@ ghost use Rattle.fml_link.specs.Files.{shallow_tree, in_file, file_tree, file_mo
 ghost use Rattle.fml_link.specs.Outcome.{Gives, GivesTree, Leaves};
 ghost use Rattle.fml_link.specs.Sound.{IsReadModule};
 
-use crate::fault::LinkFault;
-use fml_reader::{Module, ModuleFault, read_module};
+use crate::fault::{LinkFault, LinkRefusal};
+use fml_reader::{Module, ModuleFault, ModuleRefusal, read_module};
 use host_model::{Shelf, ShelfAnswer};
 use json_tree::{Tree, TreeFault, read};
 use sequences::{Sequence, Text};
@@ -67,7 +67,7 @@ fn add_include(names: &mut Sequence<Text>, include: &Text) -> Result<(), LinkFau
         return Ok(());
     }
     if names.len() >= MAX_FILES {
-        return Err(LinkFault::TooManyFiles);
+        return Err(LinkFault::Refused(LinkRefusal::TooManyFiles));
     }
     names.push(include.clone()?)?;
     Ok(())
@@ -96,8 +96,11 @@ fn file_tree<F: Shelf>(alloc: Global, shelf: &mut F, name: &Text) -> Result<Tree
 {
     match shelf.take(alloc, name.as_str()) {
         ShelfAnswer::Bytes(bytes) => tree_in(alloc, name, &bytes),
-        ShelfAnswer::Absent => Err(LinkFault::AbsentFile(name.clone()?)),
-        ShelfAnswer::TooLarge(length) => Err(LinkFault::FileTooLarge(name.clone()?, length)),
+        ShelfAnswer::Absent => Err(LinkFault::Refused(LinkRefusal::AbsentFile(name.clone()?))),
+        ShelfAnswer::TooLarge(length) => Err(LinkFault::Refused(LinkRefusal::FileTooLarge(
+            name.clone()?,
+            length,
+        ))),
         ShelfAnswer::Failed => Err(LinkFault::ShelfFault),
         ShelfAnswer::OutOfMemory => Err(LinkFault::OutOfMemory),
     }
@@ -110,8 +113,8 @@ fn tree_in(alloc: Global, name: &Text, bytes: &[u8]) -> Result<Tree, LinkFault>
 {
     match read(alloc, bytes) {
         Ok(tree) => Ok(tree),
-        Err(TreeFault::NotJson) => Err(LinkFault::NotJson(name.clone()?)),
-        Err(TreeFault::TooDeep) => Err(LinkFault::NotJson(name.clone()?)),
+        Err(TreeFault::NotJson) => Err(LinkFault::Refused(LinkRefusal::NotJson(name.clone()?))),
+        Err(TreeFault::TooDeep) => Err(LinkFault::Refused(LinkRefusal::NotJson(name.clone()?))),
         Err(TreeFault::OutOfMemory) => Err(LinkFault::OutOfMemory),
     }
 }
@@ -125,8 +128,12 @@ fn module_in(alloc: Global, name: &Text, tree: &Tree) -> Result<Module, LinkFaul
     tree.keeps();
     match read_module(alloc, tree) {
         Ok(module) => Ok(module),
-        Err(ModuleFault::BadShape(path)) => Err(LinkFault::BadShape(name.clone()?, path)),
-        Err(ModuleFault::ImportsUnbuilt) => Err(LinkFault::ImportsUnbuilt(name.clone()?)),
+        Err(ModuleFault::Refused(ModuleRefusal::BadShape(path))) => Err(LinkFault::Refused(
+            LinkRefusal::BadShape(name.clone()?, path),
+        )),
+        Err(ModuleFault::Refused(ModuleRefusal::ImportsUnbuilt)) => Err(LinkFault::Refused(
+            LinkRefusal::ImportsUnbuilt(name.clone()?),
+        )),
         Err(ModuleFault::OutOfMemory) => Err(LinkFault::OutOfMemory),
     }
 }

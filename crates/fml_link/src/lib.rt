@@ -9,6 +9,6 @@ mod files;
 mod linking;
 mod tables;
 
-pub use fault::LinkFault;
+pub use fault::{LinkFault, LinkRefusal};
 pub use linking::link;
 pub use sequences::Text;

@@ -7,7 +7,7 @@ ghost use Rattle.fml_link.specs.Linking.{channel_known, joined, linked, root_cha
 ghost use Rattle.fml_link.specs.Outcome.{Gives};
 
 use crate::checks::{all_grounded, all_known};
-use crate::fault::LinkFault;
+use crate::fault::{LinkFault, LinkRefusal};
 use crate::files::modules_of;
 use crate::tables::defined;
 use fml_reader::Module;
@@ -84,6 +84,6 @@ fn channel_known(is_known: bool) -> Result<(), LinkFault>
     if is_known {
         Ok(())
     } else {
-        Err(LinkFault::UnknownChannel)
+        Err(LinkFault::Refused(LinkRefusal::UnknownChannel))
     }
 }

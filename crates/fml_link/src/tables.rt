@@ -5,7 +5,7 @@ ghost use Rattle.fml_link.specs.Linking.{defined, manifest_with};
 ghost use Rattle.fml_link.specs.Outcome.{Gives, Leaves, each};
 ghost use Rattle.fml_link.specs.Tables.{GivesHeld, held, no_tables, with_enum, with_object, with_feature, with_module, tables_of};
 
-use crate::fault::LinkFault;
+use crate::fault::{LinkFault, LinkRefusal};
 use fml_reader::Module;
 use fml_types::{ByName, EnumDefinition, FeatureDefinition, Manifest, ObjectDefinition, TypeTable};
 use sequences::{Sequence, Text};
@@ -37,7 +37,7 @@ impl TableMaps {
         ensures not_shelf { ¬ IsErrOf result LinkFault.ShelfFault }
     {
         if has_name(&self.enums, &name) || has_name(&self.objects, &name) {
-            return Err(LinkFault::DuplicateName(name));
+            return Err(LinkFault::Refused(LinkRefusal::DuplicateName(name)));
         }
         insert(&mut self.enums, name, definition)?;
         Ok(())
@@ -49,7 +49,7 @@ impl TableMaps {
         ensures not_shelf { ¬ IsErrOf result LinkFault.ShelfFault }
     {
         if has_name(&self.enums, &name) || has_name(&self.objects, &name) {
-            return Err(LinkFault::DuplicateName(name));
+            return Err(LinkFault::Refused(LinkRefusal::DuplicateName(name)));
         }
         insert(&mut self.objects, name, definition)?;
         Ok(())
@@ -61,7 +61,7 @@ impl TableMaps {
         ensures not_shelf { ¬ IsErrOf result LinkFault.ShelfFault }
     {
         if has_name(&self.features, &name) {
-            return Err(LinkFault::DuplicateName(name));
+            return Err(LinkFault::Refused(LinkRefusal::DuplicateName(name)));
         }
         insert(&mut self.features, name, definition)?;
         Ok(())

@@ -15,12 +15,12 @@ use Rattle.fml_types.specs.declared.manifest.EnumDefinition.{EnumDefinition}
 use Rattle.fml_types.specs.declared.manifest.Field.{Field}
 use Rattle.fml_types.specs.declared.manifest.ObjectDefinition.{ObjectDefinition}
 use Rattle.fml_types.specs.declared.manifest.TypeTable.{TypeTable}
-use Rattle.fml_value.specs.Entries.{with_entry}
+use Rattle.fml_value.specs.Entries.{with_entry, replaced}
 use Rattle.fml_value.specs.Fits.{type_of_field}
 use Rattle.fml_value.specs.Kinds.{is_object}
 use Rattle.fml_value.specs.Takes.{takes}
 use Rattle.fml_value.specs.Typed.{TypedValue, truth, whole, list, present, object, no_entries, entries_of}
-use Rattle.fml_merge.specs.Overlay.{fields_of, held, inside, laid, items_laid, item_type, members_laid, overlay_with, pairs_in, put, replaced, text_value, type_under, with_member}
+use Rattle.fml_merge.specs.Overlay.{fields_of, held, inside, laid, items_laid, item_type, members_laid, overlay_with, pairs_in, put, text_value, type_under, with_member}
 use Rattle.fml_merge.specs.Zero.{initial, with_default, zero_named, zero_within}
 use Rattle.fml_merge.specs.Merging.{field_laid, object_fields, zero_fields}
 use Rattle.fml_merge.specs.Highest.{highest, highest_type}

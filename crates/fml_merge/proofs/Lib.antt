@@ -1,5 +1,6 @@
 pub mod Merge
 pub mod Measures
+pub mod Placing
 pub mod Pieces
 pub mod Firsts
 pub mod Typing
@@ -7,3 +8,4 @@ pub mod Results
 pub mod Fields
 pub mod Levels
 pub mod Variables
+pub mod ByType

@@ -12,13 +12,13 @@ use Rattle.json_tree.specs.declared.tree.Tree.{Tree}
 use Rattle.fml_types.specs.Named.{IsBelow, AreRising, found, has_name}
 use Rattle.fml_types.specs.Shape.{Shape}
 use Rattle.fml_types.specs.declared.manifest.TypeTable.{TypeTable}
-use Rattle.fml_value.specs.Entries.{beside, with_entry}
+use Rattle.fml_value.specs.Entries.{beside, with_entry, replaced}
 use Rattle.fml_value.specs.Takes.{takes}
 use Rattle.fml_value.specs.Typed.{TypedValue}
 use Rattle.fml_value.specs.TypedOf.{entry_of}
 use Rattle.fml_value.specs.declared.value.Value.{Value}
-use Rattle.fml_value.proofs.Ordered.{rising_with}
-use Rattle.fml_merge.specs.Overlay.{laid, members_laid, put, replaced, with_member}
+use Rattle.fml_value.proofs.Ordered.{rising_with, replaced_rising}
+use Rattle.fml_merge.specs.Overlay.{laid, members_laid, put, with_member}
 use Rattle.fml_merge.specs.Merging.{member_laid, is_below, lower, upper, named, unnamed}
 
 -- ---- how names compare
@@ -81,22 +81,6 @@ put_at k v e es same = ap (λ b. if (b || has_name k es) then (if b then (k, v) 
 
 put_below : (k : List ℕ) (v : TypedValue) (es : List (List ℕ × TypedValue)) → IsBelow k es → put k v es ≡ (k, v) ∷ es
 put_below k v es below = ap (λ b. if b then replaced k v es else with_entry k v es) (none_below k es below) ∙ with_below k v es below
-
-replaced_below : (a k : List ℕ) (v : TypedValue) (es : List (List ℕ × TypedValue)) → IsBelow a es → IsBelow a (replaced k v es)
-replaced_below a k v [] below = tt
-replaced_below a k v (e ∷ es) below =
-    elim (bytes_eq e.0 k) as (λ b. bytes_eq e.0 k ≡ b → IsBelow a (if b then (k, v) ∷ es else e ∷ replaced k v es)) [
-      | true ↦ λ same. (subst (λ n. slice_cmp nat_cmp a n ≡ Less) ((bytes_decides e.0 k).0 same) below.0, below.1)
-      | false ↦ λ other. (below.0, replaced_below a k v es below.1)
-    ] refl
-
-replaced_rising : (k : List ℕ) (v : TypedValue) (es : List (List ℕ × TypedValue)) → AreRising es → AreRising (replaced k v es)
-replaced_rising k v [] rising = tt
-replaced_rising k v (e ∷ es) rising =
-    elim (bytes_eq e.0 k) as (λ b. bytes_eq e.0 k ≡ b → AreRising (if b then (k, v) ∷ es else e ∷ replaced k v es)) [
-      | true ↦ λ same. (subst (λ n. IsBelow n es) ((bytes_decides e.0 k).0 same) rising.0, rising.1)
-      | false ↦ λ other. (replaced_below e.0 k v es rising.0, replaced_rising k v es rising.1)
-    ] refl
 
 pub put_rising : (k : List ℕ) (v : TypedValue) (es : List (List ℕ × TypedValue)) → AreRising es → AreRising (put k v es)
 put_rising k v es rising = elim (has_name k es) as (λ b. AreRising (if b then replaced k v es else with_entry k v es)) [ true ↦ replaced_rising k v es rising | false ↦ rising_with k v es rising ]

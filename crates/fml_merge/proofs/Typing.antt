@@ -15,7 +15,7 @@ use Rattle.fml_types.specs.declared.manifest.EnumDefinition.{EnumDefinition}
 use Rattle.fml_types.specs.declared.manifest.Field.{Field}
 use Rattle.fml_types.specs.declared.manifest.ObjectDefinition.{ObjectDefinition}
 use Rattle.fml_types.specs.declared.manifest.TypeTable.{TypeTable}
-use Rattle.fml_value.specs.Entries.{beside, with_entry}
+use Rattle.fml_value.specs.Entries.{beside, with_entry, replaced}
 use Rattle.fml_value.specs.Fits.{is_option, type_of_entry, type_of_field}
 use Rattle.fml_value.specs.HasType as having
 use Rattle.fml_value.specs.HasType.{HasType, HaveType, AreKeys, AreEntries, AreFields, OfObject}
@@ -25,7 +25,7 @@ use Rattle.fml_value.specs.Typed.{TypedValue, truth, whole, absent, present, lis
 use Rattle.fml_types.specs.Sound.{IsSoundTable, IsSoundType, IsSoundField, AreSoundFields, unknown_key, unknown_name}
 use Rattle.fml_value.proofs.OneValue.{all_found}
 use Rattle.fml_value.proofs.Taken.{of-object}
-use Rattle.fml_merge.specs.Overlay.{pairs_of, pairs_in, fields_of, held, inside, text_value, item_type, type_under, value_with, replaced, put, with_member, laid, items_laid, members_laid, overlay_with}
+use Rattle.fml_merge.specs.Overlay.{pairs_of, pairs_in, fields_of, held, inside, text_value, item_type, type_under, value_with, put, with_member, laid, items_laid, members_laid, overlay_with}
 use Rattle.fml_merge.proofs.Merge.{put_rising}
 
 -- ---- small facts

@@ -4,3 +4,4 @@ pub mod Features
 pub mod Faults
 pub mod Merging
 pub mod Highest
+pub mod Laws

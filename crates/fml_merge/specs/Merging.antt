@@ -55,6 +55,10 @@ types_of types member.Nothing name = None
 types_of types (member.Entries key of) name = type_of_entry types (key_of key.now) (shape_of of.now) name
 types_of types (member.Fields fields) name = type_of_field fields.now name
 
+-- a member laid over the entries: over the one of its name, or over zero where there is none
+abbrev pub named_laid : (Shape → TypedValue) → TypeTable → (Seq ℕ → Maybe Shape) → Seq ℕ → Json → Seq (Seq ℕ × TypedValue) → Seq (Seq ℕ × TypedValue)
+named_laid zeros types type_of name x es = with_member zeros (λ t. takes types t x) (λ t v. laid zeros types t v x) name (type_of name) es
+
 -- a member laid over the entry of its name, where there is one
 abbrev pub member_laid : (Shape → TypedValue) → TypeTable → (Seq ℕ → Maybe Shape) → Seq ℕ → Json → Seq (Seq ℕ × TypedValue) → Seq (Seq ℕ × TypedValue)
 member_laid zeros types type_of name x = with_member zeros (λ t. takes types t x) (λ t v. laid zeros types t v x) name (type_of name)

@@ -1,5 +1,5 @@
 -- A tree laid over a value of a type.
-use Rattle.std.specs.Prelude.{ℕ, Bool, List as Seq, [], ◌∷◌, Option as Maybe, Some, None, bytes_eq, unwrap_or, if◌then◌else◌}
+use Rattle.std.specs.Prelude.{ℕ, Bool, List as Seq, [], ◌∷◌, Option as Maybe, Some, None, unwrap_or, if◌then◌else◌}
 use Rattle.json_tree.specs.Json as json
 use Rattle.json_tree.specs.Json.{Json}
 use Rattle.fml_types.specs.Named.{found, has_name}
@@ -8,7 +8,7 @@ use Rattle.fml_types.specs.Shape.{Shape}
 use Rattle.fml_types.specs.declared.manifest.Field.{Field}
 use Rattle.fml_types.specs.declared.manifest.ObjectDefinition.{ObjectDefinition}
 use Rattle.fml_types.specs.declared.manifest.TypeTable.{TypeTable}
-use Rattle.fml_value.specs.Entries.{with_entry}
+use Rattle.fml_value.specs.Entries.{with_entry, replaced}
 use Rattle.fml_value.specs.Fits.{type_of_entry, type_of_field}
 use Rattle.fml_value.specs.Takes.{takes}
 use Rattle.fml_value.specs.Typed.{TypedValue, truth, whole, text, absent, present, list, map, variant, object, TypedItems, no_items, item, TypedEntries, no_entries, entry, entries_of}
@@ -57,11 +57,6 @@ type_under types t name = None
 abbrev pub value_with : Shape → Seq (Seq ℕ × TypedValue) → TypedValue
 value_with (shape.map k t) es = map (entries_of es)
 value_with t es = object (entries_of es)
-
--- the entries with another value under a name that they have
-abbrev pub replaced : Seq ℕ → TypedValue → Seq (Seq ℕ × TypedValue) → Seq (Seq ℕ × TypedValue)
-replaced name v [] = []
-replaced name v (e ∷ es) = if bytes_eq e.0 name then (name, v) ∷ es else e ∷ replaced name v es
 
 -- the entries with this value under the name, which stands at its place in order where it is new
 abbrev pub put : Seq ℕ → TypedValue → Seq (Seq ℕ × TypedValue) → Seq (Seq ℕ × TypedValue)

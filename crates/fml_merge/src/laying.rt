@@ -1,5 +1,5 @@
 // Trees laid over values, and the zeros that they need.
-ghost use Rattle.std.specs.Prelude.{◌≡◌, ◌≤◌, [], IfOk, map, option_map};
+ghost use Rattle.std.specs.Prelude.{◌≡◌, ◌≤◌, [], IfOk, OnOk, map, option_map};
 ghost use Rattle.std.specs.Option.{ForSome, option_to_list};
 ghost use Rattle.fml_types.specs.Shape.{Shape};
 ghost use Rattle.fml_types.specs.Shapes.{shape_of};
@@ -15,12 +15,12 @@ ghost use Rattle.fml_merge.specs.Overlay.{laid, items_laid, members_laid, type_u
 ghost use Rattle.fml_merge.specs.Highest.{zero_levels};
 ghost use Rattle.fml_merge.specs.Zero.{least, object_zero, initial, with_default, zero_within};
 ghost use Rattle.fml_merge.specs.Zero as zeros;
-ghost use Rattle.fml_merge.specs.Merging.{base_value, inside_laid, types_of, member_laid, field_laid};
+ghost use Rattle.fml_merge.specs.Merging.{base_value, inside_laid, types_of, named_laid, member_laid, field_laid};
 
 use crate::moving::{move_below, push_entry, take_named};
 use crate::parts::{
-    Base, MemberTypes, entries_in, held, item_type, text_value, type_of, types_in, value_with,
-    zero_fields,
+    Base, MemberTypes, entries_in, gains_names, held, item_type, text_value, type_of, types_in,
+    value_with, zero_fields,
 };
 use fml_types::{ByName, EnumDefinition, Field, FieldType, InnerType, TypeTable};
 use fml_value::{Entries, InnerValue, Value, Values, takes};
@@ -213,9 +213,83 @@ fn field_base(
     }
 }
 
-/// The members laid over the entries of their names, or over zero where there is none.
+/// The members laid over the entries of their names, or over zero where there is none. Each costs a
+/// search for its name; only a map that gains two names or more is gone through.
 #[cycle(laying)]
 pub(crate) fn lay_members(
+    alloc: Global,
+    types: &TypeTable,
+    levels: usize,
+    member_types: MemberTypes,
+    base: Entries,
+    members: &Members,
+) -> Result<Entries, AllocError>
+    ensures { IfOk result (λ es. es ≡ members_laid (zeros.zero_within types.now levels) types.now (types_of types.now member_types.entry) base (members_of members.now)) }
+{
+    if gains_names(types, member_types, &base, members) {
+        merge_members(alloc, types, levels, member_types, base, members)
+    } else {
+        lay_in_place(alloc, types, levels, member_types, base, members)
+    }
+}
+
+// Each member laid over the entry of its name, which stays in its place.
+#[cycle(laying)]
+fn lay_in_place(
+    alloc: Global,
+    types: &TypeTable,
+    levels: usize,
+    member_types: MemberTypes,
+    base: Entries,
+    members: &Members,
+) -> Result<Entries, AllocError>
+    ensures { IfOk result (λ es. es ≡ members_laid (zeros.zero_within types.now levels) types.now (types_of types.now member_types.entry) base (members_of members.now)) }
+{
+    let pairs = members.as_slice();
+    let mut entries = base;
+    for (name, tree) in pairs {
+        lay_named(alloc, types, levels, member_types, &mut entries, name, tree)?;
+    }
+    Ok(entries)
+}
+
+// A member laid over the entry of its name, or over zero where there is none, where its name has a
+// type that takes its tree.
+#[cycle(laying)]
+fn lay_named(
+    alloc: Global,
+    types: &TypeTable,
+    levels: usize,
+    member_types: MemberTypes,
+    entries: &mut Entries,
+    name: &Text,
+    tree: &Tree,
+) -> Result<(), AllocError>
+    ensures { OnOk result (entries.new ≡ named_laid (zeros.zero_within types.now levels) types.now (types_of types.now member_types.entry) name.now (json_of tree.now) entries.old) }
+{
+    let Some(member_type) = type_of(types, member_types, name.as_str()) else {
+        return Ok(());
+    };
+    if !takes(types, member_type, tree) {
+        return Ok(());
+    }
+    match entries.replace(name.as_str(), Value::Absent) {
+        Some(base) => {
+            let value = lay(alloc, types, levels, member_type, Base::Made(base), tree)?;
+            entries.replace(name.as_str(), value);
+            Ok(())
+        }
+        None => {
+            let value = lay(alloc, types, levels, member_type, Base::Zero(levels), tree)?;
+            entries.insert(name.clone()?, value)?;
+            Ok(())
+        }
+    }
+}
+
+// The members and the entries gone through side by side, so that each entry moves at most once.
+#[cycle(laying)]
+fn merge_members(
     alloc: Global,
     types: &TypeTable,
     levels: usize,

@@ -6,6 +6,7 @@
 
 mod defaults;
 mod features;
+mod laws;
 mod laying;
 mod moving;
 mod overlays;
@@ -13,4 +14,5 @@ mod parts;
 
 pub use defaults::{DefaultFault, check_defaults};
 pub use features::{default_of, overlay_feature};
+pub use laws::{laying_by_type, values_have_types, zeros_by_type};
 pub use overlays::{overlay, zero};

@@ -15,7 +15,8 @@ ghost use Rattle.fml_merge.specs.Merging as merging;
 ghost use Rattle.fml_merge.specs.Zero as zeros;
 
 use fml_types::{ByName, Field, FieldType, Key, TypeTable};
-use fml_value::{Entries, Value, is_key};
+use fml_value::{Entries, Value, is_key, takes};
+use json_tree::{Members, Tree};
 use sequences::Text;
 use std::alloc::Global;
 
@@ -76,6 +77,41 @@ pub(crate) fn type_of<'a>(
             Some(field) => Some(&field.field_type),
             None => None,
         },
+    }
+}
+
+/// Whether a map gains two names or more of the members.
+pub(crate) fn gains_names(
+    types: &TypeTable,
+    member_types: MemberTypes,
+    entries: &Entries,
+    members: &Members,
+) -> bool {
+    let mut gains_one = false;
+    for (name, tree) in members.as_slice() {
+        if is_new(types, member_types, entries, name.as_str(), tree) {
+            if gains_one {
+                return true;
+            }
+            gains_one = true;
+        }
+    }
+    false
+}
+
+// Whether a map gains the name, whose type takes the tree.
+fn is_new(
+    types: &TypeTable,
+    member_types: MemberTypes,
+    entries: &Entries,
+    name: &str,
+    tree: &Tree,
+) -> bool {
+    match member_types {
+        MemberTypes::Entries(key, of) => {
+            entries.get(name).is_none() && is_key(types, key, name) && takes(types, of, tree)
+        }
+        _ => false,
     }
 }
 

@@ -1,7 +1,9 @@
 -- Features and the entries of their defaults.
-use Rattle.std.specs.Prelude.{ℕ, ◌==◌, ◌&&◌, Bool, true, false, List as Seq, [], ◌∷◌, ◌++◌, Option, Some, None, Result, Ok, codes, if◌then◌else◌}
+use Rattle.std.specs.Prelude.{ℕ, ◌==◌, ◌&&◌, Bool, true, false, List as Seq, [], ◌∷◌, ◌++◌, Option, Some, None, option_map, Result, Ok, codes}
 use Rattle.std.specs.List.{slice_split}
-use Rattle.std.specs.Str.{is_utf8}
+use Rattle.std.specs.BTreeSet.{insert_key}
+use Rattle.std.specs.Cmp.Lexicographic.{slice_cmp}
+use Rattle.std.specs.Ordering.{nat_cmp}
 use Rattle.json_tree.specs.Json.{Json, list, object, get}
 use Rattle.plain_text.specs.Names.{is_name}
 use Rattle.fml_types.specs.TypeTexts.{without_front, without_end}
@@ -11,9 +13,9 @@ use Rattle.fml_reader.specs.Outcome.{◌>>=◌, bad}
 use Rattle.fml_reader.specs.Values.{object_in, text_in, truth_in, value_in}
 use Rattle.fml_reader.specs.Fields.{fields_of}
 use Rattle.fml_reader.specs.Walks.{each_item, each_member, required, optional}
-use Rattle.fml_reader.specs.declared.fault.ModuleFault.{ModuleFault}
+use Rattle.fml_reader.specs.declared.fault.ModuleRefusal.{ModuleRefusal}
 
-unfoldable pub texts_of : Json → Result (Seq (Seq ℕ)) ModuleFault
+unfoldable pub texts_of : Json → Result (Seq (Seq ℕ)) ModuleRefusal
 texts_of (list xs) = each_item text_in 0 xs
 texts_of x = bad
 
@@ -24,25 +26,30 @@ is_comma x = x == 44
 -- a name, unless nothing is left of it without the spaces around it
 abbrev pub kept_name : Seq ℕ → Seq (Seq ℕ)
 kept_name [] = []
-kept_name (x ∷ s) = if is_utf8 (x ∷ s) then (x ∷ s) ∷ [] else []
+kept_name (x ∷ s) = (x ∷ s) ∷ []
 
 abbrev pub kept_names : Seq (Seq ℕ) → Seq (Seq ℕ)
 kept_names [] = []
 kept_names (piece ∷ pieces) = kept_name (without_front (without_end piece)) ++ kept_names pieces
 
--- the names that commas divide; each piece of a text in UTF-8 is in UTF-8
+-- the names that commas divide
 abbrev pub names_in : Seq ℕ → Seq (Seq ℕ)
 names_in s = kept_names (slice_split is_comma s)
 
-abbrev pub names_of : Json → Result (Option (Seq (Seq ℕ))) ModuleFault
+abbrev pub names_of : Json → Result (Option (Seq (Seq ℕ))) ModuleRefusal
 names_of x = do
   s ← text_in x
   Ok (Some (names_in s))
 
-abbrev pub listed_of : Json → Result (Option (Seq (Seq ℕ))) ModuleFault
+abbrev pub listed_of : Json → Result (Option (Seq (Seq ℕ))) ModuleRefusal
 listed_of x = do
   names ← texts_of x
   Ok (Some names)
+
+-- the names that are held in order, and these at their places, each once
+abbrev pub in_order : Seq (Seq ℕ) → Seq (Seq ℕ) → Seq (Seq ℕ)
+in_order held [] = held
+in_order held (name ∷ names) = in_order (insert_key (slice_cmp nat_cmp) held name) names
 
 -- the names of both keys; where neither is there the entry is for every channel
 abbrev pub both : Option (Seq (Seq ℕ)) → Option (Seq (Seq ℕ)) → Option (Seq (Seq ℕ))
@@ -50,19 +57,19 @@ both None listed = listed
 both (Some names) None = Some names
 both (Some names) (Some listed) = Some (names ++ listed)
 
-unfoldable pub entry_of : Json → Result DefaultEntry ModuleFault
+unfoldable pub entry_of : Json → Result DefaultEntry ModuleRefusal
 entry_of x = do
   o ← object_in x
   names ← optional (codes "channel") names_of None (get (codes "channel") x)
   listed ← optional (codes "channels") listed_of None (get (codes "channels") x)
   value ← required (codes "value") value_in (get (codes "value") x)
-  Ok (record { channels = both names listed; value = value })
+  Ok (record { channels = option_map (in_order []) (both names listed); value = value })
 
-unfoldable pub entries_of : Json → Result (Seq DefaultEntry) ModuleFault
+unfoldable pub entries_of : Json → Result (Seq DefaultEntry) ModuleRefusal
 entries_of (list xs) = each_item entry_of 0 xs
 entries_of x = bad
 
-unfoldable pub feature_of : Json → Result FeatureDefinition ModuleFault
+unfoldable pub feature_of : Json → Result FeatureDefinition ModuleRefusal
 feature_of x = do
   o ← object_in x
   variables ← optional (codes "variables") fields_of [] (get (codes "variables") x)
@@ -70,6 +77,6 @@ feature_of x = do
   allows ← optional (codes "allow-coenrollment") truth_in false (get (codes "allow-coenrollment") x)
   Ok (record { variables = variables; defaults = defaults; allows_coenrollment = allows })
 
-unfoldable pub features_of : Json → Result (Seq (Seq ℕ × FeatureDefinition)) ModuleFault
+unfoldable pub features_of : Json → Result (Seq (Seq ℕ × FeatureDefinition)) ModuleRefusal
 features_of (object ms) = each_member is_name feature_of ms
 features_of x = bad

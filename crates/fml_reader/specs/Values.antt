@@ -5,29 +5,29 @@ use Rattle.json_tree.specs.Bytes.{text_of}
 use Rattle.json_tree.specs.declared.tree.Tree.{Tree}
 use Rattle.fml_reader.specs.Trees.{tree_from}
 use Rattle.fml_reader.specs.Outcome.{bad}
-use Rattle.fml_reader.specs.declared.fault.ModuleFault.{ModuleFault}
-use Rattle.fml_reader.specs.declared.fault.ModuleFault.TheVariants as faults
+use Rattle.fml_reader.specs.declared.fault.ModuleRefusal.{ModuleRefusal}
+use Rattle.fml_reader.specs.declared.fault.ModuleRefusal.TheVariants as refusals
 
-abbrev pub text_in : Json → Result (Seq ℕ) ModuleFault
+abbrev pub text_in : Json → Result (Seq ℕ) ModuleRefusal
 text_in (text s) = Ok s
 text_in x = bad
 
-abbrev pub truth_in : Json → Result Bool ModuleFault
+abbrev pub truth_in : Json → Result Bool ModuleRefusal
 truth_in (truth b) = Ok b
 truth_in x = bad
 
-abbrev pub object_in : Json → Result (Unit {0}) ModuleFault
+abbrev pub object_in : Json → Result (Unit {0}) ModuleRefusal
 object_in (object ms) = Ok tt
 object_in x = bad
 
 -- nothing may be imported
-abbrev pub imports_of : Json → Result (Unit {0}) ModuleFault
+abbrev pub imports_of : Json → Result (Unit {0}) ModuleRefusal
 imports_of (list no_items) = Ok tt
-imports_of (list (item x xs)) = Err faults.ImportsUnbuilt
+imports_of (list (item x xs)) = Err refusals.ImportsUnbuilt
 imports_of x = bad
 
 -- a default, whose text has at most 65,536 bytes
-abbrev pub value_in : Json → Result Tree ModuleFault
+abbrev pub value_in : Json → Result Tree ModuleRefusal
 value_in x = if nat_le (length (text_of x)) 65536 then Ok (tree_from x) else bad
 
 -- 1 to 80 bytes

@@ -3,19 +3,27 @@ ghost use Rattle.std.specs.Prelude.{◌≡◌, ◌∷◌, ◌++◌, [], IfOk};
 ghost use Rattle.fml_reader.specs.Outcome.{IsUnder};
 ghost use Rattle.fml_reader.specs.declared.fault.ModuleFault.{ModuleFault as Fault};
 ghost use Rattle.fml_reader.specs.declared.fault.ModuleFault.TheVariants.{OutOfMemory};
+ghost use Rattle.fml_reader.specs.declared.fault.ModuleRefusal.{ModuleRefusal as Refusal};
 
 use sequences::Text;
 use std::alloc::{AllocError, AllocFailed, Global};
 
-/// Why `read_module` gives no module.
+/// Why a tree is no module that is read.
 #[derive(Drop)]
-pub enum ModuleFault {
+pub enum ModuleRefusal {
     /// The first place of the walk that doesn't have its shape: the keys and the indexes from the
     /// root to it, each after a `/`. The root has the empty path, a bad key that of its member, and
     /// a missing part the path that it would have.
     BadShape(Text),
     /// The module imports other manifests.
     ImportsUnbuilt,
+}
+
+/// Why `read_module` gives no module.
+#[derive(Drop)]
+pub enum ModuleFault {
+    /// The tree is none that is read.
+    Refused(ModuleRefusal),
     OutOfMemory,
 }
 
@@ -37,9 +45,10 @@ impl<T: Drop> From<AllocFailed<T>> for ModuleFault {
 
 /// This place doesn't have its shape. It takes no memory.
 pub(crate) fn bad(alloc: Global) -> ModuleFault
-    ensures { result ≡ Fault.BadShape [] }
+    ensures { result ≡ Fault.Refused (Refusal.BadShape []) }
 {
-    ModuleFault::BadShape(Text::from_string(String::new(alloc)))
+    let path = Text::from_string(String::new(alloc));
+    ModuleFault::Refused(ModuleRefusal::BadShape(path))
 }
 
 /// What was read of the value of this key: a fault's path goes through the key.
@@ -52,11 +61,13 @@ pub(crate) fn under<T: Drop>(
 {
     match read {
         Ok(value) => Ok(value),
-        Err(ModuleFault::BadShape(path)) => {
+        Err(ModuleFault::Refused(ModuleRefusal::BadShape(path))) => {
             let path = longer(alloc, key, path.as_str())?;
-            Err(ModuleFault::BadShape(path))
+            Err(ModuleFault::Refused(ModuleRefusal::BadShape(path)))
         }
-        Err(ModuleFault::ImportsUnbuilt) => Err(ModuleFault::ImportsUnbuilt),
+        Err(ModuleFault::Refused(ModuleRefusal::ImportsUnbuilt)) => {
+            Err(ModuleFault::Refused(ModuleRefusal::ImportsUnbuilt))
+        }
         Err(ModuleFault::OutOfMemory) => Err(ModuleFault::OutOfMemory),
     }
 }

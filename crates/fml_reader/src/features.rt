@@ -4,7 +4,7 @@ ghost use Rattle.json_tree.specs.Json.{items_of, members_of};
 ghost use Rattle.json_tree.specs.Tree.{json_of, member_of};
 ghost use Rattle.plain_text.specs.Names.{is_name};
 ghost use Rattle.fml_types.specs.TypeTexts.{without_front, without_end};
-ghost use Rattle.fml_reader.specs.Features.{texts_of, is_comma, kept_name, kept_names, names_in, names_of, listed_of, both, entry_of, entries_of, feature_of, features_of};
+ghost use Rattle.fml_reader.specs.Features.{texts_of, is_comma, kept_name, kept_names, names_in, in_order, names_of, listed_of, both, entry_of, entries_of, feature_of, features_of};
 ghost use Rattle.fml_reader.specs.Fields.{fields_of};
 ghost use Rattle.fml_reader.specs.Outcome.{Gives, under};
 ghost use Rattle.fml_reader.specs.Values.{text_in, truth_in, value_in};
@@ -12,7 +12,7 @@ ghost use Rattle.fml_reader.specs.Walks.{each_item, each_member, keyed, required
 
 use crate::fault::{ModuleFault, bad, under};
 use crate::fields::fields_of;
-use crate::names::names_in;
+use crate::names::{in_order, names_in};
 use crate::values::{object_in, text_in, texts_of, truth_in, value_in};
 use fml_types::{ByName, DefaultEntry, FeatureDefinition, Field};
 use itoa::Buffer;
@@ -25,7 +25,7 @@ fn names_of(alloc: Global, tree: &Tree) -> Result<Option<Sequence<Text>>, Module
     ensures { Gives (λ o. o) result (names_of (json_of tree.now)) }
 {
     let text = text_in(alloc, tree)?;
-    let names = names_in(alloc, text.as_str())?;
+    let names = names_in(alloc, &text)?;
     Ok(Some(names))
 }
 
@@ -52,6 +52,21 @@ fn listed_at(alloc: Global, tree: Option<&Tree>) -> Result<Option<Sequence<Text>
 {
     match tree {
         Some(tree) => under(alloc, "channels", listed_of(alloc, tree)),
+        None => Ok(None),
+    }
+}
+
+/// The names of both keys, in order and each once.
+fn channels_of(
+    alloc: Global,
+    names: Option<Sequence<Text>>,
+    listed: Option<Sequence<Text>>,
+) -> Result<Option<Sequence<Text>>, AllocError>
+    ensures { IfOk result (λ o. o ≡ option_map (in_order []) (both names listed)) }
+{
+    let all = both(names, listed)?;
+    match all {
+        Some(all) => Ok(Some(in_order(alloc, all)?)),
         None => Ok(None),
     }
 }
@@ -101,7 +116,7 @@ fn entry_of(alloc: Global, tree: &Tree) -> Result<DefaultEntry, ModuleFault>
     let names = names_at(alloc, tree.get("channel"))?;
     let listed = listed_at(alloc, tree.get("channels"))?;
     let value = value_at(alloc, tree.get("value"))?;
-    let channels = both(names, listed)?;
+    let channels = channels_of(alloc, names, listed)?;
     Ok(DefaultEntry { channels, value })
 }
 

@@ -11,6 +11,6 @@ mod module;
 mod names;
 mod values;
 
-pub use fault::ModuleFault;
+pub use fault::{ModuleFault, ModuleRefusal};
 pub use module::{Module, read_module};
 pub use sequences::Text;

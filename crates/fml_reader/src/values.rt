@@ -8,13 +8,14 @@ ghost use Rattle.fml_reader.specs.Outcome.{Gives, under};
 ghost use Rattle.fml_reader.specs.Values.{text_in, truth_in, object_in, imports_of, value_in, is_key};
 ghost use Rattle.fml_reader.specs.Walks.{each_item};
 
-use crate::fault::{ModuleFault, bad, under};
+use crate::fault::{ModuleFault, ModuleRefusal, bad, under};
 use itoa::Buffer;
-use json_tree::{Tree, write};
+use json_length::length_within;
+use json_tree::Tree;
 use sequences::{Sequence, Text};
-use std::alloc::{AllocError, Global};
+use std::alloc::Global;
 
-const MAX_VALUE_LEN: usize = 65_536;
+const MAX_VALUE_LEN: u128 = 65_536;
 
 const MAX_KEY_LEN: usize = 80;
 
@@ -60,7 +61,7 @@ fn no_imports(trees: &[Tree]) -> Result<(), ModuleFault>
 {
     match trees {
         [] => Ok(()),
-        [..] => Err(ModuleFault::ImportsUnbuilt),
+        [..] => Err(ModuleFault::Refused(ModuleRefusal::ImportsUnbuilt)),
     }
 }
 
@@ -69,18 +70,18 @@ fn no_imports(trees: &[Tree]) -> Result<(), ModuleFault>
 pub(crate) fn value_in(alloc: Global, tree: &Tree) -> Result<Tree, ModuleFault>
     ensures { Gives (λ t. t) result (value_in (json_of tree.now)) }
 {
-    if is_short(alloc, tree)? {
+    if is_short(tree) {
         Ok(tree.clone()?)
     } else {
         Err(bad(alloc))
     }
 }
 
-fn is_short(alloc: Global, tree: &Tree) -> Result<bool, AllocError>
-    ensures { IfOk result (λ b. b ≡ nat_le (length (text_of (json_of tree.now))) 65536) }
+/// Whether the tree's compact text, which isn't written, has at most 65,536 bytes.
+fn is_short(tree: &Tree) -> bool
+    ensures { result ≡ nat_le (length (text_of (json_of tree.now))) 65536 }
 {
-    let text = write(alloc, tree)?;
-    Ok(text.as_str().len() <= MAX_VALUE_LEN)
+    length_within(tree, MAX_VALUE_LEN).is_some()
 }
 
 /// Whether the key has 1 to 80 bytes.

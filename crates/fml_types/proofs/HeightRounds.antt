@@ -18,7 +18,7 @@ suc_up_to true m n k e = omega (arith, e)
 suc_up_to false m n k e = omega arith
 
 -- one round more makes them agree one further
-next_agrees : (g : List (List Part)) (k : ℕ) (v : ℕ → ℕ) → AgreeUpTo g k v → AgreeUpTo g (suc k) (next_heights g v)
+pub next_agrees : (g : List (List Part)) (k : ℕ) (v : ℕ → ℕ) → AgreeUpTo g k v → AgreeUpTo g (suc k) (next_heights g v)
 next_agrees g k v agree i =
     let h = height_up_to g k in
     let r = reached_all g v in

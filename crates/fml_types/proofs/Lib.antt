@@ -13,3 +13,4 @@ pub mod Capping
 pub mod Reaching
 pub mod Mentioned
 pub mod Raising
+pub mod Needing

@@ -9,6 +9,8 @@ use Rattle.fml_types.specs.declared.manifest.TypeTable.{TypeTable}
 use Rattle.fml_types.specs.declared.manifest.ObjectDefinition.{ObjectDefinition}
 use Rattle.fml_types.specs.declared.grounding.GroundFault.{GroundFault}
 use Rattle.fml_types.specs.declared.grounding.GroundFault.TheVariants as faults
+use Rattle.fml_types.specs.declared.grounding.Ungrounded.{Ungrounded}
+use Rattle.fml_types.specs.declared.grounding.Ungrounded.TheVariants.{EndlessObject, ObjectTooLarge}
 
 -- the fields of the object at a place
 abbrev pub parts_at : List (List Part) → ℕ → List Part
@@ -92,15 +94,16 @@ endless os = first_above 32 (height_up_to (graph_of os) 33) 0 os
 abbrev pub too_large : List (List ℕ × ObjectDefinition) → Option (List ℕ)
 too_large os = first_above 16384 (weight_up_to (graph_of os) 32) 0 os
 
-abbrev pub verdict : Option (List ℕ) → Option (List ℕ) → Result (Unit {0}) GroundFault
-verdict (Some name) large = Err (faults.EndlessObject name)
-verdict None (Some name) = Err (faults.ObjectTooLarge name)
+abbrev pub verdict : Option (List ℕ) → Option (List ℕ) → Result (Unit {0}) Ungrounded
+verdict (Some name) large = Err (EndlessObject name)
+verdict None (Some name) = Err (ObjectTooLarge name)
 verdict None None = Ok tt
 
-unfoldable pub grounding : TypeTable → Result (Unit {0}) GroundFault
+unfoldable pub grounding : TypeTable → Result (Unit {0}) Ungrounded
 grounding types = verdict (endless types.objects) (too_large types.objects)
 
 -- want of memory is the one free answer
-abbrev pub GivesGround : Result (Unit {0}) GroundFault → Result (Unit {0}) GroundFault → Type 0
+abbrev pub GivesGround : Result (Unit {0}) GroundFault → Result (Unit {0}) Ungrounded → Type 0
+GivesGround (Ok u) read = read ≡ Ok tt
+GivesGround (Err (faults.Refused fault)) read = read ≡ Err fault
 GivesGround (Err faults.OutOfMemory) read = Unit {0}
-GivesGround got read = read ≡ got

@@ -12,3 +12,4 @@ pub mod CappedWeights
 pub mod Values
 pub mod Reach
 pub mod Sound
+pub mod Laws

@@ -1,5 +1,5 @@
 // Which objects are too high or too heavy.
-ghost use Rattle.std.specs.Prelude.{◌≡◌, length, map, None, option_map, IfOk};
+ghost use Rattle.std.specs.Prelude.{◌≡◌, map, None, option_map, IfOk};
 ghost use Rattle.fml_types.specs.Capped.{capped};
 ghost use Rattle.fml_types.specs.Graph.{graph_of};
 ghost use Rattle.fml_types.specs.Ground.{first_above, endless, too_large, grounding, GivesGround};
@@ -11,7 +11,6 @@ use crate::by_name::ByName;
 use crate::graph::{Part, graph_of};
 use crate::heights::{heights, value_in};
 use crate::manifest::{ObjectDefinition, TypeTable};
-use crate::one_pass::first_values;
 use crate::reach::mentioned_by;
 use crate::weights::weights;
 use sequences::{Sequence, Text};
@@ -23,12 +22,19 @@ const MAX_WEIGHT: u64 = 16_384;
 
 /// Why objects aren't grounded.
 #[derive(Drop)]
-pub enum GroundFault {
+pub enum Ungrounded {
     /// The object's height is above 32. This one has the least name of those.
     EndlessObject(Text),
     /// No height is above 32, but the object's weight is above 16,384. This one has the least name
     /// of those.
     ObjectTooLarge(Text),
+}
+
+/// Why `grounded` doesn't answer that objects are.
+#[derive(Drop)]
+pub enum GroundFault {
+    /// They aren't.
+    Refused(Ungrounded),
     OutOfMemory,
 }
 
@@ -67,30 +73,27 @@ pub fn grounded(alloc: Global, types: &TypeTable) -> Result<(), GroundFault>
     let graph = graph_of(alloc, &types.objects)?;
     let graph = graph.as_slice();
     let mentioned_by = mentioned_by(alloc, graph)?;
-    let first = first_values(alloc, graph, &mentioned_by)?;
-    if let Some(name) = endless(alloc, graph, &mentioned_by, first.heights, &types.objects)? {
-        return Err(GroundFault::EndlessObject(name));
+    if let Some(name) = endless(alloc, graph, &mentioned_by, &types.objects)? {
+        return Err(GroundFault::Refused(Ungrounded::EndlessObject(name)));
     }
-    if let Some(name) = too_large(alloc, graph, &mentioned_by, first.weights, &types.objects)? {
-        return Err(GroundFault::ObjectTooLarge(name));
+    if let Some(name) = too_large(alloc, graph, &mentioned_by, &types.objects)? {
+        return Err(GroundFault::Refused(Ungrounded::ObjectTooLarge(name)));
     }
     Ok(())
 }
 
 /// The least name of an object that is too high.
-pub fn endless(
+fn endless(
     alloc: Global,
     graph: &[Sequence<Part>],
     mentioned_by: &[Sequence<usize>],
-    first: Vec<u64>,
     objects: &ByName<ObjectDefinition>,
 ) -> Result<Option<Text>, AllocError>
     requires graph { graph.now ≡ map (λ ps. map capped ps) (graph_of objects.now) }
     requires mentioned { AreMentioned graph.now mentioned_by.now }
-    requires count { length first.items ≡ length graph.now }
     ensures { IfOk result (λ name. name ≡ endless objects.now) }
 {
-    let heights = heights(alloc, graph, mentioned_by, first)?;
+    let heights = heights(alloc, graph, mentioned_by)?;
     let name = copied(first_above(MAX_HEIGHT, &heights, objects.as_slice()))?;
     Ok(name)
 }
@@ -100,16 +103,14 @@ fn too_large(
     alloc: Global,
     graph: &[Sequence<Part>],
     mentioned_by: &[Sequence<usize>],
-    first: Vec<u64>,
     objects: &ByName<ObjectDefinition>,
 ) -> Result<Option<Text>, AllocError>
     requires graph { graph.now ≡ map (λ ps. map capped ps) (graph_of objects.now) }
     requires mentioned { AreMentioned graph.now mentioned_by.now }
-    requires count { length first.items ≡ length graph.now }
     requires low { endless objects.now ≡ None }
     ensures { IfOk result (λ name. name ≡ too_large objects.now) }
 {
-    let weights = weights(alloc, graph, mentioned_by, first)?;
+    let weights = weights(alloc, graph, mentioned_by)?;
     let name = copied(first_above(MAX_WEIGHT, &weights, objects.as_slice()))?;
     Ok(name)
 }

@@ -13,21 +13,19 @@ use std::alloc::{AllocError, Global};
 const ROUNDS: usize = 33;
 
 /// One above the greatest height that an object may have. Greater heights count as this one.
-pub const HEIGHT_CAP: u64 = 33;
+const HEIGHT_CAP: u64 = 33;
 
-/// The heights of the objects, which count up to the cap. The first values may be any: where they
-/// are the heights, one round is all.
+/// The heights of the objects, which count up to the cap. A round finds those that are one higher
+/// than the round before, so there are as many rounds as the greatest height, and one more.
 pub fn heights(
     alloc: Global,
     graph: &[Sequence<Part>],
     mentioned_by: &[Sequence<usize>],
-    first: Vec<u64>,
 ) -> Result<Vec<u64>, AllocError>
-    requires count { length first.items ≡ length graph.now }
     requires mentioned { AreMentioned graph.now mentioned_by.now }
     ensures { IfOk result (λ hs. hs.items ≡ table (height_up_to graph.now 33) (length graph.now)) }
 {
-    let mut heights = first;
+    let mut heights = zeros(alloc, graph.len())?;
     for _ in 0..ROUNDS {
         let next = next_heights(alloc, graph, mentioned_by, &heights)?;
         if same(&next, &heights) {
@@ -36,6 +34,13 @@ pub fn heights(
         heights = next;
     }
     Ok(heights)
+}
+
+/// As many zeros.
+pub fn zeros(alloc: Global, count: usize) -> Result<Vec<u64>, AllocError>
+    ensures { IfOk result (λ zeros. length zeros.items ≡ count) }
+{
+    vec![in alloc; 0; count]
 }
 
 /// The heights that follow where all that is needed has these.
@@ -76,7 +81,7 @@ fn higher(
 }
 
 /// The height of an object with these fields: one more than the greatest that they need.
-pub fn height(heights: &[u64], reached: &[u64], parts: &[Part]) -> u64
+fn height(heights: &[u64], reached: &[u64], parts: &[Part]) -> u64
     ensures { result ≡ min (suc (greatest (needed (value_in heights.now) (value_in reached.now)) parts.now)) 33 }
 {
     greatest_needed(heights, reached, parts)
@@ -106,7 +111,7 @@ pub fn needed(values: &[u64], reached: &[u64], part: &Part) -> u64
     }
 }
 
-pub fn value_at(values: &[u64], place: Option<usize>) -> u64
+fn value_at(values: &[u64], place: Option<usize>) -> u64
     ensures { result ≡ at (value_in values.now) place }
 {
     match place {

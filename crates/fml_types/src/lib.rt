@@ -8,15 +8,16 @@ mod field_type;
 mod graph;
 mod grounding;
 mod heights;
+mod laws;
 mod manifest;
-mod one_pass;
 mod reach;
 mod type_text;
 mod weights;
 
 pub use by_name::ByName;
 pub use field_type::{FieldType, InnerType, Key};
-pub use grounding::{GroundFault, grounded};
+pub use grounding::{GroundFault, Ungrounded, grounded};
+pub use laws::needs_of_objects;
 pub use manifest::{
     DefaultEntry, EnumDefinition, FeatureDefinition, Field, Manifest, ObjectDefinition, TypeTable,
     coenrolling_features,

@@ -91,7 +91,7 @@ fn greatest_first(alloc: Global, values: &[u64]) -> Result<Vec<usize>, AllocErro
 }
 
 /// The first places.
-pub fn places(alloc: Global, count: usize) -> Result<Vec<usize>, AllocError>
+fn places(alloc: Global, count: usize) -> Result<Vec<usize>, AllocError>
     ensures within { IfOk result (λ places. All (λ i. i < count) places.items) }
     ensures each { IfOk result (λ places. (i : ℕ) → i < count → Contains places.items i) }
 {

@@ -8,27 +8,25 @@ ghost use Rattle.fml_types.specs.Values.{value_in, table};
 ghost use Rattle.fml_types.specs.CappedWeights.{capped_heavier, next_capped, capped_weight_up_to};
 
 use crate::graph::{CAP, Part, capped_sum};
-use crate::heights::{needed, same};
+use crate::heights::{needed, same, zeros};
 use crate::reach::reached;
 use sequences::Sequence;
 use std::alloc::{AllocError, Global};
 
 const ROUNDS: usize = 32;
 
-/// The weights of objects, all of which are at most 32 high. They count up to the cap. The first
-/// values may be any: where they are the weights, one round is all.
+/// The weights of objects, all of which are at most 32 high. They count up to the cap. A round finds
+/// those of the objects that are one higher than the round before.
 pub fn weights(
     alloc: Global,
     graph: &[Sequence<Part>],
     mentioned_by: &[Sequence<usize>],
-    first: Vec<u64>,
 ) -> Result<Vec<u64>, AllocError>
-    requires count { length first.items ≡ length graph.now }
     requires mentioned { AreMentioned graph.now mentioned_by.now }
     requires low { (i : ℕ) → height_up_to graph.now 33 i ≤ 32 }
     ensures { IfOk result (λ ws. ws.items ≡ table (capped_weight_up_to graph.now 32) (length graph.now)) }
 {
-    let mut weights = first;
+    let mut weights = zeros(alloc, graph.len())?;
     for _ in 0..ROUNDS {
         let next = next_weights(alloc, graph, mentioned_by, &weights)?;
         if same(&next, &weights) {
@@ -71,7 +69,7 @@ fn heavier(
 }
 
 /// The weight of an object with these fields.
-pub fn weight(weights: &[u64], reached: &[u64], parts: &[Part]) -> u64
+fn weight(weights: &[u64], reached: &[u64], parts: &[Part]) -> u64
     ensures { result ≡ cap (2 + sum_by (share (value_in weights.now) (value_in reached.now)) parts.now) }
 {
     let mut weight = 2;

@@ -8,3 +8,4 @@ pub mod Taken
 pub mod OneValue
 pub mod Fitted
 pub mod Checked
+pub mod Replacing

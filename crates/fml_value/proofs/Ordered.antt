@@ -1,9 +1,10 @@
 -- Names that rise, and those that get values.
-use Rattle.std.proofs.Common.{◌≡◌, ℕ, zero, suc, ◌<◌, List, [], ◌∷◌, ◌++◌, map, length, get_or, take, drop, Less, Equal, Greater, refl, sym, ap, ◌∙◌, subst, arith}
+use Rattle.std.proofs.Common.{◌≡◌, ℕ, zero, suc, ◌<◌, List, [], ◌∷◌, ◌++◌, map, length, get_or, take, drop, true, false, Some, None, Less, Equal, Greater, refl, sym, ap, ◌∙◌, subst, arith}
+use Rattle.std.specs.Prelude.{bytes_eq, if◌then◌else◌}
 use Rattle.std.specs.Cmp.Lexicographic.{slice_cmp, nat_list_cmp_total, texts_ties, bytes_decides}
 use Rattle.std.specs.Ordering.{nat_cmp, ordering_reverse, is_eq}
-use Rattle.fml_types.specs.Named.{IsAbove, IsBelow, AreRising}
-use Rattle.fml_value.specs.Entries.{beside, with_entry}
+use Rattle.fml_types.specs.Named.{IsAbove, IsBelow, AreRising, found}
+use Rattle.fml_value.specs.Entries.{beside, with_entry, replaced}
 use Rattle.fml_value.specs.Typed.{TypedValue}
 use Rattle.fml_value.specs.TypedOf.{entry_of}
 use Rattle.fml_value.specs.declared.value.Value.{Value}
@@ -48,6 +49,33 @@ rising_with name v (e ∷ es) h =
       | Equal ↦ λ s. (below_same name e.0 es s h.0, h.1)
       | Greater ↦ λ s. (below_with e.0 name v es (nat_list_cmp_total.antisymm e.0 name ∙ ap ordering_reverse s) h.0, rising_with name v es h.1)
     ] refl
+
+-- ---- a name that gets another value
+
+replaced_below : (a k : List ℕ) (v : TypedValue) (es : List (List ℕ × TypedValue)) → IsBelow a es → IsBelow a (replaced k v es)
+replaced_below a k v [] below = tt
+replaced_below a k v (e ∷ es) below =
+    elim (bytes_eq e.0 k) as (λ b. bytes_eq e.0 k ≡ b → IsBelow a (if b then (k, v) ∷ es else e ∷ replaced k v es)) [
+      | true ↦ λ same. (subst (λ n. slice_cmp nat_cmp a n ≡ Less) ((bytes_decides e.0 k).0 same) below.0, below.1)
+      | false ↦ λ other. (below.0, replaced_below a k v es below.1)
+    ] refl
+
+pub replaced_rising : (k : List ℕ) (v : TypedValue) (es : List (List ℕ × TypedValue)) → AreRising es → AreRising (replaced k v es)
+replaced_rising k v [] rising = tt
+replaced_rising k v (e ∷ es) rising =
+    elim (bytes_eq e.0 k) as (λ b. bytes_eq e.0 k ≡ b → AreRising (if b then (k, v) ∷ es else e ∷ replaced k v es)) [
+      | true ↦ λ same. (subst (λ n. IsBelow n es) ((bytes_decides e.0 k).0 same) rising.0, rising.1)
+      | false ↦ λ other. (replaced_below e.0 k v es rising.0, replaced_rising k v es rising.1)
+    ] refl
+
+-- a name that isn't there
+pub replaced_none : (k : List ℕ) (v : TypedValue) (es : List (List ℕ × TypedValue)) → found k es ≡ None → replaced k v es ≡ es
+replaced_none k v [] absent = refl
+replaced_none k v (e ∷ es) absent =
+    elim (bytes_eq e.0 k) as (λ b. (if b then Some e.1 else found k es) ≡ None → (if b then (k, v) ∷ es else e ∷ replaced k v es) ≡ e ∷ es) [
+      | true ↦ λ h. absurd (cc)
+      | false ↦ λ h. ap (λ l. e ∷ l) (replaced_none k v es h)
+    ] absent
 
 pub map-insert : {A B : Type 0} (f : A → B) (xs : List A) (i : ℕ) (x : A) → map f (take i xs ++ x ∷ drop i xs) ≡ take i (map f xs) ++ f x ∷ drop i (map f xs)
 map-insert f [] zero x = refl

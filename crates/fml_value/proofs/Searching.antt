@@ -1,7 +1,7 @@
 -- A name among names that rise.
 use Rattle.std.proofs.Common.{Ordering, ◌≡◌, ◌≢◌, ℕ, zero, suc, ◌<◌, ◌≤◌, List, [], ◌∷◌, ◌++◌, map, length, get_or, take, drop, set, true, false, None, option_map, slice_get, Result, Ok, Err, Less, Equal, Greater, inl, inr, refl, sym, ap, ◌∙◌, subst, arith}
 use Rattle.std.proofs.lemmas.List.{length-map}
-use Rattle.std.specs.Prelude.{bytes_eq}
+use Rattle.std.specs.Prelude.{bytes_eq, if◌then◌else◌}
 use Rattle.std.specs.Cmp.{alike_right}
 use Rattle.std.proofs.lemmas.Cmp.{tied_itself}
 use Rattle.std.specs.Cmp.Lexicographic.{slice_cmp, nat_list_cmp_total, texts_ties, bytes_decides}
@@ -9,7 +9,7 @@ use Rattle.std.specs.List.Sorted.{IsNonDecreasingBy, IsBinarySearchResult, IsSea
 use Rattle.std.specs.Ordering.{nat_cmp, ordering_index, ordering_reverse, is_eq}
 use Rattle.std.proofs.lemmas.Bool.{cases_lt, false_from_ne_true}
 use Rattle.fml_types.specs.Named.{found, AreRising}
-use Rattle.fml_value.specs.Entries.{beside, with_entry, IsPlace}
+use Rattle.fml_value.specs.Entries.{beside, with_entry, replaced, IsPlace}
 use Rattle.fml_value.specs.Typed.{TypedValue}
 use Rattle.fml_value.specs.TypedOf.{entry_of}
 use Rattle.fml_value.specs.declared.value.Value.{Value}
@@ -119,11 +119,35 @@ with_entry-set : (key : List ℕ) (x : TypedValue) (es : List (List ℕ × Value
 with_entry-set key x [] i h rising same = absurd (omega arith)
 with_entry-set key x (e ∷ es) i h rising same = with_entry-at key x (e ∷ es) i e h rising (same e)
 
+replaced-set : (key : List ℕ) (x : TypedValue) (es : List (List ℕ × Value)) (i : ℕ) → i < length es → AreRising (map entry_of es) → ((d : List ℕ × Value) → (get_or es i d).0 ≡ key)
+    → replaced key x (map entry_of es) ≡ set (map entry_of es) i (key, x)
+replaced-set key x [] i h rising same = absurd (omega arith)
+replaced-set key x (e ∷ es) zero h rising same = ap (λ b. if b then (key, x) ∷ map entry_of es else entry_of e ∷ replaced key x (map entry_of es)) ((bytes_decides e.0 key).1 (same e))
+replaced-set key x (e ∷ es) (suc i) h rising same =
+    let below : slice_cmp nat_cmp e.0 key ≡ Less = subst (λ k. slice_cmp nat_cmp e.0 k ≡ Less) (same e) (below_at e.0 es i e (omega arith) rising.0) in
+    ap (λ b. if b then (key, x) ∷ map entry_of es else entry_of e ∷ replaced key x (map entry_of es)) (lesser_key e.0 key below)
+    ∙ ap (λ l. entry_of e ∷ l) (replaced-set key x es i (omega arith) rising.1 same)
+
+name-at : (key : List ℕ) (es : List (List ℕ × Value)) (i : ℕ) → i < length es → ((d : List ℕ × Value) → (get_or es i d).0 ≡ key) → (d : List ℕ × TypedValue) → (get_or (map entry_of es) i d).0 ≡ key
+name-at key [] i h same d = absurd (omega arith)
+name-at key (e ∷ es) zero h same d = same e
+name-at key (e ∷ es) (suc i) h same d = name-at key es i (omega arith) same d
+
 -- what a binary search answers is the place
 pub place_of : (key : List ℕ) (es : List (List ℕ × Value)) (r : Result ℕ ℕ) → AreRising (map entry_of es) → IsSearchInRange r (length es) → IsBinarySearchResult (key_order key) es r → IsPlace key (map entry_of es) r
 place_of key es (Ok i) rising within here =
     let same : (d : List ℕ × Value) → (get_or es i d).0 ≡ key = λ d. (bytes_decides (get_or es i d).0 key).0 (equal_keys (get_or es i d).0 key (here d)) in
-    (omega (arith, length-map es entry_of), found-place key es i within rising same, λ x. with_entry-set key x es i within rising same)
+    record {
+      within = omega (arith, length-map es entry_of);
+      named = name-at key es i within same;
+      value = found-place key es i within rising same;
+      entering = λ x. with_entry-set key x es i within rising same;
+      replacing = λ x. replaced-set key x es i within rising same;
+    }
 place_of key es (Err i) rising within nowhere =
     let point = nowhere (non_decreasing key es rising) in
-    (omega (arith, length-map es entry_of), found-absent key es i rising nowhere, λ x. with_entry-between key x es i within (λ j d less. point.0 j d (omega arith) less) point.1)
+    record {
+      within = omega (arith, length-map es entry_of);
+      absent = found-absent key es i rising nowhere;
+      entering = λ x. with_entry-between key x es i within (λ j d less. point.0 j d (omega arith) less) point.1;
+    }

@@ -4,6 +4,7 @@ ghost use Rattle.std.specs.Prelude.{◌≡◌, [], ◌∷◌, ◌++◌, map, opt
 use sequences::Text;
 use std::alloc::{AllocError, Global};
 use std::marker::Model;
+use std::mem;
 
 /// A value of a type. A clone is the same value.
 #[cycle(value)]
@@ -180,7 +181,7 @@ impl Values {
 
 impl Entries {
     ghost use Rattle.fml_types.specs.Named.{IsAbove, AreRising, found};
-    ghost use Rattle.fml_value.specs.Entries.{with_entry, IsPlace};
+    ghost use Rattle.fml_value.specs.Entries.{with_entry, replaced, IsPlace};
     ghost use Rattle.fml_value.specs.TypedOf.{typed_of, entry_of};
 
     /// No name at all. It takes no memory.
@@ -230,6 +231,18 @@ impl Entries {
                 self.pairs.insert(place, (name, value))?;
                 Ok(())
             }
+        }
+    }
+
+    /// Gives the name another value in place of the one that it has, and gives that one back. Where
+    /// there is no such name the names stay as they were. It takes no memory.
+    pub fn replace(&mut self, name: &str, value: Value) -> Option<Value>
+        ensures old { option_map typed_of result ≡ found name.now self.old }
+        ensures new { self.new ≡ replaced name.now (typed_of value) self.old }
+    {
+        match self.place_of(name) {
+            Ok(place) => Some(mem::replace(&mut self.pairs[place].1, value)),
+            Err(_) => None,
         }
     }
 

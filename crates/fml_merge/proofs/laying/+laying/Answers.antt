@@ -15,8 +15,10 @@ use Rattle.fml_types.specs.declared.manifest.Field.{Field}
 use Rattle.fml_types.specs.declared.manifest.ObjectDefinition.{ObjectDefinition}
 use Rattle.fml_types.specs.declared.field_type.FieldType.{FieldType}
 use Rattle.fml_value.specs.Takes.{takes}
-use Rattle.fml_value.specs.Typed.{TypedValue, items_of}
+use Rattle.fml_value.specs.Entries.{with_entry, replaced}
+use Rattle.fml_value.specs.Typed.{TypedValue, absent, items_of}
 use Rattle.fml_value.specs.TypedOf.{typed_of, entry_of}
+use Rattle.fml_value.proofs.Ordered.{replaced_none}
 use Rattle.fml_merge.specs.Overlay.{laid, items_laid, members_laid, pairs_in, value_with, type_under}
 use Rattle.fml_merge.specs.Highest.{highest_type}
 use Rattle.fml_merge.specs.Zero.{zero_within, initial, with_default}
@@ -24,6 +26,7 @@ use Rattle.fml_merge.specs.Merging.{base_value, field_laid, inside_laid, types_o
 use Rattle.fml_merge.proofs.Measures.{step, field_weight, fields_weight, level, step_most, object_level, one_field, one_type, with_tree, some_weight, item_height, member_high, one_deeper, one_level}
 use Rattle.fml_merge.proofs.Fields.{depth_of, depth_under, each_laid, fields_laid, no_default, one_value_more, replaces, zero_has, zero_none, zero_object}
 use Rattle.fml_merge.proofs.Merge.{merge_turn, merge_end, laid_rising, left_rising, upper-map, unnamed-map}
+use Rattle.fml_merge.proofs.Placing.{there_laid, new_laid, place_turn, place_end}
 use Rattle.fml_merge.proofs.Pieces.{option_laid, laid_items, member_over, named_has, above_before}
 use Rattle.fml_merge.proofs.laying.+laying.Goals.{field_base-else-is_some-via-then-is_some+else-is_object, field_base-else-is_some-via-else-is_some, lay_object-in-Made+in_ok-entries-in-Made, lay_object-in-Zero+in_ok-entries-in-Zero}
 use Rattle.fml_merge.proofs.laying.+laying.Goals as goal
@@ -274,8 +277,8 @@ lay_member-lay-requires-in-None t c =
     let h = c.decreases in
     (omega (arith, high), tt)
 
-pub lay_members-lay_member-requires : goal.lay_members-lay_member-requires
-lay_members-lay_member-requires t c =
+pub merge_members-lay_member-requires : goal.merge_members-lay_member-requires
+merge_members-lay_member-requires t c =
     let types = c.args.types.now in
     let pairs = c.as_slice-pairs.result.now in
     let m = c.loop-name-item.result in
@@ -299,8 +302,8 @@ lay_member-returns-in_ok-value-in-Some-there t c =
     member_over zeros types type_of k x s c.in-Some-there.name (typed_of c.in-Some-there.base) (typed_of c.in_ok-value-in-Some-there.value) typed taken same c.in_ok-value-in-Some-there.ensures
     ∙ sym (ap (λ o. member_laid zeros types type_of k x (map entry_of (option_to_list o))) c.in-Some-there.is)
 
-pub lay_members-loop-name-preserved : goal.lay_members-loop-name-preserved
-lay_members-loop-name-preserved t c =
+pub merge_members-loop-name-preserved : goal.merge_members-loop-name-preserved
+merge_members-loop-name-preserved t c =
     let types = c.args.types.now in
     let zeros = zero_within types c.args.levels in
     let type_of = types_of types c.args.member_types in
@@ -321,8 +324,8 @@ lay_members-loop-name-preserved t c =
       rising = subst AreRising (sym (ap (map entry_of) goes ∙ unnamed-map key (upper key rest) ∙ ap (unnamed key) (upper-map key rest))) (left_rising zeros types type_of key (map entry_of rest) c.loop-name.invariant.rising);
     }
 
-pub lay_members-from_vec-requires : goal.lay_members-from_vec-requires
-lay_members-from_vec-requires t c =
+pub merge_members-from_vec-requires : goal.merge_members-from_vec-requires
+merge_members-from_vec-requires t c =
     let types = c.args.types.now in
     let zeros = zero_within types c.args.levels in
     let type_of = types_of types c.args.member_types in
@@ -331,3 +334,78 @@ lay_members-from_vec-requires t c =
     let joins : c.append.new.self.items ≡ c.loop-name.laid.items ++ c.loop-name.rest.items = c.in_ok-append.ensures.items ∙ ap (λ l. c.loop-name.laid.items ++ l) c.into_vec-rest.ensures.items in
     let whole = merge_end zeros types type_of pairs c.loop-name.name-index c.loop-name.laid.items c.loop-name.rest.items c.append.new.self.items (members_laid zeros types type_of c.args.base ms) c.loop-name-test.false joins c.loop-name.invariant.same in
     subst AreRising (sym whole) (laid_rising zeros types type_of c.args.base ms c.into_vec.ensures.rising)
+
+-- ---- members in their places
+
+pub lay_named-lay-requires : goal.lay_named-lay-requires
+lay_named-lay-requires t c =
+    let high = member_high c.args.types.now c.args.member_types c.as_str.result.now c.type_of.result c.in-Some.member_type c.type_of.ensures c.in-Some.is in
+    let h = c.decreases in
+    (omega (arith, high), tt)
+
+pub lay_named-lay-requires-in-None : goal.lay_named-lay-requires-in-None
+lay_named-lay-requires-in-None t c =
+    let high = member_high c.args.types.now c.args.member_types c.as_str.result.now c.type_of.result c.in-Some.member_type c.type_of.ensures c.in-Some.is in
+    let h = c.decreases in
+    (omega (arith, high), tt)
+
+pub lay_in_place-lay_named-requires : goal.lay_in_place-lay_named-requires
+lay_in_place-lay_named-requires t c =
+    let types = c.args.types.now in
+    let pairs = c.as_slice-pairs.result.now in
+    let m = c.loop-name-item.result in
+    let among = subst (λ y. depth (json_of y.1) ≤ members_depth (members_of (map member_of pairs))) (sym c.loop-name-item.is) (member_depth_at pairs c.loop-name.name-index m c.loop-name-test.true) in
+    let within = subst (λ ms. depth (json_of m.1) ≤ members_depth (members_of ms)) c.as_slice-pairs.ensures.members among in
+    let less = mul-le-mul_left (step types) within in
+    let h = c.decreases in
+    (omega (arith, less), tt)
+
+pub lay_in_place-loop-name-preserved : goal.lay_in_place-loop-name-preserved
+lay_in_place-loop-name-preserved t c =
+    let types = c.args.types.now in
+    place_turn (zero_within types c.args.levels) types (types_of types c.args.member_types) c.as_slice-pairs.result.now c.loop-name.name-index c.loop-name-item.result c.loop-name.entries c.lay_named.new.entries _
+    c.loop-name-test.true c.loop-name-item.is c.in_ok-lay_named.ensures c.loop-name.invariant
+
+pub lay_in_place-returns : goal.lay_in_place-returns
+lay_in_place-returns t c =
+    let types = c.args.types.now in
+    let all = place_end (zero_within types c.args.levels) types (types_of types c.args.member_types) c.as_slice-pairs.result.now c.loop-name.name-index c.loop-name.entries _ c.loop-name-test.false c.loop-name.invariant in
+    all ∙ ap (λ ms. members_laid (zero_within types c.args.levels) types (types_of types c.args.member_types) c.args.base (members_of ms)) c.as_slice-pairs.ensures.members
+
+pub lay_named-returns-in_ok-value-in-Some-replace : goal.lay_named-returns-in_ok-value-in-Some-replace
+lay_named-returns-in_ok-value-in-Some-replace t c =
+    let types = c.args.types.now in
+    let zeros = zero_within types c.args.levels in
+    let type_of = types_of types c.args.member_types in
+    let k = c.args.name.now in
+    let x = json_of c.args.tree.now in
+    let es = c.args.entries.now in
+    let left = c.replace.new.self in
+    let s = shape_of c.in-Some.member_type.now in
+    let base = typed_of c.in-Some-replace.base in
+    let value = typed_of c.in_ok-value-in-Some-replace.value in
+    let typed : type_of k ≡ Some s = ap type_of (sym c.as_str.ensures.text) ∙ sym c.type_of.ensures ∙ ap (option_map (λ (u : Bor FieldType). shape_of u.now)) c.in-Some.is in
+    let taken : takes types s x ≡ true = sym c.takes.ensures ∙ c.if-not-takes.false in
+    let had : found k es ≡ Some base = ap (λ n. found n es) (sym c.as_str-2.ensures.text) ∙ sym c.in-Some-replace.ensures.old in
+    let without : left ≡ replaced k absent es = c.in-Some-replace.ensures.new ∙ ap (λ n. replaced n absent es) c.as_str-2.ensures.text in
+    let grown : c.replace-in-Some-replace.new.self ≡ replaced k value left = c.replace-in-Some-replace.ensures.new ∙ ap (λ n. replaced n value left) c.as_str-in-Some-replace.ensures.text in
+    there_laid zeros types type_of k x s es left c.replace-in-Some-replace.new.self base absent value typed taken had without c.in_ok-value-in-Some-replace.ensures grown
+
+pub lay_named-returns-in_ok-insert-in-None : goal.lay_named-returns-in_ok-insert-in-None
+lay_named-returns-in_ok-insert-in-None t c =
+    let types = c.args.types.now in
+    let zeros = zero_within types c.args.levels in
+    let type_of = types_of types c.args.member_types in
+    let k = c.args.name.now in
+    let x = json_of c.args.tree.now in
+    let es = c.args.entries.now in
+    let left = c.replace.new.self in
+    let s = shape_of c.in-Some.member_type.now in
+    let value = typed_of c.in_ok-value-in-None.value in
+    let typed : type_of k ≡ Some s = ap type_of (sym c.as_str.ensures.text) ∙ sym c.type_of.ensures ∙ ap (option_map (λ (u : Bor FieldType). shape_of u.now)) c.in-Some.is in
+    let taken : takes types s x ≡ true = sym c.takes.ensures ∙ c.if-not-takes.false in
+    let none : found k es ≡ None = ap (λ n. found n es) (sym c.as_str-2.ensures.text) ∙ sym c.in-None.ensures.old in
+    let same : left ≡ es = c.in-None.ensures.new ∙ ap (λ n. replaced n absent es) c.as_str-2.ensures.text ∙ replaced_none k absent es none in
+    let grown : c.insert.new.self ≡ with_entry k value es =
+    c.in_ok-insert-in-None.ensures.ok ∙ ap (λ n. with_entry n value left) c.in_ok-clone-in-None.ensures.cases ∙ ap (with_entry k value) same in
+    new_laid zeros types type_of k x s es c.insert.new.self value typed taken none c.in_ok-value-in-None.ensures grown

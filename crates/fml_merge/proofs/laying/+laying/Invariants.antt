@@ -40,7 +40,16 @@ abbrev pub decreases-field_base : goal.decreases-field_base
 decreases-field_base l = level l.types.now * l.field_levels + field_weight l.types.now l.field.now + 2
 
 abbrev pub decreases-lay_members : goal.decreases-lay_members
-decreases-lay_members l = level l.types.now * l.levels + step l.types.now * members_depth (members_of l.members.now) + 8 * member_height l.member_types + 9
+decreases-lay_members l = level l.types.now * l.levels + step l.types.now * members_depth (members_of l.members.now) + 8 * member_height l.member_types + 10
+
+abbrev pub decreases-lay_in_place : goal.decreases-lay_in_place
+decreases-lay_in_place l = level l.types.now * l.levels + step l.types.now * members_depth (members_of l.members.now) + 8 * member_height l.member_types + 9
+
+abbrev pub decreases-lay_named : goal.decreases-lay_named
+decreases-lay_named l = level l.types.now * l.levels + step l.types.now * depth (json_of l.tree.now) + 8 * member_height l.member_types + 8
+
+abbrev pub decreases-merge_members : goal.decreases-merge_members
+decreases-merge_members l = level l.types.now * l.levels + step l.types.now * members_depth (members_of l.members.now) + 8 * member_height l.member_types + 9
 
 abbrev pub decreases-lay_member : goal.decreases-lay_member
 decreases-lay_member l = level l.types.now * l.levels + step l.types.now * depth (json_of l.tree.now) + 8 * member_height l.member_types + 8
@@ -61,8 +70,13 @@ abbrev pub invariant-lay_items-loop-tree : goal.invariant-lay_items-loop-tree
 invariant-lay_items-loop-tree l =
     l.values ≡ map (λ u. laid (zero_within l.types l.levels) l.types (shape_of l.of) (zero_within l.types l.levels (shape_of l.of)) (json_of u)) (take l.tree-index l.trees)
 
-abbrev pub invariant-lay_members-loop-name : goal.invariant-lay_members-loop-name
-invariant-lay_members-loop-name l = record {
+abbrev pub invariant-lay_in_place-loop-name : goal.invariant-lay_in_place-loop-name
+invariant-lay_in_place-loop-name l =
+    members_laid (zero_within l.types l.levels) l.types (types_of l.types l.member_types) l.entries (members_of (map member_of (drop l.name-index l.pairs)))
+    ≡ members_laid (zero_within l.types l.levels) l.types (types_of l.types l.member_types) l.fn.base (members_of (map member_of l.pairs))
+
+abbrev pub invariant-merge_members-loop-name : goal.invariant-merge_members-loop-name
+invariant-merge_members-loop-name l = record {
   same : map entry_of l.laid.items ++ members_laid (zero_within l.types l.levels) l.types (types_of l.types l.member_types) (map entry_of l.rest.items) (members_of (map member_of (drop l.name-index l.pairs)))
       ≡ members_laid (zero_within l.types l.levels) l.types (types_of l.types l.member_types) l.fn.base (members_of (map member_of l.pairs));
   rising : AreRising (map entry_of l.rest.items);

@@ -7,7 +7,7 @@ use Rattle.fml_types.proofs.HeightRounds.{AreHeightsUpTo, heights_begin, heights
 use Rattle.fml_types.proofs.heights.heights.Goals as goal
 
 pub loop-init : goal.loop-init
-loop-init c = heights_begin c.args.graph.now c.args.first.items c.requires.count
+loop-init c = heights_begin c.args.graph.now c.in_ok-heights.heights.items c.in_ok-heights.ensures
 
 pub next_heights-requires-clause-count : goal.next_heights-requires-clause-count
 next_heights-requires-clause-count c = ap length c.deref.ensures.value ∙ c.loop.invariant.count

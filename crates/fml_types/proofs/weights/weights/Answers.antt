@@ -7,7 +7,7 @@ use Rattle.fml_types.proofs.WeightRounds.{AreWeightsUpTo, weights_begin, weights
 use Rattle.fml_types.proofs.weights.weights.Goals as goal
 
 pub loop-init : goal.loop-init
-loop-init c = weights_begin c.args.graph.now c.args.first.items c.requires.low c.requires.count
+loop-init c = weights_begin c.args.graph.now c.in_ok-weights.weights.items c.requires.low c.in_ok-weights.ensures
 
 pub next_weights-requires-clause-count : goal.next_weights-requires-clause-count
 next_weights-requires-clause-count c = ap length c.deref.ensures.value ∙ c.loop.invariant.count

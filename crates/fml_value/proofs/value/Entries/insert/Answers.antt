@@ -13,7 +13,7 @@ invariant_of-self c =
     let kept = subst AreRising c.self.view_is c.self.invariant in
     let e : List ℕ × Value = (c.args.name, c.args.value) in
     let put : map entry_of (set c.self.inside.pairs.items c.in-Ok.place e) ≡ with_entry c.args.name (typed_of c.args.value) c.args.self.now =
-    map-set entry_of c.self.inside.pairs.items c.in-Ok.place e ∙ ap (λ l. set l c.in-Ok.place (entry_of e)) c.self.view_is ∙ sym (found.2 (typed_of c.args.value)) in
+    map-set entry_of c.self.inside.pairs.items c.in-Ok.place e ∙ ap (λ l. set l c.in-Ok.place (entry_of e)) c.self.view_is ∙ sym (found.entering (typed_of c.args.value)) in
     subst AreRising (sym put) (rising_with c.args.name (typed_of c.args.value) c.args.self.now kept)
 
 pub invariant_of-self-in-Err : goal.invariant_of-self-in-Err
@@ -23,18 +23,18 @@ invariant_of-self-in-Err c =
     let e : List ℕ × Value = (c.args.name, c.args.value) in
     let put : map entry_of c.insert.new.self.items ≡ with_entry c.args.name (typed_of c.args.value) c.args.self.now =
     ap (map entry_of) c.in_ok-insert-in-Err.ensures.items ∙ map-insert entry_of c.self.inside.pairs.items c.in-Err.place e
-    ∙ ap (λ l. take c.in-Err.place l ++ entry_of e ∷ drop c.in-Err.place l) c.self.view_is ∙ sym (found.2 (typed_of c.args.value)) in
+    ∙ ap (λ l. take c.in-Err.place l ++ entry_of e ∷ drop c.in-Err.place l) c.self.view_is ∙ sym (found.entering (typed_of c.args.value)) in
     subst AreRising (sym put) (rising_with c.args.name (typed_of c.args.value) c.args.self.now kept)
 
 pub returns-in-Ok-clause-ok : goal.returns-in-Ok-clause-ok
 returns-in-Ok-clause-ok c =
     let found = subst (λ n. IsPlace n c.args.self.now (Ok c.in-Ok.place)) c.as_str.ensures.text c.in-Ok.ensures in
     let e : List ℕ × Value = (c.args.name, c.args.value) in
-    map-set entry_of c.self.inside.pairs.items c.in-Ok.place e ∙ ap (λ l. set l c.in-Ok.place (entry_of e)) c.self.view_is ∙ sym (found.2 (typed_of c.args.value))
+    map-set entry_of c.self.inside.pairs.items c.in-Ok.place e ∙ ap (λ l. set l c.in-Ok.place (entry_of e)) c.self.view_is ∙ sym (found.entering (typed_of c.args.value))
 
 pub returns-in_ok-insert-in-Err-clause-ok : goal.returns-in_ok-insert-in-Err-clause-ok
 returns-in_ok-insert-in-Err-clause-ok c =
     let found = subst (λ n. IsPlace n c.args.self.now (Err c.in-Err.place)) c.as_str.ensures.text c.in-Err.ensures in
     let e : List ℕ × Value = (c.args.name, c.args.value) in
     ap (map entry_of) c.in_ok-insert-in-Err.ensures.items ∙ map-insert entry_of c.self.inside.pairs.items c.in-Err.place e
-    ∙ ap (λ l. take c.in-Err.place l ++ entry_of e ∷ drop c.in-Err.place l) c.self.view_is ∙ sym (found.2 (typed_of c.args.value))
+    ∙ ap (λ l. take c.in-Err.place l ++ entry_of e ∷ drop c.in-Err.place l) c.self.view_is ∙ sym (found.entering (typed_of c.args.value))
