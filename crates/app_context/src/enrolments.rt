@@ -4,7 +4,6 @@ ghost use Rattle.json_tree.specs.Json.{text, IsAbove};
 ghost use Rattle.jexl_value.specs.Value.{as_json};
 ghost use Rattle.enrol_states.specs.Order.{Rise};
 ghost use Rattle.enrol_states.specs.State.{slugs_of};
-ghost use Rattle.enrol_states.specs.Statuses.{is_enrolled};
 ghost use Rattle.app_context.specs.Enrolments.{active_slugs, branch_of, enrolments_of, slug_json, branch_json};
 
 use enrol_states::{Row, Status};
@@ -27,16 +26,10 @@ pub(crate) fn active_experiments(alloc: Global, rows: &[Row]) -> Result<Values, 
 fn push_active(alloc: Global, slugs: &mut Values, row: &Row) -> Result<(), AllocError>
     ensures { OnOk result (slugs.new ≡ slugs.old ++ map text (active_slugs (row.now ∷ []))) }
 {
-    if is_enrolled(&row.status) {
+    if row.status.is_enrolled() {
         slugs.push(text_of(alloc, &row.slug)?)?;
     }
     Ok(())
-}
-
-fn is_enrolled(status: &Status) -> bool
-    ensures { result ≡ is_enrolled status.now }
-{
-    matches!(status, Status::Enrolled { .. })
 }
 
 /// The slugs of what the client takes part in or took part in.

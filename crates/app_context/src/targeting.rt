@@ -13,7 +13,7 @@ use crate::enrolments::{active_experiments, enrollments, enrollments_map};
 use crate::entering::{enter, enter_id, enter_text, enter_whole};
 use crate::key::{ContextKey, TEXT_KEYS};
 use crate::locale::parts_of;
-use enrol_states::{State, Status};
+use enrol_states::State;
 use jexl_value::{Attributes, NamedValues, Value};
 use plain_text::Slug;
 use sequences::Text;
@@ -89,8 +89,8 @@ fn is_enrolled(state: &State, slug: &Slug) -> bool
     ensures { result ≡ is_enrolled_now (status_of slug.now state.now.rows) }
 {
     match state.status_of(slug.text()) {
-        Some(Status::Enrolled { .. }) => true,
-        _ => false,
+        Some(status) => status.is_enrolled(),
+        None => false,
     }
 }
 

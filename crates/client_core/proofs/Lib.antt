@@ -1,6 +1,5 @@
 mod Takers
 mod Coenrolling
-mod Copies
 mod Payloads
 mod Stepping
 pub mod OptOuts

@@ -14,16 +14,16 @@ use Rattle.fml_types.specs.declared.manifest.ObjectDefinition.{ObjectDefinition}
 use Rattle.fml_types.specs.declared.manifest.FeatureDefinition.{FeatureDefinition}
 use Rattle.fml_types.specs.declared.manifest.Manifest.{Manifest}
 use Rattle.fml_reader.specs.Modules.{module_of}
-use Rattle.fml_reader.specs.declared.fault.ModuleFault.{ModuleFault}
-use Rattle.fml_reader.specs.declared.fault.ModuleFault.TheVariants as read
+use Rattle.fml_reader.specs.declared.fault.ModuleRefusal.{ModuleRefusal}
+use Rattle.fml_reader.specs.declared.fault.ModuleRefusal.TheVariants as read
 use Rattle.fml_reader.specs.declared.module.Module.{Module}
 use Rattle.fml_link.specs.Files.{max_bytes, max_files, shallow_tree, file_tree, in_file, file_module, is_among, with_includes, with_file, listed, modules_of}
 use Rattle.fml_link.specs.Linking.{manifest_with, unknown_of, all_known, all_grounded, root_channels, channel_known, defined, joined, linked}
 use Rattle.fml_link.specs.Outcome.{◌>>=◌, each}
 use Rattle.fml_link.specs.Sound.{IsReadModule}
 use Rattle.fml_link.specs.Tables.{Tables, no_tables, with_enum, with_object, with_feature, with_module, tables_of}
-use Rattle.fml_link.specs.declared.fault.LinkFault.{LinkFault}
-use Rattle.fml_link.specs.declared.fault.LinkFault.TheVariants.{DuplicateName}
+use Rattle.fml_link.specs.declared.fault.LinkRefusal.{LinkRefusal}
+use Rattle.fml_link.specs.declared.fault.LinkRefusal.TheVariants.{DuplicateName}
 use Rattle.fml_link.proofs.Alls.{all_nil, all_push}
 use Rattle.fml_link.proofs.ReadModules.{module_read}
 use Rattle.fml_link.proofs.SoundManifests.{joined_sound}
@@ -31,7 +31,7 @@ use Rattle.fml_merge.specs.Faults.{bad_default}
 use Rattle.client_core.specs.Manifests.{IsLinked, where_fits, checked, manifest_of}
 use Rattle.client_core.proofs.ReadFiles.{unless_deep, unless_large, value_sound}
 
-bind_ok : {A B : Type 0} (r : Result A LinkFault) (f : A → Result B LinkFault) (b : B) → (r >>= f) ≡ Ok b → (a : A) × (r ≡ Ok a) × (f a ≡ Ok b)
+bind_ok : {A B : Type 0} (r : Result A LinkRefusal) (f : A → Result B LinkRefusal) (b : B) → (r >>= f) ≡ Ok b → (a : A) × (r ≡ Ok a) × (f a ≡ Ok b)
 bind_ok (Ok a) f b h = (a, refl, h)
 bind_ok (Err e) f b h = absurd cc
 
@@ -46,19 +46,18 @@ unfolding file_tree
 tree_sound name None = tt
 tree_sound name (Some bytes) = unless_large (nat_lt max_bytes (length bytes)) _ (shallow_tree name (tree_of bytes)) (shallow_sound name (tree_of bytes) (value_sound bytes (tree_of bytes) refl))
 
-module_in : (name : List ℕ) (x : Json) (found : Result Module ModuleFault) (m : Module) → IsSound x → module_of x ≡ found → in_file name found ≡ Ok m → IsReadModule m
+module_in : (name : List ℕ) (x : Json) (found : Result Module ModuleRefusal) (m : Module) → IsSound x → module_of x ≡ found → in_file name found ≡ Ok m → IsReadModule m
 module_in name x (Ok n) m sound e h = let same : n ≡ m = cc in module_read x m sound (subst (λ (k : Module). module_of x ≡ Ok k) same e)
 module_in name x (Err (read.BadShape path)) m sound e h = absurd cc
 module_in name x (Err read.ImportsUnbuilt) m sound e h = absurd cc
-module_in name x (Err read.OutOfMemory) m sound e h = absurd cc
 
 file_read : (name : List ℕ) (file : Option (List ℕ)) (m : Module) → file_module name file ≡ Ok m → IsReadModule m
 unfolding file_module
 file_read name file m h =
     let x = bind_ok (file_tree name file) (λ x. in_file name (module_of x)) m h in
-    module_in name x.0 (module_of x.0) m (subst (λ (r : Result Json LinkFault). IfOk r IsSound) x.1 (tree_sound name file)) refl x.2
+    module_in name x.0 (module_of x.0) m (subst (λ (r : Result Json LinkRefusal). IfOk r IsSound) x.1 (tree_sound name file)) refl x.2
 
-with_file_read : (rest : List (List ℕ) → List Module → Result (List Module) LinkFault) → ((names : List (List ℕ)) (modules all : List Module) → All IsReadModule modules → rest names modules ≡ Ok all → All IsReadModule all)
+with_file_read : (rest : List (List ℕ) → List Module → Result (List Module) LinkRefusal) → ((names : List (List ℕ)) (modules all : List Module) → All IsReadModule modules → rest names modules ≡ Ok all → All IsReadModule all)
     → (file : List ℕ → Option (List ℕ)) (names : List (List ℕ)) (modules all : List Module) (next : Option (List ℕ)) → All IsReadModule modules → with_file rest file names modules next ≡ Ok all → All IsReadModule all
 with_file_read rest keeps file names modules all None are h = let same : modules ≡ all = cc in subst (λ (ms : List Module). All IsReadModule ms) same are
 with_file_read rest keeps file names modules all (Some name) are h =
@@ -99,11 +98,11 @@ rises_with : {T : Type 0} (p : List ℕ × T) (ps : List (List ℕ × T)) → ha
 rises_with p [] new rising = (tt, tt)
 rises_with p (q ∷ qs) new rising = let apart = either_false (bytes_eq q.0 p.0) (has_name p.0 qs) new in rises_at p q qs (slug_cmp p.0 q.0) refl apart.0 rising (rises_with p qs apart.1 rising.1)
 
-each_rises : {A : Type 0} (add : Tables → A → Result Tables LinkFault) → ((t u : Tables) (x : A) → AreRising t.features → add t x ≡ Ok u → AreRising u.features) → (xs : List A) (t u : Tables) → AreRising t.features → each add t xs ≡ Ok u → AreRising u.features
+each_rises : {A : Type 0} (add : Tables → A → Result Tables LinkRefusal) → ((t u : Tables) (x : A) → AreRising t.features → add t x ≡ Ok u → AreRising u.features) → (xs : List A) (t u : Tables) → AreRising t.features → each add t xs ≡ Ok u → AreRising u.features
 each_rises add keeps [] t u rising h = let same : t ≡ u = cc in subst (λ (v : Tables). AreRising v.features) same rising
 each_rises add keeps (x ∷ xs) t u rising h = let first = bind_ok (add t x) (λ v. each add v xs) u h in each_rises add keeps xs first.0 u (keeps t first.0 x rising first.1) first.2
 
-chosen : (taken : Bool) (fault : LinkFault) (made u : Tables) → AreRising made.features → (if taken then Err fault else Ok made) ≡ Ok u → AreRising u.features
+chosen : (taken : Bool) (fault : LinkRefusal) (made u : Tables) → AreRising made.features → (if taken then Err fault else Ok made) ≡ Ok u → AreRising u.features
 chosen true fault made u rising h = absurd cc
 chosen false fault made u rising h = let same : made ≡ u = cc in subst (λ (v : Tables). AreRising v.features) same rising
 
@@ -156,7 +155,7 @@ fitting : (m manifest : Manifest) (bad : Option (List ℕ × List ℕ)) → bad_
 fitting m manifest None fits sound order h = let same : m ≡ manifest = cc in subst IsLinked same (record { sound = sound; order = order; fits = fits })
 fitting m manifest (Some bad) fits sound order h = absurd cc
 
-checked_linked : (files : List ℕ → Option (List ℕ)) (name channel : List ℕ) (manifest : Manifest) (found : Result Manifest LinkFault) → linked files name channel ≡ found → checked found ≡ Ok manifest → IsLinked manifest
+checked_linked : (files : List ℕ → Option (List ℕ)) (name channel : List ℕ) (manifest : Manifest) (found : Result Manifest LinkRefusal) → linked files name channel ≡ found → checked found ≡ Ok manifest → IsLinked manifest
 checked_linked files name channel manifest (Ok m) e h = let kept = linked_at files name channel m e in fitting m manifest (bad_default m) refl kept.0 kept.1 h
 checked_linked files name channel manifest (Err fault) e h = absurd cc
 

@@ -27,9 +27,9 @@ use Rattle.recipe_reader.specs.declared.recipe.SkipReason.TheVariants.{BadSlug, 
 use Rattle.recipe_reader.proofs.Again.{recipe_of_parts}
 use Rattle.recipe_reader.proofs.BranchesAgain.{feature_of_parts, named_parts, list_of_parts, feature_test, branch_of_parts, branch_test}
 use Rattle.recipe_reader.proofs.FieldsAgain.{fields_of_parts, bucket_of_parts}
+use Rattle.recipe_reader.proofs.RecordSums.{record_sound, branch_sound}
 use Rattle.recipe_reader.proofs.Trees.{same_values}
 use Rattle.state_codec.specs.Sound.{AreRecords}
-use Rattle.state_codec.proofs.RecordSums.{record_sound, branch_sound}
 
 -- ---- what stands under a key
 

@@ -10,8 +10,8 @@ use Rattle.fml_types.specs.declared.manifest.Manifest.{Manifest}
 use Rattle.fml_value.specs.Trees as values
 use Rattle.fml_value.specs.Typed.{TypedValue}
 use Rattle.fml_link.specs.Linking.{linked}
-use Rattle.fml_link.specs.declared.fault.LinkFault.{LinkFault}
-use Rattle.fml_link.specs.declared.fault.LinkFault.TheVariants as link
+use Rattle.fml_link.specs.declared.fault.LinkRefusal.{LinkRefusal}
+use Rattle.fml_link.specs.declared.fault.LinkRefusal.TheVariants as link
 use Rattle.fml_merge.specs.Faults.{bad_default}
 use Rattle.feature_serving.specs.Serving.{served, HasFeatureType}
 use Rattle.feature_serving.proofs.Types.{served_typed}
@@ -75,7 +75,7 @@ file-plain name (Some bytes) = elim (nat_lt max_file (length bytes)) as (λ b. R
   | false ↦ shallow-plain name (tree_of bytes)
 ]
 
-link-plain : (fault : LinkFault) → is_value (link_refusal fault) ≡ false
+link-plain : (fault : LinkRefusal) → is_value (link_refusal fault) ≡ false
 link-plain (link.AbsentFile name) = refl
 link-plain (link.FileTooLarge name bytes) = refl
 link-plain (link.NotJson name) = refl
@@ -87,14 +87,12 @@ link-plain (link.UnknownType name) = refl
 link-plain (link.EndlessObject name) = refl
 link-plain (link.ObjectTooLarge name) = refl
 link-plain link.UnknownChannel = refl
-link-plain link.ShelfFault = refl
-link-plain link.OutOfMemory = refl
 
 fits-plain : (m : Manifest) (bad : Option (List ℕ × List ℕ)) → RefusesPlainly (where_fits m bad)
 fits-plain m None = tt
 fits-plain m (Some bad) = refl
 
-checked-plain : (found : Result Manifest LinkFault) → RefusesPlainly (checked found)
+checked-plain : (found : Result Manifest LinkRefusal) → RefusesPlainly (checked found)
 checked-plain (Ok m) = fits-plain m (bad_default m)
 checked-plain (Err fault) = link-plain fault
 

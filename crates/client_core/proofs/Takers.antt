@@ -1,7 +1,7 @@
 -- What an opt-in answers, as the step has it.
 use Rattle.std.proofs.Common.{Ordering, ◌≡◌, ℕ, zero, suc, ◌<◌, Bool, true, false, List, [], ◌∷◌, ◌++◌, map, length, get_or, Option, Some, None, Less, Equal, Greater, ◌&&◌, ◌||◌, refl, sym, ap, ◌∙◌, subst, arith}
 use Rattle.std.specs.Prelude.{All, IsTrue, bytes_eq, if◌then◌else◌}
-use Rattle.std.specs.Bool.{beq}
+use Rattle.recipe_reader.specs.Kinds.{kind_of, kind_eq}
 use Rattle.std.specs.Cmp.{first_so, second_so}
 use Rattle.std.specs.List.{list_any}
 use Rattle.std.specs.Ordering.{is_le}
@@ -83,7 +83,7 @@ is_in-features (b ∷ bs) f =
 
 shared-had : (coenrolling : List (List ℕ)) (r : Recipe) (q : Option Recipe) (f : List ℕ) → shares_with coenrolling r q f ≡ true → has_feature r f ≡ true
 shared-had coenrolling r None f h = absurd cc
-shared-had coenrolling r (Some q) f h = first_so (has_feature r f) _ (second_so (beq r.rollout q.rollout) _ h)
+shared-had coenrolling r (Some q) f h = first_so (has_feature r f) _ (second_so (kind_eq (kind_of r) (kind_of q)) _ h)
 
 -- what a row takes of a recipe is a feature of it
 taken-had : (s : State) (r : Recipe) (row : Row) (f : List ℕ) → takes s r row f ≡ true → is_in (features_in r.branches) f ≡ true

@@ -4,14 +4,14 @@ use Rattle.fml_types.specs.Named.{AreRising}
 use Rattle.fml_types.specs.Sound.{IsSoundManifest}
 use Rattle.fml_types.specs.declared.manifest.Manifest.{Manifest}
 use Rattle.fml_link.specs.Linking.{linked}
-use Rattle.fml_link.specs.declared.fault.LinkFault.{LinkFault}
-use Rattle.fml_link.specs.declared.fault.LinkFault.TheVariants as link
+use Rattle.fml_link.specs.declared.fault.LinkRefusal.{LinkRefusal}
+use Rattle.fml_link.specs.declared.fault.LinkRefusal.TheVariants as link
 use Rattle.fml_merge.specs.Faults.{bad_default}
 use Rattle.client_core.specs.declared.answer.Answer.{Answer}
 use Rattle.client_core.specs.declared.answer.Answer.TheVariants.{AbsentFile, FileTooLarge, NotJson, BadShape, ImportsUnbuilt, TooManyFiles, DuplicateName, UnknownType, EndlessObject, ObjectTooLarge, UnknownChannel, BadDefault}
 
--- what is answered where the files don't link. No linking wants memory, nor does a file that is there fail
-abbrev pub link_refusal : LinkFault → Answer
+-- what is answered where the files don't link
+abbrev pub link_refusal : LinkRefusal → Answer
 link_refusal (link.AbsentFile name) = AbsentFile name
 link_refusal (link.FileTooLarge name bytes) = FileTooLarge name bytes
 link_refusal (link.NotJson name) = NotJson name
@@ -23,15 +23,13 @@ link_refusal (link.UnknownType name) = UnknownType name
 link_refusal (link.EndlessObject name) = EndlessObject name
 link_refusal (link.ObjectTooLarge name) = ObjectTooLarge name
 link_refusal link.UnknownChannel = UnknownChannel
-link_refusal link.ShelfFault = UnknownChannel
-link_refusal link.OutOfMemory = UnknownChannel
 
 -- a manifest, or the refusal of its first default that doesn't fit
 abbrev pub where_fits : Manifest → Option (List ℕ × List ℕ) → Result Manifest Answer
 where_fits m None = Ok m
 where_fits m (Some bad) = Err (BadDefault bad.0 bad.1)
 
-abbrev pub checked : Result Manifest LinkFault → Result Manifest Answer
+abbrev pub checked : Result Manifest LinkRefusal → Result Manifest Answer
 checked (Ok m) = where_fits m (bad_default m)
 checked (Err fault) = Err (link_refusal fault)
 

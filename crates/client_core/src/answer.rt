@@ -4,7 +4,7 @@ use enrol_states::Row;
 use json_tree::Tree;
 use plain_text::Slug;
 use recipe_reader::SkipReason;
-use sequences::{Sequence, Text};
+use sequences::{Sequence, SharedList, Text};
 use uuid::Uuid;
 
 /// What a command is answered. From `NoManifest` on each is a refusal, which changes nothing.
@@ -31,8 +31,8 @@ pub enum Answer {
         participating: bool,
         /// Whether recipes are pending.
         pending: bool,
-        opted_out: Sequence<Slug>,
-        rows: Sequence<Row>,
+        opted_out: SharedList<Slug>,
+        rows: SharedList<Row>,
     },
     /// No manifest was set in this run.
     NoManifest,

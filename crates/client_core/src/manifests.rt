@@ -1,10 +1,7 @@
 // The manifest of a run is set.
-ghost use Rattle.std.specs.Prelude.{◌≡◌, ◌≤◌, List, ℕ, Result, Ok, Err, IfOk, IsErrOf};
+ghost use Rattle.std.specs.Prelude.{◌≡◌, ◌≤◌, List, ℕ, Ok, IfOk, IsErrOf};
 ghost use Rattle.host_model.specs.Causes.{Rose};
 ghost use Rattle.fml_types.specs.Sound.{IsSoundManifest};
-ghost use Rattle.fml_types.specs.declared.manifest.Manifest.{Manifest};
-ghost use Rattle.fml_link.specs.Outcome.{Gives};
-ghost use Rattle.fml_link.specs.declared.fault.LinkFault.{LinkFault};
 ghost use Rattle.fml_merge.specs.Faults.{bad_default};
 ghost use Rattle.state_codec.specs.Sound.{IsSound};
 ghost use Rattle.client_core.specs.Manifests.{link_refusal, where_fits, manifest_of};
@@ -16,7 +13,7 @@ use crate::faults::StepFault;
 use crate::linked_manifest::LinkedManifest;
 use crate::prepared::Prepared;
 use crate::session::SessionChange;
-use fml_link::{LinkFault, link};
+use fml_link::{LinkFault, LinkRefusal, link};
 use fml_merge::{DefaultFault, check_defaults};
 use fml_types::Manifest;
 use host_model::Shelf;
@@ -77,31 +74,28 @@ fn read_manifest<F: Shelf>(
 {
     match link(alloc, shelf, name.as_str(), channel.as_str()) {
         Ok(manifest) => Ok(checked(alloc, manifest)?),
-        Err(fault) => Ok(Err(refusal_of(fault)?)),
+        Err(LinkFault::Refused(refusal)) => Ok(Err(refusal_of(refusal))),
+        Err(LinkFault::ShelfFault) => Err(StepFault::ShelfFault),
+        Err(LinkFault::OutOfMemory) => Err(StepFault::OutOfMemory),
     }
 }
 
 /// What is answered where the files don't link.
-fn refusal_of(fault: LinkFault) -> Result<Answer, StepFault>
-    ensures refusal { IfOk result (λ answer. answer ≡ link_refusal fault) }
-    ensures stated { IfOk result (λ _. (found : Result Manifest LinkFault) → Gives (Err fault) found → found ≡ Err fault) }
-    ensures shelf { IsErrOf result StepFault.ShelfFault → fault ≡ LinkFault.ShelfFault }
-    ensures not_full { ¬ IsErrOf result StepFault.StoreFull }
+fn refusal_of(refusal: LinkRefusal) -> Answer
+    ensures { result ≡ link_refusal refusal }
 {
-    match fault {
-        LinkFault::AbsentFile(name) => Ok(Answer::AbsentFile(name)),
-        LinkFault::FileTooLarge(name, length) => Ok(Answer::FileTooLarge(name, length)),
-        LinkFault::NotJson(name) => Ok(Answer::NotJson(name)),
-        LinkFault::BadShape(name, path) => Ok(Answer::BadShape(name, path)),
-        LinkFault::ImportsUnbuilt(name) => Ok(Answer::ImportsUnbuilt(name)),
-        LinkFault::TooManyFiles => Ok(Answer::TooManyFiles),
-        LinkFault::DuplicateName(name) => Ok(Answer::DuplicateName(name)),
-        LinkFault::UnknownType(name) => Ok(Answer::UnknownType(name)),
-        LinkFault::EndlessObject(name) => Ok(Answer::EndlessObject(name)),
-        LinkFault::ObjectTooLarge(name) => Ok(Answer::ObjectTooLarge(name)),
-        LinkFault::UnknownChannel => Ok(Answer::UnknownChannel),
-        LinkFault::ShelfFault => Err(StepFault::ShelfFault),
-        LinkFault::OutOfMemory => Err(StepFault::OutOfMemory),
+    match refusal {
+        LinkRefusal::AbsentFile(name) => Answer::AbsentFile(name),
+        LinkRefusal::FileTooLarge(name, length) => Answer::FileTooLarge(name, length),
+        LinkRefusal::NotJson(name) => Answer::NotJson(name),
+        LinkRefusal::BadShape(name, path) => Answer::BadShape(name, path),
+        LinkRefusal::ImportsUnbuilt(name) => Answer::ImportsUnbuilt(name),
+        LinkRefusal::TooManyFiles => Answer::TooManyFiles,
+        LinkRefusal::DuplicateName(name) => Answer::DuplicateName(name),
+        LinkRefusal::UnknownType(name) => Answer::UnknownType(name),
+        LinkRefusal::EndlessObject(name) => Answer::EndlessObject(name),
+        LinkRefusal::ObjectTooLarge(name) => Answer::ObjectTooLarge(name),
+        LinkRefusal::UnknownChannel => Answer::UnknownChannel,
     }
 }
 

@@ -25,7 +25,6 @@ use gate_journal::{Frame, SIDE_END};
 use host_model::Shelf;
 use jexl_transforms::TransformTable;
 use plain_text::Slug;
-use sequences::Sequence;
 use state_codec::{state_size, write_state};
 use std::alloc::{AllocError, Global};
 
@@ -200,9 +199,7 @@ fn applied_answer(state: &State) -> Answer
 fn enrolled_rows(rows: &[Row]) -> usize
     ensures { result ≡ count_by (λ row. is_enrolled row.status) rows.now }
 {
-    rows.iter()
-        .filter(|row| matches!(row.status, Status::Enrolled { .. }))
-        .count()
+    rows.iter().filter(|row| row.status.is_enrolled()).count()
 }
 
 /// The answer that shows a state.
@@ -213,21 +210,7 @@ fn answer_of(alloc: Global, state: &State) -> Result<Answer, AllocError>
         id: state.id,
         participating: state.participating,
         pending: state.pending.is_some(),
-        opted_out: copy_of_slugs(&state.opted_out)?,
-        rows: copy_of_rows(&state.rows)?,
+        opted_out: state.opted_out.clone()?,
+        rows: state.rows.clone()?,
     })
-}
-
-#[tactic(auto, using(crate::proofs::Copies::same_lists))]
-fn copy_of_slugs(slugs: &Sequence<Slug>) -> Result<Sequence<Slug>, AllocError>
-    ensures { IfOk result (λ copy. copy ≡ slugs.now) }
-{
-    slugs.clone()
-}
-
-#[tactic(auto, using(crate::proofs::Copies::same_rows))]
-fn copy_of_rows(rows: &Sequence<Row>) -> Result<Sequence<Row>, AllocError>
-    ensures { IfOk result (λ copy. copy ≡ rows.now) }
-{
-    rows.clone()
 }

@@ -14,7 +14,7 @@ use itoa::Buffer;
 use json_tree::{Tree, write};
 use plain_text::Slug;
 use recipe_reader::SkipReason;
-use sequences::{Sequence, Text};
+use sequences::{Sequence, SharedList, Text};
 use std::alloc::{AllocError, Global};
 use uuid::Uuid;
 
@@ -142,8 +142,8 @@ fn shown_text(
     id: Uuid,
     participating: bool,
     pending: bool,
-    opted_out: &Sequence<Slug>,
-    rows: &Sequence<Row>,
+    opted_out: &SharedList<Slug>,
+    rows: &SharedList<Row>,
 ) -> Result<Text, AllocError>
     ensures { IfOk result (λ text. text ≡ shown_lines id participating pending opted_out.now rows.now) }
 {

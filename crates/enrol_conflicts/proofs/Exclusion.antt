@@ -1,26 +1,27 @@
 -- Two granted wishes of one kind share no feature outside coenrolling.
 use Rattle.std.proofs.Common.{◌≡◌, ◌⊎◌, ℕ, zero, suc, inl, inr, List, [], ◌∷◌, get_or, slice_get, Some, is_none, option_map, unwrap_or, Bool, true, false, not, ◌&&◌, ◌||◌, bytes_eq, Contains, refl, sym, ap, ap₂, ◌∙◌, arith, true≢false}
 use Rattle.std.specs.List.{list_any}
-use Rattle.std.specs.Cmp.{booleans_Decides}
-use Rattle.std.proofs.Math.Bool.{beq}
 use Rattle.std.proofs.lemmas.Slice.Eq.{bytes_eq-Decides}
 use Rattle.std.proofs.lemmas.List.Folds.{list_any_at}
 use Rattle.std.proofs.lemmas.Option.{slice_get-map}
 use Rattle.enrol_conflicts.specs.declared.candidate.Candidate.{Candidate}
-use Rattle.enrol_conflicts.specs.Settlement.{is_before, is_among, clashes, any_granted, is_blocked, Settled}
+use Rattle.recipe_reader.specs.Kinds.{kind_eq}
+use Rattle.recipe_reader.proofs.SameKind.{kind_Decides}
+use Rattle.enrol_states.specs.Order.{is_in}
+use Rattle.enrol_conflicts.specs.Settlement.{is_before, clashes, any_granted, is_blocked, Settled}
 use Rattle.enrol_conflicts.specs.Laws.{IsExclusive}
 use Rattle.enrol_conflicts.proofs.Ranks.{is_before-either}
 
-among_here : (g f : List ℕ) (gs : List (List ℕ)) (b : Bool) → bytes_eq g f ≡ b → (is_among f gs ≡ true → Contains gs f) → (b || is_among f gs) ≡ true → Contains (g ∷ gs) f
+among_here : (g f : List ℕ) (gs : List (List ℕ)) (b : Bool) → bytes_eq g f ≡ b → (is_in gs f ≡ true → Contains gs f) → (b || is_in gs f) ≡ true → Contains (g ∷ gs) f
 among_here g f gs true e k h = (zero, omega arith, (bytes_eq-Decides g f).0 e)
 among_here g f gs false e k h = let c = k h in (suc c.0, omega (arith, c.1), c.2)
 
-pub Contains-is_among : (f : List ℕ) (names : List (List ℕ)) → is_among f names ≡ true → Contains names f
-Contains-is_among f [] h = absurd (true≢false (sym h))
-Contains-is_among f (g ∷ gs) h = among_here g f gs (bytes_eq g f) refl (Contains-is_among f gs) h
+pub Contains-is_in : (f : List ℕ) (names : List (List ℕ)) → is_in names f ≡ true → Contains names f
+Contains-is_in f [] h = absurd (true≢false (sym h))
+Contains-is_in f (g ∷ gs) h = among_here g f gs (bytes_eq g f) refl (Contains-is_in f gs) h
 
-pub is_among-Contains : (f : List ℕ) (names : List (List ℕ)) → Contains names f → is_among f names ≡ true
-is_among-Contains f names c = list_any_at (λ g. bytes_eq g f) names c.0 f c.1 ((bytes_eq-Decides (get_or names c.0 f) f).1 c.2)
+pub is_in-Contains : (f : List ℕ) (names : List (List ℕ)) → Contains names f → is_in names f ≡ true
+is_in-Contains f names c = list_any_at (λ g. bytes_eq g f) names c.0 f c.1 ((bytes_eq-Decides (get_or names c.0 f) f).1 c.2)
 
 or_left : (a b : Bool) → (a || b) ≡ false → a ≡ false
 or_left true b h = h
@@ -54,15 +55,15 @@ pub both : (a b : Bool) → a ≡ true → b ≡ true → (a && b) ≡ true
 both true b h k = k
 both false b h k = h
 
-pub clash_from : (coenrolling : List (List ℕ)) (v w : Candidate) (f : List ℕ) → v.rollout ≡ w.rollout → Contains v.features f → Contains w.features f → not (is_among f coenrolling) ≡ true → clashes coenrolling v w ≡ true
+pub clash_from : (coenrolling : List (List ℕ)) (v w : Candidate) (f : List ℕ) → v.kind ≡ w.kind → Contains v.features f → Contains w.features f → not (is_in coenrolling f) ≡ true → clashes coenrolling v w ≡ true
 clash_from coenrolling v w f k a b n =
-    both (beq v.rollout w.rollout) (list_any (λ g. is_among g v.features && not (is_among g coenrolling)) w.features) ((booleans_Decides v.rollout w.rollout).1 k)
-    (list_any_at (λ g. is_among g v.features && not (is_among g coenrolling)) w.features b.0 f b.1 (ap (λ g. is_among g v.features && not (is_among g coenrolling)) b.2 ∙ both (is_among f v.features) (not (is_among f coenrolling)) (is_among-Contains f v.features a) n))
+    both (kind_eq v.kind w.kind) (list_any (λ g. is_in v.features g && not (is_in coenrolling g)) w.features) ((kind_Decides v.kind w.kind).1 k)
+    (list_any_at (λ g. is_in v.features g && not (is_in coenrolling g)) w.features b.0 f b.1 (ap (λ g. is_in v.features g && not (is_in coenrolling g)) b.2 ∙ both (is_in v.features f) (not (is_in coenrolling f)) (is_in-Contains f v.features a) n))
 
 -- where v is before w
-one_way : (ws : List Candidate) (coenrolling : List (List ℕ)) (gs : List Bool) → Settled ws coenrolling gs → (i j : ℕ) (v w : Candidate) (f : List ℕ) → slice_get ws i ≡ Some v → slice_get ws j ≡ Some w → slice_get gs i ≡ Some true → slice_get gs j ≡ Some true → is_before v w ≡ true → v.rollout ≡ w.rollout → Contains v.features f → Contains w.features f → Contains coenrolling f
+one_way : (ws : List Candidate) (coenrolling : List (List ℕ)) (gs : List Bool) → Settled ws coenrolling gs → (i j : ℕ) (v w : Candidate) (f : List ℕ) → slice_get ws i ≡ Some v → slice_get ws j ≡ Some w → slice_get gs i ≡ Some true → slice_get gs j ≡ Some true → is_before v w ≡ true → v.kind ≡ w.kind → Contains v.features f → Contains w.features f → Contains coenrolling f
 one_way ws coenrolling gs s i j v w f hv hw gv gw b k a c =
-    Contains-is_among f coenrolling (settle_coenrolling (is_among f coenrolling) (λ n. not_both (is_blocked coenrolling ws gs w) (unblocked ws coenrolling gs s j w hw gw) (any_granted-at (λ u. is_before u w && clashes coenrolling u w) ws gs i v hv gv (both (is_before v w) (clashes coenrolling v w) b (clash_from coenrolling v w f k a c n)))))
+    Contains-is_in f coenrolling (settle_coenrolling (is_in coenrolling f) (λ n. not_both (is_blocked coenrolling ws gs w) (unblocked ws coenrolling gs s j w hw gw) (any_granted-at (λ u. is_before u w && clashes coenrolling u w) ws gs i v hv gv (both (is_before v w) (clashes coenrolling v w) b (clash_from coenrolling v w f k a c n)))))
 
 pub exclusive : IsExclusive
 exclusive ws coenrolling gs s i j v w f hv hw gv gw d k a c = by_rank (is_before-either v w (is_before w v) refl d) where

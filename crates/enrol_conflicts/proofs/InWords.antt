@@ -2,14 +2,15 @@
 use Rattle.std.proofs.Common.{◌≡◌, ◌<◌, ◌↔◌, ℕ, zero, suc, List, [], ◌∷◌, length, get_or, slice_get, Some, option_map, unwrap_or, Bool, true, false, not, ◌&&◌, ◌||◌, Decides, Contains, is_lt, refl, sym, ap, ◌∙◌, arith, true≢false}
 use Rattle.std.proofs.lemmas.List.{length-map}
 use Rattle.std.specs.List.{list_any}
-use Rattle.std.specs.Cmp.{booleans_Decides}
-use Rattle.std.proofs.Math.Bool.{beq}
 use Rattle.std.proofs.lemmas.Option.{slice_get-map, slice_get-get_or, slice_get_within}
 use Rattle.enrol_conflicts.specs.declared.candidate.Candidate.{Candidate}
-use Rattle.enrol_conflicts.specs.Settlement.{rank_cmp, is_before, is_among, clashes, any_granted, is_blocked, Settled}
+use Rattle.recipe_reader.specs.Kinds.{kind_eq}
+use Rattle.recipe_reader.proofs.SameKind.{kind_Decides}
+use Rattle.enrol_states.specs.Order.{is_in}
+use Rattle.enrol_conflicts.specs.Settlement.{rank_cmp, is_before, clashes, any_granted, is_blocked, Settled}
 use Rattle.enrol_conflicts.specs.Laws.{Clashes, IsBlocked, IsSettledInWords, SettledSays}
 use Rattle.enrol_conflicts.proofs.Ranks.{Less-is}
-use Rattle.enrol_conflicts.proofs.Exclusion.{Contains-is_among, is_among-Contains, clash_from, any_granted-at, both}
+use Rattle.enrol_conflicts.proofs.Exclusion.{Contains-is_in, is_in-Contains, clash_from, any_granted-at, both}
 use Rattle.enrol_conflicts.proofs.Pass.{map_by_places}
 
 left : (a b : Bool) → (a && b) ≡ true → a ≡ true
@@ -48,12 +49,12 @@ pub clashes-Decides : (coenrolling : List (List ℕ)) (v w : Candidate) → Deci
 clashes-Decides coenrolling v w = (there, back) where
   there : clashes coenrolling v w ≡ true → Clashes coenrolling v w
   there h =
-      let kinds : beq v.rollout w.rollout ≡ true = left (beq v.rollout w.rollout) (list_any (λ f. is_among f v.features && not (is_among f coenrolling)) w.features) h in
-      let f = any_find (λ f. is_among f v.features && not (is_among f coenrolling)) w.features (right (beq v.rollout w.rollout) (list_any (λ f. is_among f v.features && not (is_among f coenrolling)) w.features) h) in
-      ((booleans_Decides v.rollout w.rollout).0 kinds, (f.0, Contains-is_among f.0 v.features (left (is_among f.0 v.features) (not (is_among f.0 coenrolling)) f.2), f.1, λ c. true_not (is_among f.0 coenrolling) (right (is_among f.0 v.features) (not (is_among f.0 coenrolling)) f.2) (is_among-Contains f.0 coenrolling c)))
+      let kinds : kind_eq v.kind w.kind ≡ true = left (kind_eq v.kind w.kind) (list_any (λ f. is_in v.features f && not (is_in coenrolling f)) w.features) h in
+      let f = any_find (λ f. is_in v.features f && not (is_in coenrolling f)) w.features (right (kind_eq v.kind w.kind) (list_any (λ f. is_in v.features f && not (is_in coenrolling f)) w.features) h) in
+      ((kind_Decides v.kind w.kind).0 kinds, (f.0, Contains-is_in f.0 v.features (left (is_in v.features f.0) (not (is_in coenrolling f.0)) f.2), f.1, λ c. true_not (is_in coenrolling f.0) (right (is_in v.features f.0) (not (is_in coenrolling f.0)) f.2) (is_in-Contains f.0 coenrolling c)))
 
   back : Clashes coenrolling v w → clashes coenrolling v w ≡ true
-  back h = clash_from coenrolling v w h.1.0 h.0 h.1.1 h.1.2 (not_true (is_among h.1.0 coenrolling) (λ e. h.1.3 (Contains-is_among h.1.0 coenrolling e)))
+  back h = clash_from coenrolling v w h.1.0 h.0 h.1.1 h.1.2 (not_true (is_in coenrolling h.1.0) (λ e. h.1.3 (Contains-is_in h.1.0 coenrolling e)))
 
 pub is_blocked-Decides : (ws : List Candidate) (coenrolling : List (List ℕ)) (gs : List Bool) (w : Candidate) → Decides (is_blocked coenrolling ws gs w) (IsBlocked ws coenrolling gs w)
 is_blocked-Decides ws coenrolling gs w = (there, back) where

@@ -2,7 +2,7 @@
 use Rattle.std.specs.Prelude.{◌≡◌, ◌↔◌, ℕ, List, length, slice_get, Some, Bool, true, Contains}
 use Rattle.std.specs.declared.cmp.Ordering.TheVariants.{Less}
 use Rattle.enrol_conflicts.specs.declared.candidate.Candidate.{Candidate}
-use Rattle.enrol_conflicts.specs.Settlement.{rank_cmp, Settled, AreExclusive, HaveOwnSlugs, SlugsRise}
+use Rattle.enrol_conflicts.specs.Settlement.{rank_cmp, Settled, GrantsAreExclusive, HaveOwnSlugs, SlugsRise}
 
 -- some list is settled
 abbrev pub IsSettleable : Type 0
@@ -14,7 +14,7 @@ IsSettledOnce = (wishes : List Candidate) (coenrolling : List (List ℕ)) → (a
 
 -- two granted wishes with different slugs and of one kind share no feature outside coenrolling
 abbrev pub IsExclusive : Type 0
-IsExclusive = (wishes : List Candidate) (coenrolling : List (List ℕ)) (granted : List Bool) → Settled wishes coenrolling granted → AreExclusive wishes coenrolling granted
+IsExclusive = (wishes : List Candidate) (coenrolling : List (List ℕ)) (granted : List Bool) → Settled wishes coenrolling granted → GrantsAreExclusive wishes coenrolling granted
 
 -- wishes in order by slug have slugs of their own
 abbrev pub DifferInOrder : Type 0
@@ -22,7 +22,7 @@ DifferInOrder = (wishes : List Candidate) → SlugsRise wishes → HaveOwnSlugs 
 
 -- one kind, and a shared feature outside coenrolling
 abbrev pub Clashes : List (List ℕ) → Candidate → Candidate → Type 0
-Clashes coenrolling v w = (v.rollout ≡ w.rollout) × ((f : List ℕ) × Contains v.features f × Contains w.features f × (Contains coenrolling f → ⊥))
+Clashes coenrolling v w = (v.kind ≡ w.kind) × ((f : List ℕ) × Contains v.features f × Contains w.features f × (Contains coenrolling f → ⊥))
 
 -- a granted wish of lower rank clashes with w
 abbrev pub IsBlocked : List Candidate → List (List ℕ) → List Bool → Candidate → Type 0

@@ -1,6 +1,7 @@
 // A wish to be enrolled.
 
 use plain_text::Slug;
+use recipe_reader::Kind;
 use sequences::{Sequence, Text};
 
 /// A recipe whose client is enrolled in it, or would be, unless its features are taken.
@@ -8,8 +9,8 @@ use sequences::{Sequence, Text};
 pub struct Candidate {
     /// The recipe's slug.
     pub slug: Slug,
-    /// Whether the recipe is a rollout and no experiment. Wishes of different kinds share freely.
-    pub rollout: bool,
+    /// Wishes of different kinds share features freely.
+    pub kind: Kind,
     /// The features of all the recipe's branches, in any order; a feature may come twice.
     pub features: Sequence<Text>,
     /// Whether the client is enrolled in the recipe already.

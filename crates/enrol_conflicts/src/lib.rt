@@ -2,6 +2,7 @@
 #![tactic(auto)]
 
 mod candidate;
+mod held;
 mod laws;
 mod names;
 mod rank;

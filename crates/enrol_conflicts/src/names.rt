@@ -1,7 +1,7 @@
-// Looking a name up among many.
+// Sets of names.
 ghost use Rattle.std.specs.Prelude.{◌≡◌, ℕ, List, IfOk};
-ghost use Rattle.enrol_conflicts.specs.Settlement.{is_among};
-ghost use Rattle.enrol_conflicts.specs.Holders.{has_name};
+ghost use Rattle.enrol_states.specs.Order.{is_in};
+ghost use Rattle.enrol_states.specs.TextSets.{has_text};
 
 use sequences::Text;
 use std::alloc::{AllocError, Global};
@@ -9,7 +9,7 @@ use std::collections::BTreeSet;
 
 /// The names as a set.
 pub(crate) fn set_of<'a>(alloc: Global, names: &'a [Text]) -> Result<BTreeSet<&'a str>, AllocError>
-    ensures { IfOk result (λ set. (f : List ℕ) → has_name set f ≡ is_among f names.now) }
+    ensures { IfOk result (λ set. (f : List ℕ) → has_text set f ≡ is_in names.now f) }
 {
     let mut set = BTreeSet::new(alloc);
     for name in names {
@@ -20,7 +20,7 @@ pub(crate) fn set_of<'a>(alloc: Global, names: &'a [Text]) -> Result<BTreeSet<&'
 
 /// Whether the name is in the set.
 pub(crate) fn has_name<'a>(names: &BTreeSet<&'a str>, name: &'a str) -> bool
-    ensures { result ≡ has_name names.now name.now }
+    ensures { result ≡ has_text names.now name.now }
 {
     names.contains(&name)
 }

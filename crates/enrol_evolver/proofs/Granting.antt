@@ -1,12 +1,13 @@
 -- Recipes in which the client is enrolled after an apply share no feature that may not be shared.
 use Rattle.std.proofs.Common.{◌≡◌, ◌≢◌, ℕ, zero, suc, Bool, true, false, List, [], ◌∷◌, ◌++◌, map, cond, slice_get, Option, None, Some, Contains, refl, sym, ap, ap₂, ◌∙◌, subst}
-use Rattle.std.specs.Prelude.{bytes_eq, ◌||◌, ◌&&◌, not, filter, IsTrue, if◌then◌else◌}
-use Rattle.std.specs.Bool.{beq}
+use Rattle.std.specs.Prelude.{fold, bytes_eq, ◌||◌, ◌&&◌, not, filter, IsTrue, if◌then◌else◌}
 use Rattle.std.specs.List.{list_any, flat_map}
 use Rattle.std.specs.Cmp.Lexicographic.{bytes_decides}
 use Rattle.recipe_reader.specs.Payloads as payloads
 use Rattle.recipe_reader.specs.Payloads.{AreInOrder, AreValid, recipe_with}
 use Rattle.recipe_reader.specs.Records.{IsValid}
+use Rattle.recipe_reader.specs.Kinds.{kind_of, kind_eq}
+use Rattle.recipe_reader.proofs.SameKind.{kind_Decides}
 use Rattle.recipe_reader.specs.declared.recipe.Recipe.{Recipe}
 use Rattle.recipe_reader.specs.declared.recipe.Branch.{Branch}
 use Rattle.recipe_reader.specs.declared.recipe.FeatureValue.{FeatureValue}
@@ -20,10 +21,9 @@ use Rattle.enrol_states.specs.declared.state.State.{State}
 use Rattle.enrol_states.specs.declared.state.Row.{Row}
 use Rattle.enrol_states.specs.declared.status.Status.{Status}
 use Rattle.enrol_conflicts.specs.declared.candidate.Candidate.{Candidate}
-use Rattle.enrol_conflicts.specs.Settlement.{is_among}
-use Rattle.enrol_conflicts.proofs.Exclusion.{exclusive, Contains-is_among, is_among-Contains}
+use Rattle.enrol_conflicts.proofs.Exclusion.{exclusive, Contains-is_in, is_in-Contains}
 use Rattle.enrol_evolver.specs.Verdicts.{is_out}
-use Rattle.enrol_evolver.specs.Wishes.{features_of, candidate_of, outcome_of, is_wish, wishes_of, grants_of, is_granted}
+use Rattle.enrol_evolver.specs.Wishes.{with_once, features_of, candidate_of, outcome_of, is_wish, wishes_of, grants_of, is_granted}
 use Rattle.enrol_evolver.specs.Evolution.{is_slug_granted, status_with, rows_after, with_new_rows}
 use Rattle.enrol_evolver.proofs.Entries.{no_recipe}
 use Rattle.enrol_evolver.proofs.Evolved.{settled_grants, found_slug, status-after}
@@ -31,21 +31,55 @@ use Rattle.enrol_evolver.proofs.Fitness.{IsOld, outcome-fits, enrolled-granted}
 
 -- ---- features
 
-among-append : (f : List ℕ) (xs ys : List (List ℕ)) → is_among f (xs ++ ys) ≡ (is_among f xs || is_among f ys)
+among-append : (f : List ℕ) (xs ys : List (List ℕ)) → is_in (xs ++ ys) f ≡ (is_in xs f || is_in ys f)
 among-append f [] ys = refl
-among-append f (x ∷ xs) ys = ap (λ b. bytes_eq x f || b) (among-append f xs ys) ∙ together (bytes_eq x f) (is_among f xs) (is_among f ys) where
+among-append f (x ∷ xs) ys = ap (λ b. bytes_eq x f || b) (among-append f xs ys) ∙ together (bytes_eq x f) (is_in xs f) (is_in ys f) where
   together : (a b c : Bool) → (a || (b || c)) ≡ ((a || b) || c)
   together true b c = refl
   together false b c = refl
 
-among-values : (f : List ℕ) (vs : List FeatureValue) → is_among f (map (λ (v : FeatureValue). v.feature) vs) ≡ list_any (λ (v : FeatureValue). bytes_eq v.feature f) vs
+among-values : (f : List ℕ) (vs : List FeatureValue) → is_in (map (λ (v : FeatureValue). v.feature) vs) f ≡ list_any (λ (v : FeatureValue). bytes_eq v.feature f) vs
 among-values f [] = refl
 among-values f (v ∷ vs) = ap (λ b. bytes_eq v.feature f || b) (among-values f vs)
 
-among-branches : (f : List ℕ) (bs : List Branch) → is_among f (flat_map (λ (b : Branch). map (λ (v : FeatureValue). v.feature) b.features) bs) ≡ list_any (λ (b : Branch). sets b f) bs
+among-branches : (f : List ℕ) (bs : List Branch) → is_in (flat_map (λ (b : Branch). map (λ (v : FeatureValue). v.feature) b.features) bs) f ≡ list_any (λ (b : Branch). sets b f) bs
 among-branches f [] = refl
 among-branches f (b ∷ bs) =
     among-append f (map (λ (v : FeatureValue). v.feature) b.features) (flat_map (λ (d : Branch). map (λ (v : FeatureValue). v.feature) d.features) bs) ∙ ap₂ (λ x y. x || y) (among-values f b.features) (among-branches f bs)
+
+once_at : (f t : List ℕ) (ts : List (List ℕ)) (b : Bool) → bytes_eq t f ≡ b → is_in ts t ≡ true → is_in ts f ≡ (is_in ts f || b)
+once_at f t ts true e there = let same : t ≡ f = (bytes_decides t f).0 e in let here : is_in ts f ≡ true = subst (λ u. is_in ts u ≡ true) same there in here ∙ sym (ap (λ b. b || true) here)
+once_at f t ts false e there = none_more (is_in ts f) where
+  none_more : (a : Bool) → a ≡ (a || false)
+  none_more true = refl
+  none_more false = refl
+
+none_after : (b : Bool) → (b || false) ≡ b
+none_after true = refl
+none_after false = refl
+
+-- one text more
+pub more-texts : (f t : List ℕ) (ts : List (List ℕ)) → is_in (ts ++ t ∷ []) f ≡ (is_in ts f || bytes_eq t f)
+more-texts f t ts = among-append f ts (t ∷ []) ∙ ap (λ b. is_in ts f || b) (none_after (bytes_eq t f))
+
+once_by : (f t : List ℕ) (ts : List (List ℕ)) (b : Bool) → is_in ts t ≡ b → is_in (if b then ts else ts ++ t ∷ []) f ≡ (is_in ts f || bytes_eq t f)
+once_by f t ts true e = once_at f t ts (bytes_eq t f) refl e
+once_by f t ts false e = more-texts f t ts
+
+among-once : (f t : List ℕ) (ts : List (List ℕ)) → is_in (with_once ts t) f ≡ (is_in ts f || bytes_eq t f)
+among-once f t ts = once_by f t ts (is_in ts t) refl
+
+or_or : (a b c : Bool) → ((a || b) || c) ≡ (a || (b || c))
+or_or true b c = refl
+or_or false b c = refl
+
+-- to have each text once is to have the same texts
+among-fold : (f : List ℕ) (ts acc : List (List ℕ)) → is_in (fold with_once acc ts) f ≡ (is_in acc f || is_in ts f)
+among-fold f [] acc = sym (none_after (is_in acc f))
+among-fold f (t ∷ ts) acc = among-fold f ts (with_once acc t) ∙ ap (λ b. b || is_in ts f) (among-once f t acc) ∙ or_or (is_in acc f) (bytes_eq t f) (is_in ts f)
+
+among-features : (f : List ℕ) (r : Recipe) → is_in (features_of r) f ≡ has_feature r f
+among-features f r = among-fold f (flat_map (λ (b : Branch). map (λ (v : FeatureValue). v.feature) b.features) r.branches) [] ∙ among-branches f r.branches
 
 -- ---- granted wishes
 
@@ -102,7 +136,7 @@ record IsHeld (ws : List Candidate) (gs : List Bool) (r : Recipe) : Type 0 where
   here : slice_get ws place ≡ Some wish
   granted : slice_get gs place ≡ Some true
   slug : wish.slug ≡ r.slug
-  rollout : wish.rollout ≡ r.rollout
+  kind : wish.kind ≡ kind_of r
   features : wish.features ≡ features_of r
 
 held_by : (context : Context) (s : State) (now : ℕ) (slug : List ℕ) (r : Recipe) → AreInOrder s.live → recipe_with slug s.live ≡ Some r → is_slug_granted context s now slug ≡ true → IsHeld (wishes_of context s now) (grants_of (wishes_of context s now) s.coenrolling) r
@@ -118,7 +152,7 @@ held_by context s now slug r order found granted =
       here = g.here;
       granted = g.granted;
       slug = ap (λ (c : Candidate). c.slug) w.wish ∙ ap (λ (p : Recipe). p.slug) same;
-      rollout = ap (λ (c : Candidate). c.rollout) w.wish ∙ ap (λ (p : Recipe). p.rollout) same;
+      kind = ap (λ (c : Candidate). c.kind) w.wish ∙ ap kind_of same;
       features = ap (λ (c : Candidate). c.features) w.wish ∙ ap features_of same;
     }
 
@@ -134,12 +168,6 @@ granted_where context s now slug r valid old rise found enrolled =
 
 -- ---- no feature is shared
 
-beq_same : (a b : Bool) → beq a b ≡ true → a ≡ b
-beq_same true true e = refl
-beq_same true false e = absurd cc
-beq_same false true e = absurd cc
-beq_same false false e = refl
-
 never : (a b c d : Bool) → (a ≡ true → b ≡ true → c ≡ true → d ≡ true) → (a && (b && (c && not d))) ≡ false
 never false b c d h = refl
 never true false c d h = refl
@@ -149,12 +177,12 @@ never true true true false h = absurd (let e = h refl refl refl in cc)
 
 shares_nothing : (s : State) (ws : List Candidate) (r q : Recipe) (feature : List ℕ) → IsHeld ws (grants_of ws s.coenrolling) r → IsHeld ws (grants_of ws s.coenrolling) q → r.slug ≢ q.slug → share s.coenrolling r q feature ≡ false
 shares_nothing s ws r q feature one two apart =
-    never (beq r.rollout q.rollout) (has_feature r feature) (has_feature q feature) (is_in s.coenrolling feature)
-    (λ kind has_r has_q. is_among-Contains feature s.coenrolling
+    never (kind_eq (kind_of r) (kind_of q)) (has_feature r feature) (has_feature q feature) (is_in s.coenrolling feature)
+    (λ kind has_r has_q. is_in-Contains feature s.coenrolling
     (exclusive ws s.coenrolling (grants_of ws s.coenrolling) (settled_grants ws s.coenrolling) one.place two.place one.wish two.wish feature one.here two.here one.granted two.granted
-    (λ e. apart (sym one.slug ∙ e ∙ two.slug)) (one.rollout ∙ beq_same r.rollout q.rollout kind ∙ sym two.rollout)
-    (subst (λ fs. Contains fs feature) (sym one.features) (Contains-is_among feature (features_of r) (among-branches feature r.branches ∙ has_r)))
-    (subst (λ fs. Contains fs feature) (sym two.features) (Contains-is_among feature (features_of q) (among-branches feature q.branches ∙ has_q)))))
+    (λ e. apart (sym one.slug ∙ e ∙ two.slug)) (one.kind ∙ (kind_Decides (kind_of r) (kind_of q)).0 kind ∙ sym two.kind)
+    (subst (λ fs. Contains fs feature) (sym one.features) (Contains-is_in feature (features_of r) (among-features feature r ∙ has_r)))
+    (subst (λ fs. Contains fs feature) (sym two.features) (Contains-is_in feature (features_of q) (among-features feature q ∙ has_q)))))
 
 valid_at : (slug : List ℕ) (q : Recipe) (qs : List Recipe) (r : Recipe) (b : Bool) → IsValid q → (recipe_with slug qs ≡ Some r → IsValid r) → (if b then Some q else recipe_with slug qs) ≡ Some r → IsValid r
 valid_at slug q qs r true valid rest e = subst IsValid (some_same e) valid

@@ -12,3 +12,4 @@ pub mod Evolved
 pub mod Fitness
 pub mod Granting
 pub mod Consistency
+pub mod Counts

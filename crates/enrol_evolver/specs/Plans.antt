@@ -1,5 +1,5 @@
 -- What follows for each slug, with the wishes that are to be settled.
-use Rattle.std.specs.Prelude.{ℕ, Bool, true, false, List, [], ◌∷◌, ◌||◌, not, Option, Some, None, ⊤}
+use Rattle.std.specs.Prelude.{ℕ, ◌+◌, Bool, true, false, List, [], ◌∷◌, ◌||◌, not, Option, Some, None, ⊤}
 use Rattle.recipe_reader.specs.Records.{IsValid}
 use Rattle.app_context.specs.declared.context.Context.{Context}
 use Rattle.enrol_states.specs.Statuses.{is_enrolled_now}
@@ -46,6 +46,16 @@ without_first (b ∷ bs) = bs
 abbrev pub answers_after : Outcome → List Bool → List Bool
 answers_after (Keep status) granted = granted
 answers_after (Wish won lost) granted = without_first granted
+
+-- how many answers the outcome takes
+abbrev pub answer_count : Outcome → ℕ
+answer_count (Keep status) = 0
+answer_count (Wish won lost) = 1
+
+-- how many of the entries are wishes
+abbrev pub wish_count : List Entry → ℕ
+wish_count [] = 0
+wish_count (e ∷ es) = answer_count e.outcome + wish_count es
 
 -- the rows of the entries; each wish takes its answer from the front
 abbrev pub rows_by : List Entry → List Bool → List Row

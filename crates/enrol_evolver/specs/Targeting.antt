@@ -1,6 +1,6 @@
 -- What a recipe's targeting says of a client.
-use Rattle.std.specs.Prelude.{◌≡◌, ℕ, true, false, List, Option, Some, None, Result, Ok, Err}
-use Rattle.json_tree.specs.Json.{Json, null, truth, members_of}
+use Rattle.std.specs.Prelude.{◌≡◌, ℕ, Bool, true, false, List, Option, Some, None, Result, Ok, Err}
+use Rattle.json_tree.specs.Json.{Json, null, members_of}
 use Rattle.recipe_reader.specs.declared.recipe.Recipe.{Recipe}
 use Rattle.app_context.specs.Attributes.{attributes, ArePrepared}
 use Rattle.app_context.specs.declared.context.Context.{Context}
@@ -9,7 +9,7 @@ use Rattle.enrol_states.specs.declared.status.ErrorCause.TheVariants.{Unparsed, 
 use Rattle.jexl_parser.specs.Tree.{Tree}
 use Rattle.jexl_transforms.specs.Meaning.{standard_names}
 use Rattle.jexl_eval.specs.Faults.{Fault}
-use Rattle.jexl_eval.specs.Meaning.{meaning}
+use Rattle.jexl_eval.specs.Meaning.{meaning, truth_of}
 use Rattle.enrol_evolver.specs.Expressions.{tree_in}
 use Rattle.enrol_evolver.specs.Readable.{readable}
 use Rattle.enrol_evolver.specs.declared.targeting.Targeting.{Targeting}
@@ -19,11 +19,15 @@ use Rattle.enrol_evolver.specs.declared.targeting.Targeting.TheVariants.{Passes,
 unfoldable pub tree_of : List ℕ → Option Tree
 tree_of text = tree_in (readable text)
 
+-- what a truth value says, or that there is none
+abbrev pub said_by_truth : Option Bool → Targeting
+said_by_truth (Some true) = Passes
+said_by_truth (Some false) = Misses
+said_by_truth None = Fails NotTruth
+
 -- what a value says, or a fault in its place: `true` and `false` alone are truths
 abbrev pub said : Result Json Fault → Targeting
-said (Ok (truth true)) = Passes
-said (Ok (truth false)) = Misses
-said (Ok x) = Fails NotTruth
+said (Ok x) = said_by_truth (truth_of x)
 said (Err fault) = Fails Faulted
 
 -- what a tree means of a client, for the recipe of a slug: by the client's attributes and the standard transforms, with no item at hand

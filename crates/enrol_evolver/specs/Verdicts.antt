@@ -1,5 +1,5 @@
 -- The verdict on a live recipe: the first line of a table that applies.
-use Rattle.std.specs.Prelude.{ℕ, ◌*◌, ◌^◌, ◌+◌, ◌-◌, ◌%◌, ◌++◌, ◌&&◌, ◌||◌, nat_lt, not, Bool, false, List, [], ◌∷◌, length, map, sum, Option, Some, None, codes, bytes_eq, slice_get, unwrap_or, if◌then◌else◌}
+use Rattle.std.specs.Prelude.{ℕ, ◌*◌, ◌^◌, ◌++◌, ◌&&◌, ◌||◌, nat_lt, not, Bool, false, List, [], ◌∷◌, length, map, sum, Option, Some, None, codes, bytes_eq, slice_get, unwrap_or, if◌then◌else◌}
 use Rattle.std.specs.List.{find, range_with_len}
 use Rattle.uuid.specs.Text.{hyphenated_text, lower}
 use Rattle.json_tree.specs.Json.{text, list, items_of}
@@ -7,7 +7,7 @@ use Rattle.json_tree.specs.Bytes.{text_of}
 use Rattle.recipe_reader.specs.declared.recipe.Recipe.{Recipe}
 use Rattle.recipe_reader.specs.declared.recipe.Bucket.{Bucket}
 use Rattle.recipe_reader.specs.declared.recipe.Branch.{Branch}
-use Rattle.sampling.specs.Sampling.{point_of, bucket_of, sum_through}
+use Rattle.sampling.specs.Sampling.{point_of, is_in_range, sum_through}
 use Rattle.app_context.specs.Named.{text_with}
 use Rattle.app_context.specs.declared.context.Context.{Context}
 use Rattle.enrol_states.specs.Order.{is_in}
@@ -47,7 +47,7 @@ branch_text value slug = text_of (text (codes "experimentmanager-" ++ (value ++ 
 
 -- whether the point's bucket is in the range
 abbrev pub holds_point : Bucket → ℕ → Bool
-holds_point b point = nat_lt ((bucket_of point b.total + b.total - b.start % b.total) % b.total) b.count
+holds_point b point = is_in_range point b.start b.count b.total
 
 abbrev pub ratios_of : List Branch → List ℕ
 ratios_of branches = map (λ b. b.ratio) branches

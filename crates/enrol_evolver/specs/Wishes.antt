@@ -1,9 +1,13 @@
 -- The wishes of an apply, and what comes of them.
-use Rattle.std.specs.Prelude.{ℕ, Bool, true, false, List, map, filter, Option, option_and_then, bytes_eq, if◌then◌else◌}
+use Rattle.std.specs.Prelude.{◌≡◌, ℕ, Bool, true, false, List, [], ◌∷◌, ◌++◌, fold, map, filter, Option, bytes_eq, if◌then◌else◌}
+use Rattle.std.specs.BTreeSet.{BTreeSet}
+use Rattle.std.specs.Borrow.{Bor}
 use Rattle.std.specs.List.{flat_map}
-use Rattle.plain_text.specs.Moments.{moment}
+use Rattle.recipe_reader.specs.Kinds.{kind_of, published_at}
 use Rattle.recipe_reader.specs.declared.recipe.Recipe.{Recipe}
 use Rattle.app_context.specs.declared.context.Context.{Context}
+use Rattle.enrol_states.specs.Order.{is_in}
+use Rattle.enrol_states.specs.TextSets.{has_text}
 use Rattle.enrol_states.specs.State.{status_of}
 use Rattle.enrol_states.specs.Statuses.{is_enrolled_now}
 use Rattle.enrol_states.specs.Transitions as transitions
@@ -16,13 +20,21 @@ use Rattle.enrol_conflicts.proofs.Uniqueness.{settleable}
 use Rattle.enrol_conflicts.specs.declared.candidate.Candidate.{Candidate}
 use Rattle.enrol_evolver.specs.Verdicts.{verdict_from, is_out}
 
--- the features of all branches
+-- the texts with one more, unless it is there
+abbrev pub with_once : List (List ℕ) → List ℕ → List (List ℕ)
+with_once ts t = if is_in ts t then ts else ts ++ t ∷ []
+
+-- the features of all branches, each once
 abbrev pub features_of : Recipe → List (List ℕ)
-features_of r = flat_map (λ b. map (λ v. v.feature) b.features) r.branches
+features_of r = fold with_once [] (flat_map (λ b. map (λ v. v.feature) b.features) r.branches)
+
+-- the set has these texts
+abbrev pub AreSeen : BTreeSet (Bor (List ℕ)) → List (List ℕ) → Type 0
+AreSeen seen ts = (t : List ℕ) → has_text seen t ≡ is_in ts t
 
 -- the wish to be enrolled in the recipe, of a client that is enrolled in it already or not
 abbrev pub candidate_of : Bool → Recipe → Candidate
-candidate_of was_enrolled r = record { slug = r.slug; rollout = r.rollout; features = features_of r; was_enrolled = was_enrolled; published = option_and_then moment r.published }
+candidate_of was_enrolled r = record { slug = r.slug; kind = kind_of r; features = features_of r; was_enrolled = was_enrolled; published = published_at r }
 
 -- what follows for a client with this old status or none, which is opted out or not
 abbrev pub outcome_from : Context → State → ℕ → Recipe → Option Status → Bool → Outcome

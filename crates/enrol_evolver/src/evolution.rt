@@ -20,7 +20,7 @@ use app_context::{Context, shared_attributes};
 use enrol_conflicts::settle;
 use enrol_states::{Row, State};
 use jexl_transforms::TransformTable;
-use sequences::{Sequence, Text};
+use sequences::{Sequence, SharedList, Text};
 use std::alloc::{AllocError, Global};
 
 /// The state after an apply, where `coenrolling` are the features that recipes of one kind may
@@ -59,7 +59,7 @@ fn evolved_rows(
     context: &Context,
     table: &TransformTable,
     now: u64,
-) -> Result<Sequence<Row>, AllocError>
+) -> Result<SharedList<Row>, AllocError>
     requires in_order { AreInOrder state.now.live }
     requires valid { AreValid state.now.live }
     requires rows { Rise (slugs_of state.now.rows) }

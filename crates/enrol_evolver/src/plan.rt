@@ -7,8 +7,7 @@ ghost use Rattle.enrol_states.specs.Order.{Rise};
 ghost use Rattle.enrol_states.specs.State.{slugs_of};
 ghost use Rattle.enrol_states.specs.Statuses.{is_enrolled_now};
 ghost use Rattle.enrol_states.specs.Transitions.{status_ended};
-ghost use Rattle.jexl_transforms.specs.Table.{names_of};
-ghost use Rattle.enrol_evolver.specs.Targeting.{IsReady};
+ghost use Rattle.enrol_evolver.specs.Clients.{of_client, IsReadyFor};
 ghost use Rattle.enrol_evolver.specs.Slots.{joined, view};
 ghost use Rattle.enrol_evolver.specs.Plans.{IsFit, entry_of, wish_of, wish_where, ended_entry};
 ghost use Rattle.enrol_evolver.specs.Wishes.{outcome_from, candidate_of, is_wish};
@@ -48,9 +47,9 @@ pub(crate) fn planned(
     requires valid { AreValid client.now.state.now.live }
     requires rows { Rise (slugs_of client.now.state.now.rows) }
     requires opted_out { Rise client.now.state.now.opted_out }
-    requires ready { IsReady client.now.context.now client.now.state.now client.now.moment evaluator.old.attributes.pairs (names_of evaluator.old.table.now) }
-    ensures entries { IfOk result (λ plan. plan.entries ≡ flat_map (entry_of client.now.context.now client.now.state.now client.now.moment) (joined client.now.state.now.opted_out client.now.state.now.live client.now.state.now.rows)) }
-    ensures wishes { IfOk result (λ plan. plan.wishes ≡ flat_map (wish_of client.now.context.now client.now.state.now client.now.moment) (joined client.now.state.now.opted_out client.now.state.now.live client.now.state.now.rows)) }
+    requires ready { IsReadyFor client.now evaluator.old }
+    ensures entries { IfOk result (λ plan. plan.entries ≡ flat_map (of_client entry_of client.now) (joined client.now.state.now.opted_out client.now.state.now.live client.now.state.now.rows)) }
+    ensures wishes { IfOk result (λ plan. plan.wishes ≡ flat_map (of_client wish_of client.now) (joined client.now.state.now.opted_out client.now.state.now.live client.now.state.now.rows)) }
 {
     let mut plan = Plan {
         entries: Sequence::new(alloc),
@@ -74,10 +73,10 @@ impl Plan {
     ) -> Result<(), AllocError>
         requires fit { IsFit (view slot) }
         requires rows { Rise (slugs_of client.now.state.now.rows) }
-        requires ready { IsReady client.now.context.now client.now.state.now client.now.moment evaluator.old.attributes.pairs (names_of evaluator.old.table.now) }
-        ensures entries { OnOk result (self.new.entries ≡ self.old.entries ++ entry_of client.now.context.now client.now.state.now client.now.moment (view slot.entry)) }
-        ensures wishes { OnOk result (self.new.wishes ≡ self.old.wishes ++ wish_of client.now.context.now client.now.state.now client.now.moment (view slot.entry)) }
-        ensures ready { IsReady client.now.context.now client.now.state.now client.now.moment evaluator.new.attributes.pairs (names_of evaluator.new.table.now) }
+        requires ready { IsReadyFor client.now evaluator.old }
+        ensures entries { OnOk result (self.new.entries ≡ self.old.entries ++ of_client entry_of client.now (view slot.entry)) }
+        ensures wishes { OnOk result (self.new.wishes ≡ self.old.wishes ++ of_client wish_of client.now (view slot.entry)) }
+        ensures ready { IsReadyFor client.now evaluator.new }
     {
         match slot {
             Slot::Live {
@@ -105,10 +104,10 @@ impl Plan {
     ) -> Result<(), AllocError>
         requires valid { IsValid recipe.now }
         requires rows { Rise (slugs_of client.now.state.now.rows) }
-        requires ready { IsReady client.now.context.now client.now.state.now client.now.moment evaluator.old.attributes.pairs (names_of evaluator.old.table.now) }
-        ensures entries { OnOk result (self.new.entries ≡ self.old.entries ++ record { slug = recipe.now.slug; outcome = outcome_from client.now.context.now client.now.state.now client.now.moment recipe.now (option_map (λ s. s.now) old.entry) is_out } ∷ []) }
-        ensures wishes { OnOk result (self.new.wishes ≡ self.old.wishes ++ wish_where (is_wish (outcome_from client.now.context.now client.now.state.now client.now.moment recipe.now (option_map (λ s. s.now) old.entry) is_out)) (candidate_of (is_enrolled_now (option_map (λ s. s.now) old.entry)) recipe.now)) }
-        ensures ready { IsReady client.now.context.now client.now.state.now client.now.moment evaluator.new.attributes.pairs (names_of evaluator.new.table.now) }
+        requires ready { IsReadyFor client.now evaluator.old }
+        ensures entries { OnOk result (self.new.entries ≡ self.old.entries ++ record { slug = recipe.now.slug; outcome = of_client outcome_from client.now recipe.now (option_map (λ s. s.now) old.entry) is_out } ∷ []) }
+        ensures wishes { OnOk result (self.new.wishes ≡ self.old.wishes ++ wish_where (is_wish (of_client outcome_from client.now recipe.now (option_map (λ s. s.now) old.entry) is_out)) (candidate_of (is_enrolled_now (option_map (λ s. s.now) old.entry)) recipe.now)) }
+        ensures ready { IsReadyFor client.now evaluator.new }
     {
         let verdict = verdict_from(alloc, client, evaluator, recipe, old, is_out)?;
         let outcome = candidate(alloc, old, &verdict, recipe)?;

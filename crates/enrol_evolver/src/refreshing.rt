@@ -3,14 +3,13 @@ ghost use Rattle.std.specs.Prelude.{◌≡◌, IfOk, IsUtf8};
 ghost use Rattle.enrol_evolver.specs.Evolution.{refreshed, version_of, live_after, updated_after};
 
 use app_context::{Context, ContextKey};
-use enrol_states::{Row, State};
-use plain_text::Slug;
+use enrol_states::State;
 use recipe_reader::Recipes;
-use sequences::{Sequence, Text};
+use sequences::{Sequence, SharedList, Text};
 use std::alloc::{AllocError, Global};
 
 /// The state with the recipes, the features that may be shared and the version of this apply, and
-/// with its old rows.
+/// with its old rows, which it shares.
 pub(crate) fn refreshed(
     alloc: Global,
     state: &State,
@@ -34,11 +33,11 @@ pub(crate) fn refreshed(
         updated,
         version,
         participating: state.participating,
-        opted_out: copy_of_slugs(&state.opted_out)?,
-        coenrolling,
+        opted_out: state.opted_out.clone()?,
+        coenrolling: SharedList::from_sequence(alloc, coenrolling)?,
         live: live_after(state)?,
         pending: None,
-        rows: copy_of_rows(&state.rows)?,
+        rows: state.rows.clone()?,
     })
 }
 
@@ -60,18 +59,4 @@ fn live_after(state: &State) -> Result<Recipes, AllocError>
         Some(recipes) => recipes.clone(),
         None => state.live.clone(),
     }
-}
-
-#[tactic(auto, using(enrol_states::proofs::Copies::same_lists))]
-fn copy_of_slugs(slugs: &Sequence<Slug>) -> Result<Sequence<Slug>, AllocError>
-    ensures { IfOk result (λ ss. ss ≡ slugs.now) }
-{
-    slugs.clone()
-}
-
-#[tactic(auto, using(enrol_states::proofs::Copies::same_rows))]
-fn copy_of_rows(rows: &Sequence<Row>) -> Result<Sequence<Row>, AllocError>
-    ensures { IfOk result (λ rs. rs ≡ rows.now) }
-{
-    rows.clone()
 }

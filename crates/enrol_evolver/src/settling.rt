@@ -1,11 +1,11 @@
 // The rows of a plan whose wishes are settled.
-ghost use Rattle.std.specs.Prelude.{◌≡◌, IfOk};
-ghost use Rattle.enrol_evolver.specs.Plans.{rows_by, first_or_false, answers_after};
+ghost use Rattle.std.specs.Prelude.{◌≡◌, ◌≤◌, length, IfOk};
+ghost use Rattle.enrol_evolver.specs.Plans.{rows_by, first_or_false, answers_after, answer_count, wish_count};
 ghost use Rattle.enrol_evolver.specs.Wishes.{status_by};
 
 use crate::plan::Entry;
 use enrol_states::{Outcome, Row, Status};
-use sequences::Sequence;
+use sequences::{Sequence, SharedList};
 use std::alloc::{AllocError, Global};
 
 /// The rows of the entries. `granted` has an answer for each wish, in their order.
@@ -13,7 +13,8 @@ pub(crate) fn settled_rows(
     alloc: Global,
     entries: Sequence<Entry>,
     granted: &[bool],
-) -> Result<Sequence<Row>, AllocError>
+) -> Result<SharedList<Row>, AllocError>
+    requires { wish_count entries ≡ length granted.now }
     ensures { IfOk result (λ rows. rows ≡ rows_by entries granted.now) }
 {
     let mut rows = Sequence::new(alloc);
@@ -26,12 +27,13 @@ pub(crate) fn settled_rows(
         })?;
         left = rest;
     }
-    Ok(rows)
+    SharedList::from_sequence(alloc, rows)
 }
 
 /// The status after the outcome, where the first answer is for it if it is a wish, and the answers
 /// that are left.
 fn settled(outcome: Outcome, granted: &[bool]) -> (Status, &[bool])
+    requires { answer_count outcome ≤ length granted.now }
     ensures status { result.0 ≡ status_by outcome (first_or_false granted.now) }
     ensures rest { result.1.now ≡ answers_after outcome granted.now }
 {
@@ -40,7 +42,7 @@ fn settled(outcome: Outcome, granted: &[bool]) -> (Status, &[bool])
         Outcome::Wish { won, lost } => match granted {
             [true, rest @ ..] => (won, rest),
             [false, rest @ ..] => (lost, rest),
-            [] => (lost, granted),
+            [] => unreachable!(),
         },
     }
 }

@@ -1,22 +1,22 @@
 // What a recipe's targeting says of a client.
-ghost use Rattle.std.specs.Prelude.{◌≡◌, IfOk, Result, Ok};
+ghost use Rattle.std.specs.Prelude.{◌≡◌, IfOk, Result};
 ghost use Rattle.json_tree.specs.Json.{Json};
 ghost use Rattle.enrol_states.specs.Order.{Rise};
 ghost use Rattle.enrol_states.specs.State.{slugs_of};
-ghost use Rattle.jexl_value.specs.Value.{as_json};
-ghost use Rattle.jexl_transforms.specs.Table.{names_of};
 ghost use Rattle.jexl_eval.specs.Faults.{Fault};
 ghost use Rattle.jexl_eval.specs.Gives.{Gives};
+ghost use Rattle.jexl_eval.specs.Meaning.{truth_meant};
 ghost use Rattle.enrol_evolver.specs.Expressions.{evaluating_wants_memory};
-ghost use Rattle.enrol_evolver.specs.Targeting.{targeting, said, said_by, tree_of, IsReady};
+ghost use Rattle.enrol_evolver.specs.Targeting.{targeting, said, said_by, said_by_truth, tree_of};
+ghost use Rattle.enrol_evolver.specs.Clients.{of_client, IsReadyFor};
 
 use crate::client::Client;
 use crate::expressions::expression_of;
 use app_context::set_already_enrolled;
 use enrol_states::ErrorCause;
-use jexl_eval::{EvalFault, eval};
+use jexl_eval::{EvalFault, eval_truth};
 use jexl_transforms::TransformTable;
-use jexl_value::{Attributes, Value};
+use jexl_value::Attributes;
 use plain_text::Slug;
 use recipe_reader::Recipe;
 use std::alloc::{AllocError, Global};
@@ -49,9 +49,9 @@ pub(crate) fn targeting_of(
     recipe: &Recipe,
 ) -> Result<Targeting, AllocError>
     requires rows { Rise (slugs_of client.now.state.now.rows) }
-    requires ready { IsReady client.now.context.now client.now.state.now client.now.moment evaluator.old.attributes.pairs (names_of evaluator.old.table.now) }
-    ensures says { IfOk result (λ t. t ≡ targeting client.now.context.now client.now.state.now client.now.moment recipe.now) }
-    ensures ready { IsReady client.now.context.now client.now.state.now client.now.moment evaluator.new.attributes.pairs (names_of evaluator.new.table.now) }
+    requires ready { IsReadyFor client.now evaluator.old }
+    ensures says { IfOk result (λ t. t ≡ of_client targeting client.now recipe.now) }
+    ensures ready { IsReadyFor client.now evaluator.new }
 {
     match &recipe.targeting {
         Some(text) => said_by(alloc, client, evaluator, &recipe.slug, text.as_str()),
@@ -68,24 +68,24 @@ fn said_by(
     text: &str,
 ) -> Result<Targeting, AllocError>
     requires rows { Rise (slugs_of client.now.state.now.rows) }
-    requires ready { IsReady client.now.context.now client.now.state.now client.now.moment evaluator.old.attributes.pairs (names_of evaluator.old.table.now) }
+    requires ready { IsReadyFor client.now evaluator.old }
     ensures says { IfOk result (λ t. t ≡ said_by client.now.context.now client.now.state.now slug.now client.now.moment (tree_of text.now)) }
-    ensures ready { IsReady client.now.context.now client.now.state.now client.now.moment evaluator.new.attributes.pairs (names_of evaluator.new.table.now) }
+    ensures ready { IsReadyFor client.now evaluator.new }
 {
     let Some(expression) = expression_of(alloc, text)? else {
         return Ok(Targeting::Fails(ErrorCause::Unparsed));
     };
     set_already_enrolled(alloc, &mut evaluator.attributes, client.state, slug)?;
-    let value = eval(alloc, &expression, &evaluator.attributes, evaluator.table);
-    said(value)
+    let truth = eval_truth(alloc, &expression, &evaluator.attributes, evaluator.table);
+    said(truth)
 }
 
-/// What the value says, or a fault in its place. The one error is want of memory.
-fn said(value: Result<Value, EvalFault>) -> Result<Targeting, AllocError>
-    ensures { (meant : Result Json Fault) → Gives as_json value meant → IfOk result (λ t. t ≡ said meant) }
+/// What the truth value says, or a fault in its place. The one error is want of memory.
+fn said(truth: Result<Option<bool>, EvalFault>) -> Result<Targeting, AllocError>
+    ensures { (meant : Result Json Fault) → Gives (λ t. t) truth (truth_meant meant) → IfOk result (λ t. t ≡ said meant) }
 {
-    match value {
-        Ok(value) => Ok(said_by_value(&value)),
+    match truth {
+        Ok(truth) => Ok(said_by_truth(truth)),
         Err(fault) => {
             if evaluating_wants_memory(fault) {
                 return Err(AllocError);
@@ -95,14 +95,14 @@ fn said(value: Result<Value, EvalFault>) -> Result<Targeting, AllocError>
     }
 }
 
-/// What the value says: `true` and `false` alone are truths.
-fn said_by_value(value: &Value) -> Targeting
-    ensures { result ≡ said (Ok (as_json value.now)) }
+/// What the truth value says, or that there is none: `true` and `false` alone are truths.
+fn said_by_truth(truth: Option<bool>) -> Targeting
+    ensures { result ≡ said_by_truth truth }
 {
-    match value {
-        Value::Truth(true) => Targeting::Passes,
-        Value::Truth(false) => Targeting::Misses,
-        _ => Targeting::Fails(ErrorCause::NotTruth),
+    match truth {
+        Some(true) => Targeting::Passes,
+        Some(false) => Targeting::Misses,
+        None => Targeting::Fails(ErrorCause::NotTruth),
     }
 }
 

@@ -6,7 +6,7 @@ ghost use Rattle.enrol_states.specs.State.{slugs_of};
 ghost use Rattle.enrol_states.specs.Statuses.{is_enrolled_now, last_moment};
 ghost use Rattle.jexl_transforms.specs.Meaning.{standard_names};
 ghost use Rattle.jexl_transforms.specs.Table.{names_of};
-ghost use Rattle.enrol_evolver.specs.Targeting.{IsReady};
+ghost use Rattle.enrol_evolver.specs.Clients.{of_client, IsReadyFor};
 ghost use Rattle.enrol_evolver.specs.Verdicts.{verdict, verdict_from, is_out, chosen, judged, differs, opted_in_branch};
 
 use crate::client::Client;
@@ -73,9 +73,9 @@ pub(crate) fn verdict_from(
 ) -> Result<Verdict, AllocError>
     requires valid { IsValid recipe.now }
     requires rows { Rise (slugs_of client.now.state.now.rows) }
-    requires ready { IsReady client.now.context.now client.now.state.now client.now.moment evaluator.old.attributes.pairs (names_of evaluator.old.table.now) }
-    ensures verdict { IfOk result (λ v. v ≡ verdict_from client.now.context.now client.now.state.now client.now.moment recipe.now (option_map (λ s. s.now) old.entry) is_out) }
-    ensures ready { IsReady client.now.context.now client.now.state.now client.now.moment evaluator.new.attributes.pairs (names_of evaluator.new.table.now) }
+    requires ready { IsReadyFor client.now evaluator.old }
+    ensures verdict { IfOk result (λ v. v ≡ of_client verdict_from client.now recipe.now (option_map (λ s. s.now) old.entry) is_out) }
+    ensures ready { IsReadyFor client.now evaluator.new }
 {
     match opted_in_branch(old) {
         Some(branch) => chosen(branch, is_out),
@@ -102,7 +102,10 @@ fn opted_in_branch<'a>(old: Option<&'a Status>) -> Option<&'a Slug>
 pub(crate) fn is_enrolled(old: Option<&Status>) -> bool
     ensures { result ≡ is_enrolled_now (option_map (λ s. s.now) old.entry) }
 {
-    matches!(old, Some(Status::Enrolled { .. }))
+    match old {
+        Some(status) => status.is_enrolled(),
+        None => false,
+    }
 }
 
 /// The verdict on a recipe that the user opted in to.
@@ -126,9 +129,9 @@ fn judged(
 ) -> Result<Verdict, AllocError>
     requires valid { IsValid recipe.now }
     requires rows { Rise (slugs_of client.now.state.now.rows) }
-    requires ready { IsReady client.now.context.now client.now.state.now client.now.moment evaluator.old.attributes.pairs (names_of evaluator.old.table.now) }
-    ensures verdict { IfOk result (λ v. v ≡ judged client.now.context.now client.now.state.now client.now.moment recipe.now is_enrolled is_out) }
-    ensures ready { IsReady client.now.context.now client.now.state.now client.now.moment evaluator.new.attributes.pairs (names_of evaluator.new.table.now) }
+    requires ready { IsReadyFor client.now evaluator.old }
+    ensures verdict { IfOk result (λ v. v ≡ of_client judged client.now recipe.now is_enrolled is_out) }
+    ensures ready { IsReadyFor client.now evaluator.new }
 {
     if differs(&recipe.app_name, &client.context.app_name) {
         return Ok(Verdict::DifferentAppName);

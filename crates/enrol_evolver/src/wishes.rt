@@ -1,13 +1,12 @@
 // The wish to be enrolled in a recipe.
-ghost use Rattle.std.specs.Prelude.{◌≡◌, ◌++◌, map, IfOk, OnOk, option_and_then};
-ghost use Rattle.plain_text.specs.Moments.{moment};
-ghost use Rattle.enrol_evolver.specs.Wishes.{features_of, candidate_of};
+ghost use Rattle.std.specs.Prelude.{◌≡◌, fold, map, IfOk, OnOk};
+ghost use Rattle.enrol_evolver.specs.Wishes.{AreSeen, with_once, features_of, candidate_of};
 
 use enrol_conflicts::Candidate;
-use plain_text::read_moment;
 use recipe_reader::{Branch, Recipe};
 use sequences::{Sequence, Text};
 use std::alloc::{AllocError, Global};
+use std::collections::BTreeSet;
 
 /// The wish to be enrolled in the recipe, of a client that is enrolled in it already or not.
 pub(crate) fn candidate_of(
@@ -19,39 +18,55 @@ pub(crate) fn candidate_of(
 {
     Ok(Candidate {
         slug: recipe.slug.clone()?,
-        rollout: recipe.rollout,
+        kind: recipe.kind(),
         features: features_of(alloc, recipe)?,
         was_enrolled,
-        published: published_at(recipe),
+        published: recipe.published_at(),
     })
 }
 
-/// When the recipe was published, in seconds since 1970 began.
-fn published_at(recipe: &Recipe) -> Option<i64>
-    ensures { result ≡ option_and_then moment recipe.now.published }
-{
-    match &recipe.published {
-        Some(text) => read_moment(text.as_str().as_bytes()),
-        None => None,
-    }
-}
-
-/// The features of all branches.
+/// The features of all branches, each once.
 fn features_of(alloc: Global, recipe: &Recipe) -> Result<Sequence<Text>, AllocError>
     ensures { IfOk result (λ fs. fs ≡ features_of recipe.now) }
 {
+    let mut seen = BTreeSet::new(alloc);
     let mut features = Sequence::new(alloc);
     for branch in recipe.branches.as_slice() {
-        add_features(&mut features, branch)?;
+        add_features(&mut seen, &mut features, branch)?;
     }
     Ok(features)
 }
 
-fn add_features(features: &mut Sequence<Text>, branch: &Branch) -> Result<(), AllocError>
-    ensures { OnOk result (features.new ≡ features.old ++ map (λ v. v.feature) branch.now.features) }
+/// Adds the features of the branch, each unless it is there.
+fn add_features<'a>(
+    seen: &mut BTreeSet<&'a str>,
+    features: &mut Sequence<Text>,
+    branch: &'a Branch,
+) -> Result<(), AllocError>
+    requires { AreSeen seen.old features.old }
+    ensures features { OnOk result (features.new ≡ fold with_once features.old (map (λ v. v.feature) branch.now.features)) }
+    ensures seen { OnOk result (AreSeen seen.new features.new) }
 {
     for value in branch.features.as_slice() {
-        features.push(value.feature.clone()?)?;
+        add_feature(seen, features, &value.feature)?;
     }
+    Ok(())
+}
+
+fn add_feature<'a>(
+    seen: &mut BTreeSet<&'a str>,
+    features: &mut Sequence<Text>,
+    feature: &'a Text,
+) -> Result<(), AllocError>
+    requires { AreSeen seen.old features.old }
+    ensures features { OnOk result (features.new ≡ with_once features.old feature.now) }
+    ensures seen { OnOk result (AreSeen seen.new features.new) }
+{
+    let name = feature.as_str();
+    if seen.contains(&name) {
+        return Ok(());
+    }
+    seen.insert(name)?;
+    features.push(feature.clone()?)?;
     Ok(())
 }

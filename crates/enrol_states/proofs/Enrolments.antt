@@ -1,7 +1,7 @@
 -- Rows and opt-outs after an opt-in.
-use Rattle.std.proofs.Common.{Ordering, ◌≡◌, ℕ, zero, suc, ◌<◌, ◌≤◌, Bool, true, false, List, [], ◌∷◌, length, get_or, Some, Less, Equal, Greater, refl, sym, ap, ◌∙◌, subst, arith}
+use Rattle.std.proofs.Common.{Ordering, ◌≡◌, ℕ, zero, suc, ◌<◌, ◌≤◌, Bool, true, false, List, [], ◌∷◌, length, get_or, Some, Less, Equal, Greater, refl, sym, ap, ap₂, ◌∙◌, subst, arith}
 use Rattle.std.specs.Prelude.{All, slice_set, not, ◌||◌, IsTrue, bytes_eq, if◌then◌else◌}
-use Rattle.std.specs.List.{insert}
+use Rattle.std.specs.List.{insert, remove}
 use Rattle.std.specs.BTreeSet.{insert_key}
 use Rattle.std.specs.Ordering.{match_ordering, ordering_reverse}
 use Rattle.std.specs.Cmp.Lexicographic.{nat_list_cmp_total}
@@ -12,7 +12,7 @@ use Rattle.std.proofs.lemmas.List.Kept.{IsStrictlySortedBy-filter}
 use Rattle.std.proofs.lemmas.Map.Views.{any-filter_same}
 use Rattle.recipe_reader.specs.Payloads.{slug_cmp, has_slug, recipe_with}
 use Rattle.recipe_reader.specs.declared.recipe.Recipe.{Recipe}
-use Rattle.enrol_states.specs.Order.{Rise, IsPlace, is_in}
+use Rattle.enrol_states.specs.Order.{Rise, AreAbove, IsPlace, is_in}
 use Rattle.enrol_states.specs.Statuses.{IsSlug, IsStatus}
 use Rattle.enrol_states.specs.State.{slugs_of}
 use Rattle.enrol_states.specs.Recipes.{offers}
@@ -22,7 +22,7 @@ use Rattle.enrol_states.specs.Features.{IsFree}
 use Rattle.enrol_states.specs.Choices.{MayChoose}
 use Rattle.enrol_states.specs.declared.state.State.{State}
 use Rattle.enrol_states.specs.declared.state.Row.{Row}
-use Rattle.enrol_states.proofs.Ordered.{same_texts, turned_up, text_at}
+use Rattle.enrol_states.proofs.Ordered.{same_texts, equal_texts, lesser_texts, greater_texts, turned_up, text_at, each_at}
 use Rattle.enrol_states.proofs.Lookups.{slug_of}
 use Rattle.enrol_states.proofs.OptOuts.{rise-insert}
 use Rattle.enrol_states.proofs.Exclusion as exclusion
@@ -70,6 +70,27 @@ All-with_row P r (q ∷ qs) one all =
     ]
 
 -- ---- opt-outs without one
+
+above-kept : (t : List ℕ) (ts : List (List ℕ)) → AreAbove t ts → without_text t ts ≡ ts
+above-kept t [] above = refl
+above-kept t (u ∷ us) above = ap₂ (λ b rest. if b then u ∷ rest else rest) (ap not (greater_texts u t (turned_up t u above.0))) (above-kept t us above.1)
+
+-- where the text isn't one of them, all are left
+pub without-place : (t : List ℕ) (ts : List (List ℕ)) (i : ℕ) → IsPlace t ts i → without_text t ts ≡ ts
+without-place t [] i place = refl
+without-place t (u ∷ us) zero place = above-kept t (u ∷ us) place.above
+without-place t (u ∷ us) (suc i) place = ap₂ (λ b rest. if b then u ∷ rest else rest) (ap not (lesser_texts u t place.below.0)) (without-place t us i (record { below = place.below.1; above = place.above }))
+
+-- where it is, the others are left
+pub without-at : (t : List ℕ) (ts : List (List ℕ)) (i : ℕ) (d : List ℕ) → i < length ts → Rise ts → slug_cmp (get_or ts i d) t ≡ Equal → remove ts i ≡ without_text t ts
+unfolding IsStrictlySortedBy
+without-at t [] i d less rise e = absurd (omega (arith, less))
+without-at t (u ∷ us) zero d less rise e =
+    sym (ap₂ (λ b rest. if b then u ∷ rest else rest) (ap not (equal_texts u t e)) (above-kept t us (subst (λ v. AreAbove v us) (same_texts u t e) rise.0)))
+without-at t (u ∷ us) (suc i) d less rise e =
+    let same = same_texts (get_or us i d) t e in
+    let below : slug_cmp u t ≡ Less = subst (λ v. slug_cmp u v ≡ Less) same (each_at (λ v. slug_cmp u v ≡ Less) us i d (omega arith) rise.0) in
+    ap (λ rest. u ∷ rest) (without-at t us i d (omega arith) rise.1 e) ∙ sym (ap (λ b. if not b then u ∷ without_text t us else without_text t us) (lesser_texts u t below))
 
 neither : (a b : Bool) → (a || b) ≡ false → (a ≡ false) × (b ≡ false)
 neither true b h = absurd cc

@@ -1,12 +1,13 @@
 -- The commands leave features to one recipe of a kind.
 use Rattle.std.proofs.Common.{Ordering, ◌≡◌, ℕ, Bool, true, false, List, [], ◌∷◌, map, Option, Some, Less, Equal, Greater, ◌&&◌, refl, sym, ap, ◌∙◌, subst}
 use Rattle.std.specs.Prelude.{All, IsTrue, not, bytes_eq, if◌then◌else◌}
-use Rattle.std.specs.Bool.{beq}
 use Rattle.std.specs.Cmp.Lexicographic.{bytes_decides}
 use Rattle.std.specs.Ordering.{match_ordering}
 use Rattle.std.proofs.lemmas.List.Elements.{All-head, All-tail}
 use Rattle.recipe_reader.specs.Payloads.{slug_cmp, recipe_with}
+use Rattle.recipe_reader.specs.Kinds.{kind_of, kind_eq}
 use Rattle.recipe_reader.specs.declared.recipe.Recipe.{Recipe}
+use Rattle.recipe_reader.proofs.SameKind.{kinds_turned}
 use Rattle.enrol_states.specs.Order.{is_in}
 use Rattle.enrol_states.specs.Statuses.{is_enrolled, is_enrolled_now}
 use Rattle.enrol_states.specs.State.{status_of}
@@ -118,15 +119,9 @@ swapped true false c = refl
 swapped false true c = refl
 swapped false false c = refl
 
-beq_turned : (a b : Bool) → beq a b ≡ beq b a
-beq_turned true true = refl
-beq_turned true false = refl
-beq_turned false true = refl
-beq_turned false false = refl
-
 share_turned : (coenrolling : List (List ℕ)) (r q : Recipe) (f : List ℕ) → share coenrolling r q f ≡ share coenrolling q r f
 share_turned coenrolling r q f =
-    ap (λ b. b && (has_feature r f && (has_feature q f && not (is_in coenrolling f)))) (beq_turned r.rollout q.rollout) ∙ ap (λ b. beq q.rollout r.rollout && b) (swapped (has_feature r f) (has_feature q f) (not (is_in coenrolling f)))
+    ap (λ b. b && (has_feature r f && (has_feature q f && not (is_in coenrolling f)))) (kinds_turned (kind_of r) (kind_of q)) ∙ ap (λ b. kind_eq (kind_of q) (kind_of r) && b) (swapped (has_feature r f) (has_feature q f) (not (is_in coenrolling f)))
 
 picked_by : {A : Type 0} (row : Row) (slug : List ℕ) (rows : List Row) (b : Bool) → bytes_eq row.slug slug ≡ b → IsTrue (is_enrolled_now (if b then Some row.status else status_of slug rows)) → (row.slug ≡ slug → A)
     → (bytes_eq row.slug slug ≡ false → IsTrue (is_enrolled_now (status_of slug rows)) → A) → A

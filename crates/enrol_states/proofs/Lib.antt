@@ -1,4 +1,3 @@
-pub mod Copies
 pub mod Fresh
 pub mod Ordered
 pub mod Lookups
@@ -11,3 +10,4 @@ pub mod Leasts
 pub mod Takings
 pub mod Enrolments
 pub mod Holdings
+pub mod Answered

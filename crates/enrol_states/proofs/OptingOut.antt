@@ -1,13 +1,20 @@
 -- What an opt-out makes of rows.
-use Rattle.std.proofs.Common.{◌≡◌, ℕ, Bool, true, false, List, [], ◌∷◌, map, None, refl, ap, ◌∙◌}
-use Rattle.std.specs.Prelude.{All, bytes_eq, if◌then◌else◌}
+use Rattle.std.proofs.Common.{◌≡◌, ℕ, zero, suc, ◌<◌, Bool, true, false, List, [], ◌∷◌, length, get_or, map, None, Less, Equal, refl, ap, ap₂, ◌∙◌, subst, sym, arith}
+use Rattle.std.specs.Prelude.{All, slice_set, ◌||◌, bytes_eq, if◌then◌else◌}
+use Rattle.std.specs.List.{list_any}
+use Rattle.std.specs.List.Sorted.{IsStrictlySortedBy}
 use Rattle.std.proofs.lemmas.List.Elements.{All-map, All-weaker}
+use Rattle.recipe_reader.specs.Payloads.{slug_cmp}
+use Rattle.enrol_states.specs.Order.{Rise, AreAbove, IsPlace}
 use Rattle.enrol_states.specs.Statuses.{IsStatus, is_enrolled, was_enrolled, enrolled_branch}
 use Rattle.enrol_states.specs.State.{slugs_of}
-use Rattle.enrol_states.specs.Commands.{opted_out, row_opted_out, opted_out_of}
+use Rattle.enrol_states.specs.Commands.{opted_out, row_opted_out, opted_out_of, changes_at_opt_out}
 use Rattle.enrol_states.specs.declared.state.Row.{Row}
 use Rattle.enrol_states.specs.declared.status.Status.{Status}
 use Rattle.enrol_states.specs.declared.status.Status.TheVariants as statuses
+use Rattle.enrol_states.specs.declared.status.NotEnrolledReason.TheVariants as not_enrolled
+use Rattle.enrol_states.proofs.Ordered.{same_texts, equal_texts, lesser_texts, greater_texts, turned_up, text_at}
+use Rattle.enrol_states.proofs.Lookups.{slug_of}
 
 pub is_enrolled-opted_out : (s : Status) → is_enrolled (opted_out s) ≡ false
 is_enrolled-opted_out (statuses.Enrolled reason branch) = refl
@@ -52,3 +59,55 @@ other_row P slug row out same false e = same e
 -- what holds of the row after an opt-out, and of a row of another slug
 pub either : (P : Row → Type 0) (slug : List ℕ) (row : Row) → P (row_opted_out row) → (bytes_eq row.slug slug ≡ false → P row) → P (opted_out_of slug row)
 either P slug row out same = other_row P slug row out same (bytes_eq row.slug slug) refl
+
+-- ---- the one row of a slug
+
+other_stays : (slug : List ℕ) (row : Row) → bytes_eq row.slug slug ≡ false → opted_out_of slug row ≡ row
+other_stays slug row other = ap (λ b. if b then row_opted_out row else row) other
+
+above-stay : (slug : List ℕ) (rows : List Row) → AreAbove slug (slugs_of rows) → map (opted_out_of slug) rows ≡ rows
+above-stay slug [] above = refl
+above-stay slug (q ∷ qs) above = ap₂ (λ r rs. r ∷ rs) (other_stays slug q (greater_texts q.slug slug (turned_up slug q.slug above.0))) (above-stay slug qs above.1)
+
+-- rows of other slugs stay
+pub place-stay : (slug : List ℕ) (rows : List Row) (i : ℕ) → IsPlace slug (slugs_of rows) i → map (opted_out_of slug) rows ≡ rows
+place-stay slug [] i place = refl
+place-stay slug (q ∷ qs) zero place = above-stay slug (q ∷ qs) place.above
+place-stay slug (q ∷ qs) (suc i) place = ap₂ (λ r rs. r ∷ rs) (other_stays slug q (lesser_texts q.slug slug place.below.0)) (place-stay slug qs i (record { below = place.below.1; above = place.above }))
+
+-- the row of the slug alone is another
+pub opted_out-at : (slug : List ℕ) (rows : List Row) (i : ℕ) (d : Row) → i < length rows → Rise (slugs_of rows) → slug_cmp (get_or rows i d).slug slug ≡ Equal → slice_set rows i (row_opted_out (get_or rows i d)) ≡ map (opted_out_of slug) rows
+unfolding IsStrictlySortedBy
+opted_out-at slug [] i d less rise e = absurd (omega (arith, less))
+opted_out-at slug (q ∷ qs) zero d less rise e =
+    let same : q.slug ≡ slug = same_texts q.slug slug e in
+    ap₂ (λ r rs. r ∷ rs) (sym (ap (λ b. if b then row_opted_out q else q) (equal_texts q.slug slug e))) (sym (above-stay slug qs (subst (λ t. AreAbove t (slugs_of qs)) same rise.0)))
+opted_out-at slug (q ∷ qs) (suc i) d less rise e =
+    let same = same_texts (get_or qs i d).slug slug e in
+    let below : slug_cmp q.slug slug ≡ Less = subst (λ t. slug_cmp q.slug t ≡ Less) same (text_at (λ t. slug_cmp q.slug t ≡ Less) slug_of qs i d (omega arith) rise.0) in
+    ap₂ (λ r rs. r ∷ rs) (sym (other_stays slug q (lesser_texts q.slug slug below))) (opted_out-at slug qs i d (omega arith) rise.1 e)
+
+-- ---- rows that an opt-out leaves as they are
+
+left_as_is : (s : Status) → changes_at_opt_out s ≡ false → opted_out s ≡ s
+left_as_is (statuses.Enrolled reason branch) none = absurd cc
+left_as_is (statuses.NotEnrolled not_enrolled.DifferentAppName) none = absurd cc
+left_as_is (statuses.NotEnrolled not_enrolled.DifferentChannel) none = absurd cc
+left_as_is (statuses.NotEnrolled not_enrolled.EnrollmentsPaused) none = absurd cc
+left_as_is (statuses.NotEnrolled not_enrolled.FeatureConflict) none = absurd cc
+left_as_is (statuses.NotEnrolled not_enrolled.NotSelected) none = absurd cc
+left_as_is (statuses.NotEnrolled not_enrolled.NotTargeted) none = absurd cc
+left_as_is (statuses.NotEnrolled not_enrolled.OptOut) none = refl
+left_as_is (statuses.Disqualified reason branch) none = refl
+left_as_is (statuses.WasEnrolled branch ended) none = refl
+left_as_is (statuses.Error cause) none = refl
+
+neither : (a b : Bool) → (a || b) ≡ false → (a ≡ false) × (b ≡ false)
+neither true b h = absurd cc
+neither false b h = (refl, h)
+
+pub all-stay : (rows : List Row) → list_any (λ row. changes_at_opt_out row.status) rows ≡ false → map row_opted_out rows ≡ rows
+all-stay [] none = refl
+all-stay (q ∷ qs) none =
+    let apart = neither (changes_at_opt_out q.status) (list_any (λ row. changes_at_opt_out row.status) qs) none in
+    ap₂ (λ (st : Status) rs. record { slug = q.slug; status = st } ∷ rs) (left_as_is q.status apart.0) (all-stay qs apart.1)

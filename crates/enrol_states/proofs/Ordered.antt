@@ -55,6 +55,12 @@ text_at P text [] i d less all = absurd (omega arith)
 text_at P text (x ∷ xs) zero d less all = all.0
 text_at P text (x ∷ xs) (suc i) d less all = text_at P text xs i d (omega arith) all.1
 
+-- what holds of each text holds of the one at a place
+pub each_at : (P : List ℕ → Type 0) (ts : List (List ℕ)) (i : ℕ) (d : List ℕ) → i < length ts → AllByRecursion P ts → P (get_or ts i d)
+each_at P [] i d less all = absurd (omega arith)
+each_at P (t ∷ ts) zero d less all = all.0
+each_at P (t ∷ ts) (suc i) d less all = each_at P ts i d (omega arith) all.1
+
 pub rises_by : {X : Type 0} (text : X → List ℕ) (xs : List X) (i j : ℕ) (d : X) → i < j → j < length xs → Rise (map text xs) → slug_cmp (text (get_or xs i d)) (text (get_or xs j d)) ≡ Less
 unfolding IsStrictlySortedBy
 rises_by text [] i j d less h rise = absurd (omega arith)

@@ -1,13 +1,13 @@
 -- The rows that take features of a recipe.
 use Rattle.std.proofs.Common.{◌≡◌, ℕ, ◌<◌, ◌≤◌, Bool, true, false, List, length, get_or, Option, Some, None, Less, ◌&&◌, refl, sym, ap, ◌∙◌, subst, arith, inl, inr}
 use Rattle.std.specs.Prelude.{IsTrue, not, bytes_eq, if◌then◌else◌}
-use Rattle.std.specs.Bool.{beq}
 use Rattle.std.specs.Borrow.{Bor}
 use Rattle.std.specs.BTreeSet.{BTreeSet}
 use Rattle.std.specs.Ordering.{is_le}
 use Rattle.std.proofs.lemmas.Bool.{cases_lt}
 use Rattle.std.proofs.lemmas.List.{get_or_default}
 use Rattle.recipe_reader.specs.Payloads.{slug_cmp, recipe_with}
+use Rattle.recipe_reader.specs.Kinds.{kind_of, kind_eq}
 use Rattle.recipe_reader.specs.declared.recipe.Recipe.{Recipe}
 use Rattle.enrol_states.specs.Order.{Rise, is_in}
 use Rattle.enrol_states.specs.Statuses.{is_enrolled}
@@ -15,7 +15,8 @@ use Rattle.enrol_states.specs.State.{slugs_of}
 use Rattle.enrol_states.specs.Recipes.{has_feature}
 use Rattle.enrol_states.specs.Features.{shares_with, takes}
 use Rattle.enrol_states.specs.Choices.{IsTaken}
-use Rattle.enrol_states.specs.Least.{has_text, IsLeast, of_kind, rival_of}
+use Rattle.enrol_states.specs.TextSets.{has_text}
+use Rattle.enrol_states.specs.Least.{IsLeast, of_kind, rival_of}
 use Rattle.enrol_states.specs.declared.state.State.{State}
 use Rattle.enrol_states.specs.declared.state.Row.{Row}
 use Rattle.enrol_states.proofs.Ordered.{rises_by}
@@ -31,9 +32,9 @@ kind_at : (coenrolling : List (List ℕ)) (r q : Recipe) (f : List ℕ) (same : 
 kind_at coenrolling r q f true = refl
 kind_at coenrolling r q f false = refl
 
-rival_at : (coenrolling : List (List ℕ)) (r : Recipe) (f : List ℕ) (other enrolled : Bool) (q : Option Recipe) → (other && (enrolled && shares_with coenrolling r q f)) ≡ sharing coenrolling r (if other && enrolled then of_kind r.rollout q else None) f
+rival_at : (coenrolling : List (List ℕ)) (r : Recipe) (f : List ℕ) (other enrolled : Bool) (q : Option Recipe) → (other && (enrolled && shares_with coenrolling r q f)) ≡ sharing coenrolling r (if other && enrolled then of_kind (kind_of r) q else None) f
 rival_at coenrolling r f true true None = refl
-rival_at coenrolling r f true true (Some q) = kind_at coenrolling r q f (beq r.rollout q.rollout)
+rival_at coenrolling r f true true (Some q) = kind_at coenrolling r q f (kind_eq (kind_of r) (kind_of q))
 rival_at coenrolling r f true false q = refl
 rival_at coenrolling r f false enrolled q = refl
 

@@ -17,6 +17,13 @@ opted_out (statuses.Enrolled reason branch) = statuses.Disqualified disqualified
 opted_out (statuses.NotEnrolled reason) = statuses.NotEnrolled not_enrolled.OptOut
 opted_out s = s
 
+-- whether an opt-out makes another status of it
+abbrev pub changes_at_opt_out : Status → Bool
+changes_at_opt_out (statuses.Enrolled reason branch) = true
+changes_at_opt_out (statuses.NotEnrolled not_enrolled.OptOut) = false
+changes_at_opt_out (statuses.NotEnrolled reason) = true
+changes_at_opt_out s = false
+
 abbrev pub row_opted_out : Row → Row
 row_opted_out row = record { slug = row.slug; status = opted_out row.status }
 

@@ -2,6 +2,7 @@
 use Rattle.std.specs.Prelude.{◌≡◌, ◌<◌, ℕ, ◌&&◌, Bool, false, not, List, length, get_or, take, Option, Some, None, IsTrue, if◌then◌else◌}
 use Rattle.std.specs.List.{list_any}
 use Rattle.recipe_reader.specs.Payloads.{recipe_with}
+use Rattle.recipe_reader.specs.declared.kinds.Kind.{Kind}
 use Rattle.recipe_reader.specs.declared.recipe.Recipe.{Recipe}
 use Rattle.enrol_states.specs.Order.{is_in}
 use Rattle.enrol_states.specs.Statuses.{is_enrolled}
@@ -15,25 +16,25 @@ abbrev pub has_alone : List (List ℕ) → Recipe → List ℕ → Bool
 has_alone coenrolling r feature = has_feature r feature && not (is_in coenrolling feature)
 
 -- the live recipe of the kind in which the client is enrolled by the row
-abbrev pub enrolled_recipe : State → Bool → Row → Option Recipe
-enrolled_recipe s rollout row = if is_enrolled row.status then of_kind rollout (recipe_with row.slug s.live) else None
+abbrev pub enrolled_recipe : State → Kind → Row → Option Recipe
+enrolled_recipe s kind row = if is_enrolled row.status then of_kind kind (recipe_with row.slug s.live) else None
 
 abbrev pub recipe_holds : List (List ℕ) → Option Recipe → List ℕ → Bool
 recipe_holds coenrolling None feature = false
 recipe_holds coenrolling (Some r) feature = has_alone coenrolling r feature
 
 -- whether the client is enrolled by the row in a recipe of the kind that has the feature, which may not be shared
-abbrev pub holds : State → Bool → Row → List ℕ → Bool
-holds s rollout row feature = recipe_holds s.coenrolling (enrolled_recipe s rollout row) feature
+abbrev pub holds : State → Kind → Row → List ℕ → Bool
+holds s kind row feature = recipe_holds s.coenrolling (enrolled_recipe s kind row) feature
 
 -- whether one of the rows holds the feature
-abbrev pub is_held : State → Bool → List Row → List ℕ → Bool
-is_held s rollout rows feature = list_any (λ row. holds s rollout row feature) rows
+abbrev pub is_held : State → Kind → List Row → List ℕ → Bool
+is_held s kind rows feature = list_any (λ row. holds s kind row feature) rows
 
 -- no row before the i-th holds a feature that an earlier one holds
-abbrev pub AreApartBefore : State → Bool → List Row → ℕ → Type 0
-AreApartBefore s rollout rows i = (j : ℕ) (row : Row) (feature : List ℕ) → j < i → IsTrue (holds s rollout (get_or rows j row) feature) → is_held s rollout (take j rows) feature ≡ false
+abbrev pub AreApartBefore : State → Kind → List Row → ℕ → Type 0
+AreApartBefore s kind rows i = (j : ℕ) (row : Row) (feature : List ℕ) → j < i → IsTrue (holds s kind (get_or rows j row) feature) → is_held s kind (take j rows) feature ≡ false
 
 -- no two rows hold one feature
-abbrev pub AreApart : State → Bool → Type 0
-AreApart s rollout = (j : ℕ) (row : Row) (feature : List ℕ) → j < length s.rows → IsTrue (holds s rollout (get_or s.rows j row) feature) → is_held s rollout (take j s.rows) feature ≡ false
+abbrev pub AreApart : State → Kind → Type 0
+AreApart s kind = (j : ℕ) (row : Row) (feature : List ℕ) → j < length s.rows → IsTrue (holds s kind (get_or s.rows j row) feature) → is_held s kind (take j s.rows) feature ≡ false

@@ -1,4 +1,5 @@
 pub mod Order
+pub mod TextSets
 pub mod Statuses
 pub mod State
 pub mod Recipes

@@ -2,7 +2,6 @@
 // begin anew.
 ghost use Rattle.std.specs.Prelude.{◌≡◌, IfOk};
 ghost use Rattle.enrol_states.specs.Consistent.{IsConsistent};
-ghost use Rattle.enrol_states.specs.Statuses.{IsSlug};
 ghost use Rattle.enrol_states.specs.Commands.{after_reset};
 ghost use Rattle.enrol_states.specs.Choices.{OptsOut, OptsIn};
 ghost use Rattle.enrol_states.specs.declared.choices.OptOutFault.TheVariants as out_faults;
@@ -11,10 +10,9 @@ ghost use Rattle.enrol_states.specs.declared.choices.OptInFault.TheVariants as i
 use crate::enrolling::enrolled;
 use crate::features::taken;
 use crate::joining::{rows_opted_out_of, with_slug};
-use crate::state::{State, id_fits};
-use crate::transitions::has_branch;
+use crate::state::{State, id_fits, slug_fits};
 use plain_text::Slug;
-use sequences::{Sequence, Text};
+use sequences::{SharedList, Text};
 use std::alloc::{AllocError, AllocFailed, Global};
 use uuid::Uuid;
 
@@ -58,7 +56,8 @@ impl From<AllocError> for OptInFault {
 }
 
 /// The state in which the slug is opted out, whether or not it has a recipe. An enrolment of it
-/// ends.
+/// ends, and where the client never took part, the opt-out is the reason. Lists that stay as they
+/// are are shared.
 pub fn opt_out(alloc: Global, state: &State, slug: &Slug) -> Result<State, OptOutFault>
     requires { IsConsistent state.now }
     ensures answer { OptsOut state.now slug.now result }
@@ -66,15 +65,8 @@ pub fn opt_out(alloc: Global, state: &State, slug: &Slug) -> Result<State, OptOu
 {
     slug_fits(slug);
     let opted_out = with_slug(&state.opted_out, slug)?;
-    let rows = rows_opted_out_of(alloc, &state.rows, slug)?;
+    let rows = rows_opted_out_of(&state.rows, slug)?;
     Ok(state.with_rows(opted_out, rows)?)
-}
-
-/// What the type of a slug says. The call does nothing.
-fn slug_fits(slug: &Slug)
-    ensures { IsSlug slug.now }
-{
-    slug.text();
 }
 
 /// The state in which the client is enrolled in the branch that its user chose.
@@ -91,13 +83,13 @@ pub fn opt_in(alloc: Global, state: &State, slug: &Slug, branch: &Slug) -> Resul
     let Some(recipe) = state.live.get(slug.text()) else {
         return Err(OptInFault::NoSuchExperiment);
     };
-    if !has_branch(recipe, branch.text()) {
+    if !recipe.has_branch(branch.text()) {
         return Err(OptInFault::NoSuchBranch);
     }
     if let Some((holder, feature)) = taken(alloc, state, recipe)? {
         return Err(OptInFault::FeatureTaken(holder, feature));
     }
-    Ok(enrolled(alloc, state, slug, branch)?)
+    Ok(enrolled(state, slug, branch)?)
 }
 
 /// The state under another id, without rows and opt-outs. The one error is want of memory.
@@ -107,7 +99,7 @@ pub fn reset(alloc: Global, state: &State, id: Uuid) -> Result<State, AllocError
     ensures consistent { IfOk result IsConsistent }
 {
     id_fits(id);
-    let mut next = state.with_rows(Sequence::new(alloc), Sequence::new(alloc))?;
+    let mut next = state.with_rows(SharedList::new(alloc), SharedList::new(alloc))?;
     next.id = id;
     Ok(next)
 }

@@ -1,11 +1,10 @@
-// Copies of states, each equal to what it is a copy of.
+// Copies of states, each equal to what it is a copy of. They share lists and texts.
 ghost use Rattle.std.specs.Prelude.{◌≡◌, IfOk};
 
 use crate::state::{Row, State};
 use crate::status::Status;
-use plain_text::Slug;
 use recipe_reader::Recipes;
-use sequences::{Sequence, Text};
+use sequences::ExactClone;
 use std::alloc::AllocError;
 
 impl Clone for Status {
@@ -42,6 +41,10 @@ impl Clone for Row {
     }
 }
 
+impl ExactClone for Row {
+    ghost exact = { λ r s same. same };
+}
+
 impl Clone for State {
     ghost is_clone = { λ s t. t ≡ s };
 
@@ -52,34 +55,13 @@ impl Clone for State {
             updated: self.updated,
             version: self.version.clone()?,
             participating: self.participating,
-            opted_out: copy_of_slugs(&self.opted_out)?,
-            coenrolling: copy_of_texts(&self.coenrolling)?,
+            opted_out: self.opted_out.clone()?,
+            coenrolling: self.coenrolling.clone()?,
             live: self.live.clone()?,
             pending: copy_of_pending(&self.pending)?,
-            rows: copy_of_rows(&self.rows)?,
+            rows: self.rows.clone()?,
         })
     }
-}
-
-#[tactic(auto, using(crate::proofs::Copies::same_lists))]
-pub(crate) fn copy_of_slugs(slugs: &Sequence<Slug>) -> Result<Sequence<Slug>, AllocError>
-    ensures { IfOk result (λ ss. ss ≡ slugs.now) }
-{
-    slugs.clone()
-}
-
-#[tactic(auto, using(crate::proofs::Copies::same_lists))]
-pub(crate) fn copy_of_texts(texts: &Sequence<Text>) -> Result<Sequence<Text>, AllocError>
-    ensures { IfOk result (λ ts. ts ≡ texts.now) }
-{
-    texts.clone()
-}
-
-#[tactic(auto, using(crate::proofs::Copies::same_rows))]
-pub(crate) fn copy_of_rows(rows: &Sequence<Row>) -> Result<Sequence<Row>, AllocError>
-    ensures { IfOk result (λ rs. rs ≡ rows.now) }
-{
-    rows.clone()
 }
 
 pub(crate) fn copy_of_pending(pending: &Option<Recipes>) -> Result<Option<Recipes>, AllocError>

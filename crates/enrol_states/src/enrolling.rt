@@ -1,56 +1,47 @@
 // The rows and opt-outs of a client that is enrolled in a branch that its user chose.
-ghost use Rattle.std.specs.Prelude.{◌≡◌, ◌<◌, ◌≤◌, ◌++◌, ◌∷◌, [], length, slice_set, IfOk, OnOk};
-ghost use Rattle.std.specs.List.{insert};
+ghost use Rattle.std.specs.Prelude.{◌≡◌, ◌<◌, ◌≤◌, length, slice_set, IfOk};
+ghost use Rattle.std.specs.List.{insert, remove};
 ghost use Rattle.enrol_states.specs.Order.{Rise};
 ghost use Rattle.enrol_states.specs.State.{slugs_of};
 ghost use Rattle.enrol_states.specs.Commands.{after_opt_in, without_text, with_row, opted_in};
 
-use crate::copying::copy_of_rows;
 use crate::state::{Row, State};
 use crate::status::{EnrolledReason, Status};
 use plain_text::Slug;
-use sequences::Sequence;
-use std::alloc::{AllocError, Global};
+use sequences::SharedList;
+use std::alloc::AllocError;
 
 /// The state in which the client is enrolled in the branch that its user chose.
-pub(crate) fn enrolled(
-    alloc: Global,
-    state: &State,
-    slug: &Slug,
-    branch: &Slug,
-) -> Result<State, AllocError>
-    requires { Rise (slugs_of state.now.rows) }
+pub(crate) fn enrolled(state: &State, slug: &Slug, branch: &Slug) -> Result<State, AllocError>
+    requires rows { Rise (slugs_of state.now.rows) }
+    requires opted_out { Rise state.now.opted_out }
     ensures { IfOk result (λ s. s ≡ after_opt_in state.now slug.now branch.now) }
 {
-    let opted_out = without_slug(alloc, &state.opted_out, slug)?;
+    let opted_out = without_slug(&state.opted_out, slug)?;
     let row = row_opted_in(slug, branch)?;
     let rows = with_row(&state.rows, row)?;
     state.with_rows(opted_out, rows)
 }
 
 /// The slugs without this one.
-fn without_slug(
-    alloc: Global,
-    slugs: &Sequence<Slug>,
-    slug: &Slug,
-) -> Result<Sequence<Slug>, AllocError>
+fn without_slug(slugs: &SharedList<Slug>, slug: &Slug) -> Result<SharedList<Slug>, AllocError>
+    requires { Rise slugs.now }
     ensures { IfOk result (λ ss. ss ≡ without_text slug.now slugs.now) }
 {
-    let mut others = Sequence::new(alloc);
-    for other in slugs.as_slice() {
-        push_other(&mut others, other, slug)?;
+    match slugs.as_slice().binary_search(slug) {
+        Ok(place) => without_slug_at(slugs, place),
+        Err(_) => slugs.clone(),
     }
-    Ok(others)
 }
 
-/// Adds a slug, unless it is the one that is left out.
-fn push_other(others: &mut Sequence<Slug>, other: &Slug, slug: &Slug) -> Result<(), AllocError>
-    ensures { OnOk result (others.new ≡ others.old ++ without_text slug.now (other.now ∷ [])) }
+/// The slugs without the one at a place.
+fn without_slug_at(slugs: &SharedList<Slug>, place: usize) -> Result<SharedList<Slug>, AllocError>
+    requires { place < length slugs.now }
+    ensures { IfOk result (λ ss. ss ≡ remove slugs.now place) }
 {
-    if other != slug {
-        others.push(other.clone()?)?;
-    }
-    Ok(())
+    let mut others = slugs.clone()?;
+    others.remove(place)?;
+    Ok(others)
 }
 
 fn row_opted_in(slug: &Slug, branch: &Slug) -> Result<Row, AllocError>
@@ -66,7 +57,7 @@ fn row_opted_in(slug: &Slug, branch: &Slug) -> Result<Row, AllocError>
 }
 
 /// The rows with one more, in the place of that with its slug.
-fn with_row(rows: &Sequence<Row>, row: Row) -> Result<Sequence<Row>, AllocError>
+fn with_row(rows: &SharedList<Row>, row: Row) -> Result<SharedList<Row>, AllocError>
     requires { Rise (slugs_of rows.now) }
     ensures { IfOk result (λ rs. rs ≡ with_row row rows.now) }
 {
@@ -79,34 +70,34 @@ fn with_row(rows: &Sequence<Row>, row: Row) -> Result<Sequence<Row>, AllocError>
     }
 }
 
-/// The rows with another in the place of one.
-fn with_row_at(rows: &Sequence<Row>, place: usize, row: Row) -> Result<Sequence<Row>, AllocError>
+/// The rows with another in the place of one. Where it is the same row, they are shared.
+pub(crate) fn with_row_at(
+    rows: &SharedList<Row>,
+    place: usize,
+    row: Row,
+) -> Result<SharedList<Row>, AllocError>
     requires { place < length rows.now }
     ensures { IfOk result (λ rs. rs ≡ slice_set rows.now place row) }
 {
-    let mut others = copy_of_rows(rows)?.into_vec();
-    put(&mut others, place, row);
-    Ok(Sequence::from_vec(others))
-}
-
-/// Puts an item in the place of another.
-fn put<T: Drop>(items: &mut [T], place: usize, item: T)
-    requires { place < length items.old }
-    ensures { items.new ≡ slice_set items.old place item }
-{
-    items[place] = item;
+    let items = rows.as_slice();
+    if items[place] == row {
+        return rows.clone();
+    }
+    let mut others = rows.clone()?;
+    others.replace(place, row)?;
+    Ok(others)
 }
 
 /// The rows with one more before that at a place.
 fn with_row_before(
-    rows: &Sequence<Row>,
+    rows: &SharedList<Row>,
     place: usize,
     row: Row,
-) -> Result<Sequence<Row>, AllocError>
+) -> Result<SharedList<Row>, AllocError>
     requires { place ≤ length rows.now }
     ensures { IfOk result (λ rs. rs ≡ insert rows.now place row) }
 {
-    let mut more = copy_of_rows(rows)?;
+    let mut more = rows.clone()?;
     more.insert(place, row)?;
     Ok(more)
 }

@@ -2,18 +2,17 @@
 ghost use Rattle.std.specs.Prelude.{◌≡◌, ◌&&◌, ◌||◌, ℕ, List, not, bytes_eq, IfOk, OnOk, MatchOption, option_map, if◌then◌else◌, Some, None};
 ghost use Rattle.enrol_states.specs.Order.{Rise, is_in};
 ghost use Rattle.enrol_states.specs.State.{slugs_of};
-ghost use Rattle.enrol_states.specs.Statuses.{is_enrolled};
 ghost use Rattle.enrol_states.specs.Recipes.{has_feature, sets};
 ghost use Rattle.enrol_states.specs.Features.{takes, IsFree};
 ghost use Rattle.enrol_states.specs.Choices.{IsTaken};
 ghost use Rattle.enrol_states.specs.Holding.{has_alone};
-ghost use Rattle.enrol_states.specs.Least.{has_text, IsLeast, lesser_of, rival_of};
+ghost use Rattle.enrol_states.specs.TextSets.{has_text};
+ghost use Rattle.enrol_states.specs.Least.{IsLeast, lesser_of, rival_of};
 
 use crate::state::{Row, State};
-use crate::status::Status;
 use plain_text::Slug;
 use recipe_reader::{Branch, Recipe};
-use sequences::{Sequence, Text};
+use sequences::{SharedList, Text};
 use std::alloc::{AllocError, Global};
 use std::cmp::Ordering;
 use std::collections::BTreeSet;
@@ -58,26 +57,20 @@ fn taken_by<'a>(
 fn rival<'a>(state: &'a State, recipe: &Recipe, row: &Row) -> Option<&'a Recipe>
     ensures { option_map (λ r. r.now) result ≡ rival_of state.now recipe.now row.now }
 {
-    if row.slug == recipe.slug || !is_enrolled(&row.status) {
+    if row.slug == recipe.slug || !row.status.is_enrolled() {
         return None;
     }
     match state.live.get(row.slug.text()) {
-        Some(rival) if rival.rollout == recipe.rollout => Some(rival),
+        Some(rival) if rival.kind() == recipe.kind() => Some(rival),
         _ => None,
     }
-}
-
-pub(crate) fn is_enrolled(status: &Status) -> bool
-    ensures { result ≡ is_enrolled status.now }
-{
-    matches!(status, Status::Enrolled { .. })
 }
 
 /// The recipe's features that recipes of one kind may not share.
 fn exclusive_features<'a>(
     alloc: Global,
     recipe: &'a Recipe,
-    coenrolling: &Sequence<Text>,
+    coenrolling: &SharedList<Text>,
 ) -> Result<BTreeSet<&'a str>, AllocError>
     requires { Rise coenrolling.now }
     ensures { IfOk result (λ set. (f : List ℕ) → has_text set f ≡ has_alone coenrolling.now recipe.now f) }
@@ -91,7 +84,7 @@ fn exclusive_features<'a>(
 pub(crate) fn add_all_features<'a>(
     features: &mut BTreeSet<&'a str>,
     recipe: &'a Recipe,
-    coenrolling: &Sequence<Text>,
+    coenrolling: &SharedList<Text>,
 ) -> Result<(), AllocError>
     requires { Rise coenrolling.now }
     ensures { OnOk result ((f : List ℕ) → has_text features.new f ≡ (has_text features.old f || has_alone coenrolling.now recipe.now f)) }
@@ -105,7 +98,7 @@ pub(crate) fn add_all_features<'a>(
 fn add_features<'a>(
     features: &mut BTreeSet<&'a str>,
     branch: &'a Branch,
-    coenrolling: &Sequence<Text>,
+    coenrolling: &SharedList<Text>,
 ) -> Result<(), AllocError>
     requires { Rise coenrolling.now }
     ensures { OnOk result ((f : List ℕ) → has_text features.new f ≡ (has_text features.old f || (sets branch.now f && not (is_in coenrolling.now f)))) }
@@ -119,7 +112,7 @@ fn add_features<'a>(
 fn add_feature<'a>(
     features: &mut BTreeSet<&'a str>,
     feature: &'a str,
-    coenrolling: &Sequence<Text>,
+    coenrolling: &SharedList<Text>,
 ) -> Result<(), AllocError>
     requires { Rise coenrolling.now }
     ensures { OnOk result ((f : List ℕ) → has_text features.new f ≡ (has_text features.old f || (bytes_eq feature.now f && not (is_in coenrolling.now f)))) }
@@ -131,7 +124,7 @@ fn add_feature<'a>(
 }
 
 /// Whether the text is one of those in order.
-fn has(texts: &Sequence<Text>, text: &str) -> bool
+fn has(texts: &SharedList<Text>, text: &str) -> bool
     requires { Rise texts.now }
     ensures { result ≡ is_in texts.now text.now }
 {

@@ -3,12 +3,13 @@ ghost use Rattle.std.specs.Prelude.{◌≡◌, ◌≤◌, ◌<◌, All, IfOk, le
 ghost use Rattle.enrol_states.specs.Order.{Rise, is_in};
 ghost use Rattle.enrol_states.specs.State.{fresh, last_moment, slugs_of, status_of};
 ghost use Rattle.enrol_states.specs.Consistent.{IsConsistent, IsId};
+ghost use Rattle.enrol_states.specs.Statuses.{IsSlug};
 
-use crate::copying::{copy_of_pending, copy_of_texts};
+use crate::copying::copy_of_pending;
 use crate::status::Status;
 use plain_text::Slug;
 use recipe_reader::Recipes;
-use sequences::{Sequence, Text};
+use sequences::{SharedList, Text};
 use std::alloc::{AllocError, Global};
 use uuid::Uuid;
 
@@ -23,7 +24,7 @@ pub const MAX_RECIPES: usize = 2_000;
 
 /// What a client knows of itself, of the recipes and of what it is to each. Every list is in order
 /// by its bytes, without repeats: the recipes and the rows by slug. A clone is the same state, and
-/// `==` holds of the same states alone.
+/// shares its lists; `==` holds of the same states alone.
 #[derive(Drop)]
 pub struct State {
     /// The client's identifier (RFC 9562).
@@ -37,15 +38,15 @@ pub struct State {
     /// Whether the client takes part at all.
     pub participating: bool,
     /// The slugs that the user opted out of, at most 4,096. A slug stays while its recipe is gone.
-    pub opted_out: Sequence<Slug>,
+    pub opted_out: SharedList<Slug>,
     /// The features that recipes of one kind may share, as of the last apply.
-    pub coenrolling: Sequence<Text>,
+    pub coenrolling: SharedList<Text>,
     /// The recipes of the last apply, at most 2,000.
     pub live: Recipes,
     /// The recipes that were fetched since, at most 2,000.
     pub pending: Option<Recipes>,
     /// What the client is to each recipe.
-    pub rows: Sequence<Row>,
+    pub rows: SharedList<Row>,
 }
 
 /// What a client is to the recipe of a slug.
@@ -69,11 +70,11 @@ impl State {
             updated: now,
             version: Text::from_string(String::new(alloc)),
             participating: true,
-            opted_out: Sequence::new(alloc),
-            coenrolling: Sequence::new(alloc),
+            opted_out: SharedList::new(alloc),
+            coenrolling: SharedList::new(alloc),
             live: Recipes::new(alloc),
             pending: None,
-            rows: Sequence::new(alloc),
+            rows: SharedList::new(alloc),
         }
     }
 }
@@ -107,8 +108,8 @@ impl State {
     /// The state with other opt-outs and rows.
     pub(crate) fn with_rows(
         &self,
-        opted_out: Sequence<Slug>,
-        rows: Sequence<Row>,
+        opted_out: SharedList<Slug>,
+        rows: SharedList<Row>,
     ) -> Result<State, AllocError>
         ensures { IfOk result (λ s. s ≡ record self.now { opted_out = opted_out; rows = rows }) }
     {
@@ -119,7 +120,7 @@ impl State {
             version: self.version.clone()?,
             participating: self.participating,
             opted_out,
-            coenrolling: copy_of_texts(&self.coenrolling)?,
+            coenrolling: self.coenrolling.clone()?,
             live: self.live.clone()?,
             pending: copy_of_pending(&self.pending)?,
             rows,
@@ -127,8 +128,15 @@ impl State {
     }
 }
 
+/// What the type of a slug says. The call does nothing.
+pub fn slug_fits(slug: &Slug)
+    ensures { IsSlug slug.now }
+{
+    slug.text();
+}
+
 /// What the type of an id says. The call does nothing.
-pub(crate) fn id_fits(id: Uuid)
+pub fn id_fits(id: Uuid)
     ensures { IsId id }
 {
     array_fits(id.into_bytes());

@@ -1,4 +1,7 @@
 // What a client is to a recipe.
+ghost use Rattle.std.specs.Prelude.{◌≡◌};
+ghost use Rattle.enrol_states.specs.Statuses.{is_enrolled};
+
 use plain_text::Slug;
 
 /// What a client is to the recipe of a slug. A clone is the same status, and `==` holds of the same
@@ -14,7 +17,7 @@ pub enum Status {
     NotEnrolled {
         reason: NotEnrolledReason,
     },
-    /// The client took part in the branch, and won't take part again.
+    /// The client took part in the branch, and takes part again only where its user opts in.
     Disqualified {
         reason: DisqualifiedReason,
         branch: Slug,
@@ -29,6 +32,15 @@ pub enum Status {
     Error {
         cause: ErrorCause,
     },
+}
+
+impl Status {
+    /// Whether the client takes part.
+    pub fn is_enrolled(&self) -> bool
+        ensures { result ≡ is_enrolled self.now }
+    {
+        matches!(self, Status::Enrolled { .. })
+    }
 }
 
 /// Why a client takes part.

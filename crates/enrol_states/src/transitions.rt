@@ -4,7 +4,7 @@ ghost use Rattle.enrol_states.specs.declared.status.Status.TheVariants as status
 ghost use Rattle.enrol_states.specs.declared.verdict.Verdict.TheVariants as verdicts;
 ghost use Rattle.enrol_states.specs.declared.verdict.Outcome.TheVariants as outcomes;
 ghost use Rattle.enrol_states.specs.Transitions.{CanOccur, outcome, outcome_outside, outcome_inside, outcome_qualified, status_ended};
-ghost use Rattle.enrol_states.specs.Recipes.{has_branch};
+ghost use Rattle.recipe_reader.specs.Kinds.{has_branch};
 
 use crate::status::{DisqualifiedReason, EnrolledReason, NotEnrolledReason, Status};
 use crate::verdict::{Outcome, Verdict};
@@ -89,7 +89,7 @@ fn inside(
 fn qualified(reason: EnrolledReason, branch: &Slug, recipe: &Recipe) -> Result<Outcome, AllocError>
     ensures { IfOk result (λ o. o ≡ outcome_qualified reason branch.now (has_branch recipe.now branch.now)) }
 {
-    if !has_branch(recipe, branch.text()) {
+    if !recipe.has_branch(branch.text()) {
         return disqualified(DisqualifiedReason::Error, branch);
     }
     Ok(Outcome::Wish {
@@ -112,17 +112,6 @@ fn disqualified(reason: DisqualifiedReason, branch: &Slug) -> Result<Outcome, Al
         reason,
         branch: branch.clone()?,
     }))
-}
-
-/// Whether the recipe has a branch of that slug.
-pub(crate) fn has_branch(recipe: &Recipe, branch: &str) -> bool
-    ensures { result ≡ has_branch recipe.now branch.now }
-{
-    recipe
-        .branches
-        .as_slice()
-        .iter()
-        .any(|other| other.slug.text() == branch)
 }
 
 /// What stays of a status where there is no live recipe: what the client was enrolled in is kept

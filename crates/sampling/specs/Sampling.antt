@@ -1,5 +1,5 @@
 -- Sampling over whole numbers without bound. A point is a number below 2 ^ 48.
-use Rattle.std.specs.Prelude.{ℕ, ◌+◌, ◌-◌, ◌*◌, ◌/◌, ◌%◌, ◌^◌, ◌<◌, ◌≤◌, List, fold, length, sum, take}
+use Rattle.std.specs.Prelude.{ℕ, ◌+◌, ◌-◌, ◌*◌, ◌/◌, ◌%◌, ◌^◌, ◌<◌, ◌≤◌, nat_lt, Bool, List, fold, length, sum, take}
 use Rattle.sha2.specs.Sha256.{sha256}
 
 -- the number that these bytes write, high byte first
@@ -14,9 +14,9 @@ point_of bytes = big_endian (take 6 (sha256 bytes))
 abbrev pub bucket_of : ℕ → ℕ → ℕ
 bucket_of point total = point * total / 2 ^ 48
 
--- the bucket is less than `count` buckets after `start`, where bucket 0 comes after the last one
-abbrev pub IsInRange : ℕ → ℕ → ℕ → ℕ → Type 0
-IsInRange point start count total = (bucket_of point total + total - start % total) % total < count
+-- whether the bucket is less than `count` buckets after `start`, where bucket 0 comes after the last one
+abbrev pub is_in_range : ℕ → ℕ → ℕ → ℕ → Bool
+is_in_range point start count total = nat_lt ((bucket_of point total + total - start % total) % total) count
 
 -- the sum of the ratios with index 0 to i
 abbrev pub sum_through : List ℕ → ℕ → ℕ

@@ -28,7 +28,7 @@ module _ (d : Drill) (start count : ℕ) (is : parts_of d ≡ drill start count)
   unfolding drill_setting
   setting_is now = ap (λ (p : Parts). setting_with p now) is
 
-  pub lines_are : (text : List ℕ) → text ≡ d.script.items → lines_of text ≡ drill_lines
+  pub lines_are : (text : List ℕ) → text ≡ d.script → lines_of text ≡ drill_lines
   unfolding drill_lines
   lines_are text same = ap lines_of same ∙ ap (λ (p : Parts). lines_of p.script) is
 

@@ -107,7 +107,7 @@ fn run_script<H: Host>(
         context,
         recipes,
     };
-    match run_client(alloc, host, &mut shelf, now, table, &script) {
+    match run_client(alloc, host, &mut shelf, now, table, script.as_slice()) {
         Ok(client) => say_summary(alloc, host, start, count, client.state()),
         Err(status) => status,
     }

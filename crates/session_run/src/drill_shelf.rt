@@ -4,33 +4,34 @@ ghost use Rattle.std.specs.Option.{option_map};
 ghost use Rattle.session_run.specs.Drills.{file_among};
 
 use host_model::{Shelf, ShelfAnswer};
+use sequences::Sequence;
 use std::alloc::Global;
 
 /// The three files of a drill by their names. It tells what they hold, and it never fails.
 #[derive(Drop)]
 pub(crate) struct DrillShelf {
     /// `manifest.json`.
-    pub(crate) manifest: Vec<u8>,
+    pub(crate) manifest: Sequence<u8>,
     /// `context.json`.
-    pub(crate) context: Vec<u8>,
+    pub(crate) context: Sequence<u8>,
     /// `recipes.json`.
-    pub(crate) recipes: Vec<u8>,
-    ghost manifest_room: { length manifest.items ≤ 4194304 },
-    ghost context_room: { length context.items ≤ 4194304 },
-    ghost recipes_room: { length recipes.items ≤ 4194304 },
+    pub(crate) recipes: Sequence<u8>,
+    ghost manifest_room: { length manifest ≤ 4194304 },
+    ghost context_room: { length context ≤ 4194304 },
+    ghost recipes_room: { length recipes ≤ 4194304 },
 }
 
 impl DrillShelf {
     /// The file of this name, where there is one.
     #[tactic(auto, unfolding(crate::specs::Drills::file_among))]
-    fn file(&self, name: &str) -> Option<&Vec<u8>>
-        ensures file { file_among self.now.manifest.items self.now.context.items self.now.recipes.items name.now ≡ option_map (λ bytes. bytes.now.items) result }
-        ensures room { IfSome result (λ bytes. length bytes.now.items ≤ 4194304) }
+    fn file(&self, name: &str) -> Option<&[u8]>
+        ensures file { file_among self.now.manifest self.now.context self.now.recipes name.now ≡ option_map (λ bytes. bytes.now) result }
+        ensures room { IfSome result (λ bytes. length bytes.now ≤ 4194304) }
     {
         match name {
-            "manifest.json" => Some(&self.manifest),
-            "context.json" => Some(&self.context),
-            "recipes.json" => Some(&self.recipes),
+            "manifest.json" => Some(self.manifest.as_slice()),
+            "context.json" => Some(self.context.as_slice()),
+            "recipes.json" => Some(self.recipes.as_slice()),
             _ => None,
         }
     }
@@ -39,7 +40,7 @@ impl DrillShelf {
 impl Shelf for DrillShelf {
     ghost tells = { Unit {0} };
 
-    ghost file = { λ shelf. file_among shelf.manifest.items shelf.context.items shelf.recipes.items };
+    ghost file = { λ shelf. file_among shelf.manifest shelf.context shelf.recipes };
 
     ghost faults = { λ shelf. 0 };
 

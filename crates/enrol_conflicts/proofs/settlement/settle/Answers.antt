@@ -24,7 +24,7 @@ pub loop-place-init : goal.loop-place-init
 loop-place-init c =
     let e : c.in_ok-granted.granted.items ≡ replicate (length c.args.candidates.now) false = search rules in
     let l : length c.in_ok-granted.granted.items ≡ length c.args.candidates.now = rw (e, length-replicate) refl in
-    (passed_none c.args.candidates.now c.args.coenrolling.now c.as_slice-order.result.now c.in_ok-granted.granted.items e l, holds_none c.args.candidates.now c.in_ok-granted.granted.items c.new-holders.result (length c.args.candidates.now) e c.new-holders.ensures.empty)
+    (passed_none c.args.candidates.now c.args.coenrolling.now c.as_slice-order.result.now c.in_ok-granted.granted.items e l, holds_none c.args.coenrolling.now c.args.candidates.now c.in_ok-granted.granted.items c.new-held.result (length c.args.candidates.now) e c.new-held.ensures)
 
 pub offset_bounds-candidates-place : goal.offset_bounds-candidates-place
 offset_bounds-candidates-place c =
@@ -56,4 +56,4 @@ loop-place-preserved c =
     let perm : IsPermutation (range_with_len 0 (length ws)) order = search rules in
     let sorted : IsSorted (place_cmp ws) order = search rules in
     let here : slice_get ws (get_or order k 0) ≡ Some w = slice_get_read ws (length ws) (get_or order k 0) w refl (places_inside (length ws) order perm k c.loop-place-test.true) c.index-candidates-place.is in
-    (passed_more ws c.args.coenrolling.now order c.requires perm sorted gs k w c.in_ok-is_free.is_free p c.loop-place-test.true here (c.in_ok-is_free.ensures.answer ∙ ap not (taken c.args.coenrolling.now c.in_ok-shared.shared c.in_ok-shared.ensures ws gs c.loop-place.holders h w)), holds_more ws gs c.loop-place.holders c.grant_if_free.new.holders (get_or order k 0) c.in_ok-is_free.is_free w h p.whole here (not_yet ws c.args.coenrolling.now order c.requires perm sorted gs k p c.loop-place-test.true) c.in_ok-is_free.ensures.held)
+    (passed_more ws c.args.coenrolling.now order c.requires perm sorted gs k w c.in_ok-is_free.is_free p c.loop-place-test.true here (c.in_ok-is_free.ensures.answer ∙ ap not (taken c.args.coenrolling.now ws gs c.loop-place.held h w)), holds_more c.args.coenrolling.now c.in_ok-shared.shared c.in_ok-shared.ensures ws gs c.loop-place.held c.grant_if_free.new.held (get_or order k 0) c.in_ok-is_free.is_free w h p.whole here (not_yet ws c.args.coenrolling.now order c.requires perm sorted gs k p c.loop-place-test.true) c.in_ok-is_free.ensures.held)

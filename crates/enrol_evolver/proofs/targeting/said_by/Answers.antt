@@ -14,4 +14,4 @@ returns-clause-says g c =
     let context = c.args.client.now.context.now in
     let now = c.args.client.now.moment in
     let given = c.in_ok-set_already_enrolled.ensures.gives context now c.requires.ready.0 in
-    if_ok c.said.result _ _ (says_tree context c.args.client.now.state.now c.args.slug.now now tree (tree_of c.args.text.now) _ _ there c.requires.ready.1 given) (c.said.ensures _ c.eval-value.ensures)
+    if_ok c.said.result _ _ (says_tree context c.args.client.now.state.now c.args.slug.now now tree (tree_of c.args.text.now) _ _ there c.requires.ready.1 given) (c.said.ensures _ c.eval_truth-truth.ensures)

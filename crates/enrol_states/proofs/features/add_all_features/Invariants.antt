@@ -2,7 +2,7 @@ use Rattle.std.proofs.Common.{◌≡◌, ◌&&◌, ◌||◌, ℕ, List, not, tak
 use Rattle.std.specs.List.{list_any}
 use Rattle.enrol_states.specs.Order.{is_in}
 use Rattle.enrol_states.specs.Recipes.{sets}
-use Rattle.enrol_states.specs.Least.{has_text}
+use Rattle.enrol_states.specs.TextSets.{has_text}
 use Rattle.enrol_states.proofs.features.add_all_features.Given as goal
 
 abbrev pub invariant-loop-branch : goal.invariant-loop-branch

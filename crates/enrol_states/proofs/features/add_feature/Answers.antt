@@ -1,6 +1,6 @@
 use Rattle.std.proofs.Common.{◌≡◌, false, ap, ◌∙◌, ◌||◌}
 use Rattle.enrol_states.specs.Order.{is_in}
-use Rattle.enrol_states.specs.Least.{has_text}
+use Rattle.enrol_states.specs.TextSets.{has_text}
 use Rattle.enrol_states.proofs.Sets.{has_text-insert, apart_from}
 use Rattle.enrol_states.proofs.features.add_feature.Goals as goal
 

@@ -1,7 +1,7 @@
 use Rattle.std.proofs.Common.{◌≡◌, ◌&&◌, ◌||◌, ℕ, List, not, take, bytes_eq}
 use Rattle.std.specs.List.{list_any}
 use Rattle.enrol_states.specs.Order.{is_in}
-use Rattle.enrol_states.specs.Least.{has_text}
+use Rattle.enrol_states.specs.TextSets.{has_text}
 use Rattle.recipe_reader.specs.declared.recipe.FeatureValue.{FeatureValue}
 use Rattle.enrol_states.proofs.features.add_features.Given as goal
 

@@ -1,6 +1,7 @@
 use Rattle.std.proofs.Common.{◌&&◌, ◌≤◌, length, option_map, bytes_eq, sym, subst, arith}
 use Rattle.recipe_reader.specs.declared.recipe.FeatureValue.{FeatureValue}
-use Rattle.enrol_states.specs.Least.{has_text, IsLeast}
+use Rattle.enrol_states.specs.TextSets.{has_text}
+use Rattle.enrol_states.specs.Least.{IsLeast}
 use Rattle.enrol_states.proofs.Leasts.{IsLeast-one, IsLeast-more, IsLeast-all}
 use Rattle.enrol_states.proofs.features.least_set.Goals as goal
 

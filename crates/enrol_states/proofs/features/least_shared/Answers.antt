@@ -1,5 +1,5 @@
 use Rattle.enrol_states.specs.Recipes.{sets}
-use Rattle.enrol_states.specs.Least.{has_text}
+use Rattle.enrol_states.specs.TextSets.{has_text}
 use Rattle.enrol_states.proofs.Leasts.{IsLeast-more}
 use Rattle.enrol_states.proofs.features.least_shared.Goals as goal
 

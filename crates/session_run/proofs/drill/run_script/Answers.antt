@@ -19,8 +19,8 @@ returns-in-Ok-clause-any_moment g c tells =
     let all = c.requires.made tells in
     let kept = all (h.reads old Left) (h.reads old Right) (g.met.H.Host.read_is_image old Left tells) (g.met.H.Host.read_is_image old Right tells) in
     let done = c.in-Ok.ensures in
-    said_met h c.args.start c.args.count c.args.now (setting_with (parts_of d) c.args.now) (lines_of c.deref.result.now) (setting_is d c.args.start c.args.count c.requires.drill c.args.now)
-    (lines_are d c.args.start c.args.count c.requires.drill c.deref.result.now c.deref.ensures.value) old c.run_client.new.host c.say_summary.new.host c.state.result.now
+    said_met h c.args.start c.args.count c.args.now (setting_with (parts_of d) c.args.now) (lines_of c.as_slice.result.now) (setting_is d c.args.start c.args.count c.requires.drill c.args.now)
+    (lines_are d c.args.start c.args.count c.requires.drill c.as_slice.result.now c.as_slice.ensures) old c.run_client.new.host c.say_summary.new.host c.state.result.now
     (c.state.ensures ∙ done.state tt tells s (stands_of_kept _ _ s kept)) (done.ends tt tells (s ∷ []) s (among_one h old s all) kept)
     (done.any_moment tt tells (s ∷ []) s (among_one h old s all) kept) (c.say_summary.ensures.any_moment tells)
 
@@ -33,8 +33,8 @@ returns-in-Ok-clause-ends g c tells =
     let all = c.requires.made tells in
     let kept = all (h.reads old Left) (h.reads old Right) (g.met.H.Host.read_is_image old Left tells) (g.met.H.Host.read_is_image old Right tells) in
     let done = c.in-Ok.ensures in
-    said_ends h c.args.start c.args.count c.args.now (setting_with (parts_of d) c.args.now) (lines_of c.deref.result.now) (setting_is d c.args.start c.args.count c.requires.drill c.args.now)
-    (lines_are d c.args.start c.args.count c.requires.drill c.deref.result.now c.deref.ensures.value) old c.run_client.new.host c.say_summary.new.host c.state.result.now
+    said_ends h c.args.start c.args.count c.args.now (setting_with (parts_of d) c.args.now) (lines_of c.as_slice.result.now) (setting_is d c.args.start c.args.count c.requires.drill c.args.now)
+    (lines_are d c.args.start c.args.count c.requires.drill c.as_slice.result.now c.as_slice.ensures) old c.run_client.new.host c.say_summary.new.host c.state.result.now
     (c.state.ensures ∙ done.state tt tells s (stands_of_kept _ _ s kept)) (done.ends tt tells (s ∷ []) s (among_one h old s all) kept)
     (c.say_summary.ensures.still tells) c.say_summary.result (c.say_summary.ensures.ends tells)
 
@@ -50,8 +50,8 @@ returns-in-Ok-clause-fits g c is tells =
       payloads = stands.payloads;
       history = stands.history;
       fits = λ k full. c.in-Ok.ensures.fits refl tt tells s stands k
-          (full_here h c.args.start c.args.count c.args.now (setting_with (parts_of d) c.args.now) (lines_of c.deref.result.now) (setting_is d c.args.start c.args.count c.requires.drill c.args.now)
-          (lines_are d c.args.start c.args.count c.requires.drill c.deref.result.now c.deref.ensures.value) (place_of stands.payloads) k full);
+          (full_here h c.args.start c.args.count c.args.now (setting_with (parts_of d) c.args.now) (lines_of c.as_slice.result.now) (setting_is d c.args.start c.args.count c.requires.drill c.args.now)
+          (lines_are d c.args.start c.args.count c.requires.drill c.as_slice.result.now c.as_slice.ensures) (place_of stands.payloads) k full);
     }
 
 pub returns-clause-any_moment : goal.returns-clause-any_moment
@@ -62,8 +62,8 @@ returns-clause-any_moment g c tells =
     let d = c.args.drill in
     let all = c.requires.made tells in
     let kept = all (h.reads old Left) (h.reads old Right) (g.met.H.Host.read_is_image old Left tells) (g.met.H.Host.read_is_image old Right tells) in
-    unsaid_met h c.args.start c.args.count c.args.now (setting_with (parts_of d) c.args.now) (lines_of c.deref.result.now) (setting_is d c.args.start c.args.count c.requires.drill c.args.now)
-    (lines_are d c.args.start c.args.count c.requires.drill c.deref.result.now c.deref.ensures.value) old c.run_client.new.host
+    unsaid_met h c.args.start c.args.count c.args.now (setting_with (parts_of d) c.args.now) (lines_of c.as_slice.result.now) (setting_is d c.args.start c.args.count c.requires.drill c.args.now)
+    (lines_are d c.args.start c.args.count c.requires.drill c.as_slice.result.now c.as_slice.ensures) old c.run_client.new.host
     (c.run_client.ensures.any_moment tt tells (s ∷ []) s (among_one h old s all) kept)
 
 pub returns-clause-ends : goal.returns-clause-ends
@@ -75,8 +75,8 @@ returns-clause-ends g c tells =
     let all = c.requires.made tells in
     let kept = all (h.reads old Left) (h.reads old Right) (g.met.H.Host.read_is_image old Left tells) (g.met.H.Host.read_is_image old Right tells) in
     let ended = c.in-Err.ensures in
-    unsaid_ends h c.args.start c.args.count c.args.now (setting_with (parts_of d) c.args.now) (lines_of c.deref.result.now) (setting_is d c.args.start c.args.count c.requires.drill c.args.now)
-    (lines_are d c.args.start c.args.count c.requires.drill c.deref.result.now c.deref.ensures.value) old c.run_client.new.host c.in-Err.status
+    unsaid_ends h c.args.start c.args.count c.args.now (setting_with (parts_of d) c.args.now) (lines_of c.as_slice.result.now) (setting_is d c.args.start c.args.count c.requires.drill c.args.now)
+    (lines_are d c.args.start c.args.count c.requires.drill c.as_slice.result.now c.as_slice.ensures) old c.run_client.new.host c.in-Err.status
     (ended.ends tt tells (s ∷ []) s (among_one h old s all) kept) (λ is. ended.not_done (ap Err is)) ended.not_script.0 ended.not_script.1 (λ is. absurd (omega (arith, ended.shelf_cause is)))
 
 pub returns-clause-full : goal.returns-clause-full
@@ -92,6 +92,6 @@ returns-clause-full g c is tells =
       payloads = stands.payloads;
       history = stands.history;
       k = full.0;
-      full = full_there h c.args.start c.args.count c.args.now (setting_with (parts_of d) c.args.now) (lines_of c.deref.result.now) (setting_is d c.args.start c.args.count c.requires.drill c.args.now)
-          (lines_are d c.args.start c.args.count c.requires.drill c.deref.result.now c.deref.ensures.value) (place_of stands.payloads) full.0 full.1;
+      full = full_there h c.args.start c.args.count c.args.now (setting_with (parts_of d) c.args.now) (lines_of c.as_slice.result.now) (setting_is d c.args.start c.args.count c.requires.drill c.args.now)
+          (lines_are d c.args.start c.args.count c.requires.drill c.as_slice.result.now c.as_slice.ensures) (place_of stands.payloads) full.0 full.1;
     }

@@ -1,0 +1,19 @@
+-- What a call answered, said in other words.
+use Rattle.std.proofs.Common.{◌≡◌, ℕ, true, List, get_or, Result, Ok, Err, sym, ap, ◌∙◌}
+use Rattle.std.specs.Prelude.{IfOk, MatchResult, slice_set}
+use Rattle.std.proofs.lemmas.List.{set-get_or}
+use Rattle.enrol_states.specs.Equal.{row_eq}
+use Rattle.enrol_states.specs.Equals.{row_Decides}
+use Rattle.enrol_states.specs.declared.state.Row.{Row}
+
+pub if_ok : {T E : Type 0} (r : Result T E) (a b : T) → a ≡ b → IfOk r (λ t. t ≡ a) → IfOk r (λ t. t ≡ b)
+if_ok (Ok t) a b e h = h ∙ e
+if_ok (Err x) a b e h = tt
+
+pub if_matched : {T E : Type 0} (r : Result T E) (a b : T) (Q : E → Type 0) → a ≡ b → MatchResult r (λ t. t ≡ a) Q → IfOk r (λ t. t ≡ b)
+if_matched (Ok t) a b Q e h = h ∙ e
+if_matched (Err x) a b Q e h = tt
+
+-- a row in the place of one that is the same
+pub same_row : (rows : List Row) (i : ℕ) (d row : Row) → d ≡ get_or rows i d → row_eq d row ≡ true → rows ≡ slice_set rows i row
+same_row rows i d row here same = sym (set-get_or rows i d) ∙ ap (slice_set rows i) (sym here ∙ (row_Decides d row).0 same)
