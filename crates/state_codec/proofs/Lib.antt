@@ -14,6 +14,8 @@ pub mod Alls
 pub mod Rising
 pub mod Enrolments
 pub mod Spelled
-pub mod Shorts
-pub mod RecordSums
+pub mod Valids
 pub mod RecordTexts
+pub mod Added
+pub mod KeyOrder
+pub mod SameRows

@@ -2,7 +2,6 @@
 ghost use Rattle.std.specs.Prelude.{◌≡◌, ◌<◌, ◌^◌, ◌++◌, ◌∷◌, [], List, length, Err, IfOk, IfSome, IsNone, OnOk};
 ghost use Rattle.state_codec.specs.declared.store_row.StoreRow.{StoreRow};
 ghost use Rattle.state_codec.specs.Batches.{short_field, long_field, fields, puts, whole_batch, HaveRoom};
-ghost use Rattle.state_codec.specs.Spelling.{row};
 ghost use Rattle.state_codec.specs.BatchParts.{IsNext, IsPut, HasNoShortField, HasNoLongField};
 
 use crate::fault::CodecFault;
@@ -16,30 +15,23 @@ pub(crate) const CLEAR: u8 = 0;
 /// The byte that begins a put.
 const PUT: u8 = 1;
 
-/// Adds a put of the row whose key is the tag and what follows it.
-pub(crate) fn put_row(
-    bytes: &mut Vec<u8>,
-    tag: u8,
-    rest: &str,
-    value: &[u8],
-) -> Result<(), AllocError>
-    ensures { OnOk result (bytes.new.items ≡ bytes.old.items ++ 1 ∷ fields (row (tag ∷ rest.now) value.now)) }
+/// Adds a put of the row.
+pub(crate) fn put_row(bytes: &mut Vec<u8>, row: &StoreRow) -> Result<(), AllocError>
+    ensures { OnOk result (bytes.new.items ≡ bytes.old.items ++ 1 ∷ fields row.now) }
 {
     bytes.push(PUT)?;
-    put_key(bytes, tag, rest)?;
-    put_value(bytes, value)?;
+    put_key(bytes, row.key.as_slice())?;
+    put_value(bytes, row.value.as_slice())?;
     Ok(())
 }
 
 /// Adds the key behind its number of bytes, which stands in two bytes.
 #[tactic(auto, unfolding(crate::specs::Batches::short_field))]
-fn put_key(bytes: &mut Vec<u8>, tag: u8, rest: &str) -> Result<(), AllocError>
-    ensures { OnOk result (bytes.new.items ≡ bytes.old.items ++ short_field (tag ∷ rest.now)) }
+fn put_key(bytes: &mut Vec<u8>, key: &[u8]) -> Result<(), AllocError>
+    ensures { OnOk result (bytes.new.items ≡ bytes.old.items ++ short_field key.now) }
 {
-    let len = 1 + rest.len();
-    bytes.extend_from_slice(&len.to_be_bytes()[6..])?;
-    bytes.push(tag)?;
-    bytes.extend_from_slice(rest.as_bytes())?;
+    bytes.extend_from_slice(&key.len().to_be_bytes()[6..])?;
+    bytes.extend_from_slice(key)?;
     Ok(())
 }
 

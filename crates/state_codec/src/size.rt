@@ -7,11 +7,10 @@ ghost use Rattle.state_codec.specs.Batches.{puts};
 ghost use Rattle.state_codec.specs.Spelling.{spelling, key_row, recipe_row, status_row, pending_recipes};
 ghost use Rattle.state_codec.specs.Sound.{HaveRecords, AreRecords};
 
-use crate::lengths::record_length;
 use crate::status::status_len;
 use enrol_states::{Row, State};
 use plain_text::Slug;
-use recipe_reader::{Recipe, Recipes};
+use recipe_reader::{Recipe, Recipes, record_length};
 use sequences::Text;
 
 /// The bytes of a put beside its key and its value.

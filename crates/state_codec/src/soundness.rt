@@ -1,21 +1,22 @@
 // Whether a state is one that a client can have, but for the length of its spelling.
-ghost use Rattle.std.specs.Prelude.{◌≡◌, ◌<◌, ◌↔◌, All, IfOk, IsTrue, length};
+ghost use Rattle.std.specs.Prelude.{◌≡◌, ◌↔◌, All, IfOk, IsTrue};
 ghost use Rattle.plain_text.specs.Names.{is_name};
 ghost use Rattle.recipe_reader.specs.Payloads.{AreValid, has_slug, recipe_with};
 ghost use Rattle.enrol_states.specs.Order.{Rise};
 ghost use Rattle.enrol_states.specs.State.{slugs_of};
 ghost use Rattle.enrol_states.specs.Statuses.{IsSlug};
-ghost use Rattle.enrol_states.specs.Recipes.{has_branch, offers};
-ghost use Rattle.enrol_states.specs.Consistent.{IsConsistent, IsId, AreKept, ArePending};
+ghost use Rattle.enrol_states.specs.Recipes.{offers};
+ghost use Rattle.enrol_states.specs.Consistent.{IsConsistent, AreKept, ArePending};
 ghost use Rattle.state_codec.specs.Reading.{AreValidIf};
 ghost use Rattle.state_codec.specs.SoundParts.{HasMoments, HasOptOuts, HasFeatures, HasRecipes, IsRowOf, HasRows, MayBeEnrolled};
 
-use enrol_states::{LAST_MOMENT, MAX_OPTED_OUT, MAX_RECIPES, Row, State, Status, is_exclusive};
+use enrol_states::{
+    LAST_MOMENT, MAX_OPTED_OUT, MAX_RECIPES, Row, State, Status, id_fits, is_exclusive, slug_fits,
+};
 use plain_text::{Slug, is_name};
-use recipe_reader::{Recipe, Recipes};
+use recipe_reader::Recipes;
 use sequences::Text;
 use std::alloc::{AllocError, Global};
-use uuid::Uuid;
 
 /// Whether the state, whose recipes are valid, is consistent. The one error is want of memory.
 pub(crate) fn is_consistent(alloc: Global, state: &State) -> Result<bool, AllocError>
@@ -151,16 +152,9 @@ fn offers(recipes: &Recipes, slug: &str, branch: &str) -> bool
     ensures { result ≡ offers (recipe_with slug.now recipes.now) branch.now }
 {
     match recipes.get(slug) {
-        Some(recipe) => has_branch(recipe, branch),
+        Some(recipe) => recipe.has_branch(branch),
         None => false,
     }
-}
-
-fn has_branch(recipe: &Recipe, branch: &str) -> bool
-    ensures { result ≡ has_branch recipe.now branch.now }
-{
-    let branches = recipe.branches.as_slice();
-    branches.iter().any(|other| other.slug.text() == branch)
 }
 
 // ---- lists
@@ -212,26 +206,3 @@ fn row_slugs_fit(rows: &[Row])
         slug_fits(&row.slug);
     }
 }
-
-fn slug_fits(slug: &Slug)
-    ensures { IsSlug slug.now }
-{
-    let _text = slug.text();
-}
-
-fn id_fits(id: Uuid)
-    ensures { IsId id }
-{
-    array_fits(id.into_bytes());
-}
-
-fn array_fits(bytes: [u8; 16])
-    ensures sixteen { length bytes ≡ 16 }
-    ensures bytes { All (λ b. b < 256) bytes }
-{
-    slice_fits(&bytes);
-}
-
-fn slice_fits(bytes: &[u8])
-    ensures { All (λ b. b < 256) bytes.now }
-{}

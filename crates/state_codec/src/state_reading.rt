@@ -11,16 +11,16 @@ use crate::values::{flag_in, id_in, number_in, text_in};
 use enrol_states::{Row, State};
 use plain_text::Slug;
 use recipe_reader::Recipes;
-use sequences::{Sequence, Text};
+use sequences::{SharedList, Text};
 use std::alloc::Global;
 use uuid::Uuid;
 
 /// The lists of a state but for its recipes.
 #[derive(Drop)]
 pub(crate) struct Lists {
-    pub coenrolling: Sequence<Text>,
-    pub opted_out: Sequence<Slug>,
-    pub rows: Sequence<Row>,
+    pub coenrolling: SharedList<Text>,
+    pub opted_out: SharedList<Slug>,
+    pub rows: SharedList<Row>,
 }
 
 /// The recipes of a state.
@@ -71,9 +71,9 @@ fn lists_in(alloc: Global, rows: &[StoreRow]) -> Result<Lists, CodecFault>
     let opted_out = slugs_under(alloc, b'o', rows)?;
     let rows = client_rows_under(alloc, b'r', rows)?;
     Ok(Lists {
-        coenrolling,
-        opted_out,
-        rows,
+        coenrolling: SharedList::from_sequence(alloc, coenrolling)?,
+        opted_out: SharedList::from_sequence(alloc, opted_out)?,
+        rows: SharedList::from_sequence(alloc, rows)?,
     })
 }
 

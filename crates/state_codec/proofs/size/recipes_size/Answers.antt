@@ -7,7 +7,7 @@ use Rattle.state_codec.specs.Spelling.{recipe_row, recipe_text}
 use Rattle.state_codec.proofs.Names.{slug_short}
 use Rattle.state_codec.proofs.Sizes.{size_more}
 use Rattle.state_codec.proofs.Records.{records_more}
-use Rattle.state_codec.proofs.Shorts.{short_at}
+use Rattle.state_codec.proofs.Valids.{valid_at}
 use Rattle.state_codec.proofs.size.recipes_size.Goals as goal
 
 text_length : (r : Recipe) → length (recipe_text r) ≡ length (text_of (record_json r))
@@ -15,7 +15,7 @@ unfolding recipe_text
 text_length r = refl
 
 pub record_length-requires : goal.record_length-requires
-record_length-requires c = short_at c.args.recipes.now c.loop-recipe.recipe-index c.recipe-item.result c.loop-recipe-test.true c.recipe-item.is c.requires.valid
+record_length-requires c = valid_at c.args.recipes.now c.loop-recipe.recipe-index c.recipe-item.result c.loop-recipe-test.true c.recipe-item.is c.requires.valid
 
 pub loop-recipe-preserved : goal.loop-recipe-preserved
 loop-recipe-preserved c =

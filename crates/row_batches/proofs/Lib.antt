@@ -1,0 +1,11 @@
+pub mod Walks
+pub mod Fields
+pub mod Found
+pub mod Keeping
+pub mod Merged
+pub mod OneSpelling
+pub mod Ordered
+pub mod Puts
+pub mod Sizes
+pub mod Texts
+pub mod Turns

@@ -1,0 +1,14 @@
+-- Laws of the definitions alone.
+use Rattle.std.specs.Prelude.{◌≡◌, ◌↔◌, List, []}
+use Rattle.row_batches.specs.declared.store_row.StoreRow.{StoreRow}
+use Rattle.row_batches.specs.Batch.{ChangeList, IsBatch, batch_text}
+use Rattle.row_batches.specs.Between.{changes_between}
+use Rattle.row_batches.specs.Rows.{AreRows}
+
+-- batches that have one spelling are one
+abbrev pub HasOneSpelling : Type 0
+HasOneSpelling = (b c : ChangeList) → IsBatch b → IsBatch c → batch_text b ≡ batch_text c → b ≡ c
+
+-- the batch between two maps is empty exactly where they are equal
+abbrev pub IsEmptyWhereEqual : Type 0
+IsEmptyWhereEqual = (olds news : List StoreRow) → AreRows olds → AreRows news → (changes_between olds news ≡ []) ↔ (olds ≡ news)

@@ -1,0 +1,10 @@
+pub mod Batch
+pub mod BatchParts
+pub mod Batches
+pub mod Between
+pub mod Laws
+pub mod Merging
+pub mod Places
+pub mod RowRoom
+pub mod Rows
+pub mod Steps

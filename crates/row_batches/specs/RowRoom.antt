@@ -1,0 +1,15 @@
+-- How contracts see a map of rows.
+use Rattle.std.specs.Prelude.{ℕ, List}
+use Rattle.row_batches.specs.Batches.{HaveRoom}
+use Rattle.row_batches.specs.Rows.{AreRows}
+use Rattle.row_batches.specs.declared.store_row.StoreRow.{StoreRow}
+
+-- its rows, and how many it has room for
+pub record RowsInRoom : Type 0 where
+  pub rows : List StoreRow
+  pub room : ℕ
+
+-- rows as batches make them: their keys rise, and their fields have room
+pub record AreSoundRows (rows : List StoreRow) : Type 0 where
+  pub rise : AreRows rows
+  pub fields : HaveRoom rows

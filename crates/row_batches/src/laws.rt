@@ -1,0 +1,12 @@
+// What holds of all batches.
+ghost use Rattle.row_batches.specs.Laws.{HasOneSpelling, IsEmptyWhereEqual};
+
+/// Batches that have the same bytes are the same. It takes no memory.
+pub fn one_spelling()
+    ensures { HasOneSpelling }
+{}
+
+/// The batch from one map of rows to the next is empty exactly where they are equal. It takes no memory.
+pub fn empty_between()
+    ensures { IsEmptyWhereEqual }
+{}

@@ -1,0 +1,32 @@
+use Rattle.std.proofs.Common.{◌≡◌, Err, inl, inr, ap}
+use Rattle.pair_store.specs.declared.faults.PairFault.TheVariants.{BadStore}
+use Rattle.host_model.specs.declared.side.Side.TheVariants.{Left, Right}
+use Rattle.row_store.proofs.Folds.{failed, failed_too, fault_is, fold_same, not_ok}
+use Rattle.row_store.proofs.store.RowStore.open.Goals as goal
+
+pub returns-in-Ok-rows_of-clause-bad_store_where : goal.returns-in-Ok-rows_of-clause-bad_store_where
+returns-in-Ok-rows_of-clause-bad_store_where g c tells bad =
+    absurd (bad.no_rows c.in-Ok-rows_of.rows.rows (c.in-Ok.payloads, c.in-Ok.ensures.list tells, c.in-Ok-rows_of.ensures.rows))
+
+pub returns-in-Err-rows_of-clause-opened_where : goal.returns-in-Err-rows_of-clause-opened_where
+returns-in-Err-rows_of-clause-opened_where g c tells rows has =
+    let h = g.H.Host in
+    let host = c.args.host.now in
+    inr (failed c.in-Err-rows_of.fault (λ is. c.in-Err-rows_of.ensures.none (ap Err is) rows (fold_same (h.reads host Left) (h.reads host Right) c.in-Ok.payloads rows (c.in-Ok.ensures.list tells) has)) (λ is. c.in-Err-rows_of.ensures.no_other.0 (ap Err is)))
+
+pub returns-in-Err-rows_of-clause-bad_store : goal.returns-in-Err-rows_of-clause-bad_store
+returns-in-Err-rows_of-clause-bad_store g c tells is =
+    let h = g.H.Host in
+    let host = c.args.host.now in
+    record {
+      there = λ none. not_ok (c.in-Ok.pair, c.in-Ok.payloads) (c.in-Ok.ensures.no_store_where tells none);
+      no_rows = λ rows has. c.in-Err-rows_of.ensures.none (ap Err (fault_is c.in-Err-rows_of.fault BadStore is)) rows (fold_same (h.reads host Left) (h.reads host Right) c.in-Ok.payloads rows (c.in-Ok.ensures.list tells) has);
+    }
+
+pub returns-in-Err-clause-opened_where : goal.returns-in-Err-clause-opened_where
+returns-in-Err-clause-opened_where g c tells rows has = failed_too c.in-Err.fault (c.in-Err.ensures.opened_where tells has.0 has.1)
+
+pub returns-in-Err-clause-bad_store : goal.returns-in-Err-clause-bad_store
+returns-in-Err-clause-bad_store g c tells is =
+    let bad = c.in-Err.ensures.bad_store tells (ap Err (fault_is c.in-Err.fault BadStore is)) in
+    record { there = bad.open_side; no_rows = λ rows has. bad.no_list has.0 has.1 }

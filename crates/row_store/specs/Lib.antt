@@ -1,0 +1,5 @@
+pub mod Folding
+pub mod Moments
+pub mod Ready
+pub mod Rows
+pub mod Store

@@ -1,0 +1,242 @@
+// A map of rows on the two sides of a host.
+ghost use Rattle.std.specs.Prelude.{◌≡◌, ◌⊎◌, ◌<◌, ◌≤◌, ◌+◌, ◌↔◌, [], ◌∷◌, List, ℕ, length, OnOk, OnErr, IfOk, IsOk, IsTrue, IsErrOf, option_map};
+ghost use Rattle.gate_journal.specs.Costs.{HasCost};
+ghost use Rattle.gate_journal.specs.declared.frame.TheConstants.{MAX_PAYLOAD};
+ghost use Rattle.host_model.specs.declared.side.Side.TheVariants.{Left, Right};
+ghost use Rattle.host_model.specs.Causes.{Rose, HasCause};
+ghost use Rattle.host_model.specs.Hosts.{IsDurable, MeetsAll};
+ghost use Rattle.pair_store.specs.declared.mark.TheConstants.{MAX_WHOLE};
+ghost use Rattle.pair_store.specs.Moments.{StaysBelow, IsOpening};
+ghost use Rattle.pair_store.specs.Pair.{HasNoStore};
+ghost use Rattle.pair_store.specs.Repair.{repair_cost};
+ghost use Rattle.pair_store.specs.Store.{IsClosedOn, HasFailed, PairStandsWithGate};
+ghost use Rattle.gate_journal.specs.OpenSide.{OpenSide};
+ghost use Rattle.row_batches.specs.declared.store_row.StoreRow.{StoreRow};
+ghost use Rattle.row_batches.specs.Batch.{applied, IsBatch, batch_text, whole_of};
+ghost use Rattle.row_batches.specs.Batches.{HaveRoom};
+ghost use Rattle.row_batches.specs.Rows.{AreRows, value_of};
+ghost use Rattle.row_store.specs.Folding.{Fold};
+ghost use Rattle.row_store.specs.Moments.{KeepsEitherRows};
+ghost use Rattle.row_store.specs.Ready.{IsReadyFor, IsWritten, PassesMark, commit_cost, place_after};
+ghost use Rattle.row_store.specs.Rows.{HasRows, IsBad};
+ghost use Rattle.row_store.specs.Store.{RowsStand, RowsStandWithGate, KeepsRows, place};
+
+use crate::faults::RowMakeFault;
+use crate::folding::fold_rows;
+use crate::ready::Ready;
+use crate::writing::write_payload;
+use gate_journal::{Frame, FrameFault};
+use host_model::{DiskFailed, Host};
+use pair_store::{PairFault, PairStore};
+use row_batches::{Batch, BatchFault, RowMap, StoreRow};
+use sequences::Sequence;
+use std::alloc::{AllocError, Global};
+use std::marker::Model;
+
+/// A map from keys to values, kept over every crash: rows in the order of their keys, and where the next batch is written.
+///
+/// It stands for the disk of the host on which it was opened. Each call on it that takes a host wants this host, with the disk
+/// as the last call left it and synced. After a fault of the disk it is dropped, and the store opened again.
+#[derive(Drop)]
+pub struct RowStore {
+    pair: PairStore,
+    rows: RowMap,
+}
+
+impl Model for RowStore {
+    ghost use Rattle.row_store.specs.Store.{StoredRows};
+
+    ghost Value = { StoredRows };
+
+    ghost view = { λ s. record { records = s.pair; rows = s.rows.rows; room = s.rows.room } };
+}
+
+impl RowStore {
+    /// Makes a store of these rows: the batch clears all and puts them. The one want of memory comes before anything is
+    /// written.
+    pub fn make<H: Host>(alloc: Global, host: &mut H, whole: &Batch) -> Result<(), RowMakeFault>
+        requires clear { IsTrue whole.now.clear }
+        requires fits { length (batch_text whole.now) ≤ MAX_WHOLE }
+        requires closed { H.tells → IsClosedOn H.Host host.old }
+
+        ensures made { H.tells → OnOk result (KeepsRows H.Host host.new (applied whole.now [])) }
+        ensures memory { IsErrOf result RowMakeFault.OutOfMemory → host.new ≡ host.old }
+        ensures below { H.tells → MeetsAll H.Host host.old host.new (StaysBelow H.Host host.old) }
+
+        ensures cost { H.tells → HasCost (length (batch_text whole.now) + 17) (H.written host.old) (H.written host.new) result }
+        ensures cause { IsErrOf result RowMakeFault.DiskFault → Rose (H.disk_faults host.old) (H.disk_faults host.new) }
+        ensures disk_faults { H.disk_faults host.old ≤ H.disk_faults host.new }
+        ensures say_faults { H.say_faults host.new ≡ H.say_faults host.old }
+    {
+        let bytes = whole.bytes(alloc)?;
+        let frame = frame_of(alloc, &bytes)?;
+        make_pair(host, &frame)?;
+        Ok(())
+    }
+
+    /// Syncs the disk and reads the rows. Where a checkpoint was cut short, one byte is written.
+    ///
+    /// Want of memory and a fault of the disk aside, it answers `Ok` exactly where the disk has rows, `NoStore` exactly where
+    /// nothing stands there, and `BadStore` exactly where neither holds: a store that is damaged, or a record that is no batch.
+    pub fn open<H: Host>(alloc: Global, host: &mut H) -> Result<RowStore, PairFault>
+        ensures rows { H.tells → IfOk result (λ store. HasRows (H.reads host.old Left) (H.reads host.old Right) store.rows) }
+        ensures opened { H.tells → IfOk result (λ store. RowsStand H.Host store host.new) }
+        ensures opened_where { H.tells → (rows : List StoreRow) → HasRows (H.reads host.old Left) (H.reads host.old Right) rows
+            → IsOk result ⊎ HasFailed result }
+        ensures no_store { H.tells → IsErrOf result PairFault.NoStore → HasNoStore (H.reads host.old Left) (H.reads host.old Right) }
+        ensures none_open { H.tells → IsErrOf result PairFault.NoStore → IsClosedOn H.Host host.new }
+        ensures no_store_where { H.tells → HasNoStore (H.reads host.old Left) (H.reads host.old Right) → IsErrOf result PairFault.NoStore ⊎ HasFailed result }
+        ensures bad_store { H.tells → IsErrOf result PairFault.BadStore → IsBad (H.reads host.old Left) (H.reads host.old Right) }
+        ensures bad_store_where { H.tells → IsBad (H.reads host.old Left) (H.reads host.old Right) → IsErrOf result PairFault.BadStore ⊎ HasFailed result }
+
+        // At each moment the images are those of the start, or what reads gave then but for one byte.
+        ensures any_moment { H.tells → MeetsAll H.Host host.old host.new (IsOpening H.Host host.old) }
+        ensures below { H.tells → MeetsAll H.Host host.old host.new (StaysBelow H.Host host.old) }
+
+        ensures cost { H.tells → HasCost (repair_cost (H.reads host.old Left) (H.reads host.old Right)) (H.written host.old) (H.written host.new) result }
+        ensures cause { IsErrOf result PairFault.DiskFault → Rose (H.disk_faults host.old) (H.disk_faults host.new) }
+        ensures disk_faults { H.disk_faults host.old ≤ H.disk_faults host.new }
+        ensures say_faults { H.say_faults host.new ≡ H.say_faults host.old }
+    {
+        match PairStore::open(alloc, host) {
+            Ok((pair, payloads)) => match rows_of(alloc, payloads) {
+                Ok(rows) => Ok(RowStore { pair, rows }),
+                Err(fault) => Err(fault),
+            },
+            Err(fault) => Err(fault),
+        }
+    }
+
+    /// The value of a key, where there is one. It takes no memory.
+    pub fn get(&self, key: &[u8]) -> Option<&[u8]>
+        ensures { option_map (λ value. value.now) result ≡ value_of key.now self.now.rows }
+    {
+        self.rows.get(key)
+    }
+
+    /// The rows, in the order of their keys. It takes no memory.
+    pub fn rows(&self) -> &[StoreRow]
+        ensures rows { result.now ≡ self.now.rows }
+        ensures rise { AreRows self.now.rows }
+        ensures fields { HaveRoom self.now.rows }
+    {
+        self.rows.as_slice()
+    }
+
+    /// Makes a batch ready to be committed, and reserves the room for it: no row is changed. Want of memory leaves the rows and
+    /// their room as they were.
+    pub fn prepare(&mut self, alloc: Global, batch: Batch) -> Result<Ready, AllocError>
+        requires size { length (batch_text batch) ≤ MAX_PAYLOAD }
+        requires whole_size { length (batch_text (whole_of (applied batch self.old.rows))) ≤ MAX_WHOLE }
+
+        ensures ready { IfOk result (λ ready. IsReadyFor self.new ready) }
+        ensures batch { IfOk result (λ ready. ready.batch ≡ batch) }
+
+        // It is the whole map's exactly where a record of the batch would pass byte 33,554,432.
+        ensures whole { IfOk result (λ ready. IsTrue ready.is_whole ↔ PassesMark self.old batch) }
+
+        ensures rows { self.new.rows ≡ self.old.rows }
+        ensures records { self.new.records ≡ self.old.records }
+        ensures err { OnErr result (self.new ≡ self.old) }
+    {
+        let more = batch.changes().len();
+        let ready = self.ready_for(alloc, batch)?;
+        self.rows.reserve(more)?;
+        Ok(ready)
+    }
+
+    // The batch with what is written of it.
+    fn ready_for(&self, alloc: Global, batch: Batch) -> Result<Ready, AllocError>
+        requires size { length (batch_text batch) ≤ MAX_PAYLOAD }
+        requires whole_size { length (batch_text (whole_of (applied batch self.now.rows))) ≤ MAX_WHOLE }
+        ensures batch { IfOk result (λ ready. ready.batch ≡ batch) }
+        ensures rules { IfOk result (λ _. IsBatch batch) }
+        ensures written { IfOk result (λ ready. IsWritten ready.is_whole self.now batch ready.payload) }
+    {
+        let bytes = batch.bytes(alloc)?;
+        let frame = frame_of(alloc, &bytes)?;
+        if self.pair.wants_checkpoint(&frame) {
+            let whole = batch.whole_after(alloc, self.rows.as_slice())?;
+            Ok(Ready {
+                batch,
+                frame: frame_of(alloc, &whole)?,
+                is_whole: true,
+            })
+        } else {
+            Ok(Ready {
+                batch,
+                frame,
+                is_whole: false,
+            })
+        }
+    }
+
+    /// Writes a batch that the last `prepare` of this store made ready, and takes it. At `Ok` each image has it. It takes no
+    /// memory. A batch's rows are moved in as `RowMap::apply` says.
+    pub fn commit<H: Host>(&mut self, host: &mut H, ready: Ready) -> Result<(), DiskFailed>
+        requires ready { IsReadyFor self.old ready }
+        requires stands { H.tells → RowsStand H.Host self.old host.old }
+
+        ensures acknowledged { H.tells → OnOk result (RowsStandWithGate H.Host self.new host.new) }
+        ensures rows { OnOk result (self.new.rows ≡ applied ready.batch self.old.rows) }
+        ensures same { OnErr result (self.new ≡ self.old) }
+
+        // At each moment there are the rows of before, or those with the batch.
+        ensures any_moment { H.tells → RowsStandWithGate H.Host self.old host.old
+            → MeetsAll H.Host host.old host.new (KeepsEitherRows H.Host host.old self.old.rows (applied ready.batch self.old.rows)) }
+        ensures below { H.tells → MeetsAll H.Host host.old host.new (StaysBelow H.Host host.old) }
+
+        ensures place { OnOk result (place self.new ≡ place_after ready (place self.old)) }
+        ensures cost { H.tells → HasCost (commit_cost ready) (H.written host.old) (H.written host.new) result }
+        ensures cause { HasCause (H.disk_faults host.old) (H.disk_faults host.new) result }
+        ensures say_faults { H.say_faults host.new ≡ H.say_faults host.old }
+    {
+        let Ready {
+            batch,
+            frame,
+            is_whole,
+        } = ready;
+        write_payload(&mut self.pair, host, &frame, is_whole)?;
+        self.rows.apply(batch);
+        Ok(())
+    }
+}
+
+// Makes the pair of one payload.
+fn make_pair<H: Host>(host: &mut H, first: &Frame) -> Result<(), DiskFailed>
+    requires fits { length first.now ≤ MAX_WHOLE }
+    requires closed { H.tells → IsClosedOn H.Host host.old }
+    ensures made { H.tells → OnOk result ((records : OpenSide) × PairStandsWithGate H.Host records host.new (first.now ∷ [])) }
+    ensures below { H.tells → MeetsAll H.Host host.old host.new (StaysBelow H.Host host.old) }
+    ensures cost { H.tells → HasCost (length first.now + 17) (H.written host.old) (H.written host.new) result }
+    ensures cause { HasCause (H.disk_faults host.old) (H.disk_faults host.new) result }
+    ensures say_faults { H.say_faults host.new ≡ H.say_faults host.old }
+{
+    let _pair = PairStore::make(host, first)?;
+    Ok(())
+}
+
+// The frame of bytes that fit one.
+fn frame_of(alloc: Global, payload: &[u8]) -> Result<Frame, AllocError>
+    requires { length payload.now ≤ MAX_PAYLOAD }
+    ensures { IfOk result (λ frame. frame ≡ payload.now) }
+{
+    match Frame::new(alloc, payload) {
+        Ok(frame) => Ok(frame),
+        Err(FrameFault::OutOfMemory) => Err(AllocError),
+        Err(FrameFault::TooLong) => unreachable!(),
+    }
+}
+
+// The rows that the payloads make.
+fn rows_of(alloc: Global, payloads: Sequence<Sequence<u8>>) -> Result<RowMap, PairFault>
+    ensures rows { IfOk result (λ map. Fold payloads [] map.rows) }
+    ensures none { IsErrOf result PairFault.BadStore → (rows : List StoreRow) → Fold payloads [] rows → ⊥ }
+    ensures no_other { (IsErrOf result PairFault.NoStore → ⊥) × (IsErrOf result PairFault.DiskFault → ⊥) }
+{
+    match fold_rows(alloc, payloads) {
+        Ok(rows) => Ok(rows),
+        Err(BatchFault::NotABatch) => Err(PairFault::BadStore),
+        Err(BatchFault::OutOfMemory) => Err(PairFault::OutOfMemory),
+    }
+}
