@@ -10,7 +10,7 @@ use enrol_states::{
 use json_tree::read;
 use plain_text::{Slug, slug_of};
 use recipe_reader::SkipReason;
-use sequences::{Sequence, Text};
+use sequences::{Sequence, SharedList, Text};
 use std::alloc::{AllocError, Global};
 use std::test::Fail;
 use uuid::Uuid;
@@ -144,15 +144,15 @@ fn answers_of_done_commands(rt: HostRuntime) -> Result<(), Fail> {
 }
 
 // Puts a row at the end.
-fn add(alloc: Global, rows: &mut Sequence<Row>, name: &str, status: Status) -> Result<(), Fail> {
+fn add(alloc: Global, rows: &mut SharedList<Row>, name: &str, status: Status) -> Result<(), Fail> {
     let slug = slug(alloc, name)?;
     rows.push(Row { slug, status })?;
     Ok(())
 }
 
 // A row of each status.
-fn rows(alloc: Global) -> Result<Sequence<Row>, Fail> {
-    let mut rows = Sequence::new(alloc);
+fn rows(alloc: Global) -> Result<SharedList<Row>, Fail> {
+    let mut rows = SharedList::new(alloc);
     let enrolled = Status::Enrolled {
         reason: EnrolledReason::OptIn,
         branch: slug(alloc, "blue")?,
@@ -182,7 +182,7 @@ fn rows(alloc: Global) -> Result<Sequence<Row>, Fail> {
 #[test]
 fn answer_of_show(rt: HostRuntime) -> Result<(), Fail> {
     let alloc = rt.alloc();
-    let mut opted_out = Sequence::new(alloc);
+    let mut opted_out = SharedList::new(alloc);
     opted_out.push(slug(alloc, "gone")?)?;
     let shown = Answer::Shown {
         id: Uuid::from_bytes(ID_BYTES),

@@ -1,23 +1,14 @@
-//! Calls of the program over sides, a source, files and an output in memory: stores, scripts, faults of the outside, and
-//! files that are refused. The modules below have its manifests, recipes, choices, values and drills.
+//! Calls of the program over sides, a source, files and an output in memory that fail or are large. The program
+//! `client_scenarios` has the others.
 use crate::checks::{check, same, same_bytes};
 use crate::outside::{ID, NOW, host_of};
 use crate::transforms::standard_table;
 use host_model::{Choice, MemHost, MemShelf, MemSource, Side};
-use records::{payload, record};
+use plain_text::read_number;
 use session_run::{RunStatus, nimbus};
 use std::alloc::Global;
+use std::str;
 use std::test::Fail;
-
-mod applying;
-mod choices;
-mod drills;
-mod manifests;
-mod records;
-mod refusals;
-mod serving;
-
-const OTHER_ID: &str = "00000000-0000-4000-8000-000000000001";
 
 const SHOWN_OUT: &str =
     "id 5a8f0b1e-7c3d-4e2a-9b6c-0123456789ab\nparticipating no\npending no\nend\n";
@@ -30,6 +21,9 @@ const MADE_FRONT: &[u8] =
 
 const MADE_BACK: &[u8] =
     b"\x01\x00\x01u\x00\x00\x00\x08\x00\x00\x00\x00\x65\x53\xf1\x00\x01\x00\x01v\x00\x00\x00\x00\x00";
+
+/// How many bytes the sides of the largest drill may have, and how many may be written and said.
+const LARGE_ROOM: usize = 33_554_432;
 
 // Calls the program with these words, this source and this shelf.
 fn call_over(
@@ -47,18 +41,14 @@ fn call_over(
     Ok(nimbus(alloc, &list, NOW, &table, source, shelf, host))
 }
 
-// Calls the program with these words, these files alone and this script.
+// Calls the program with these words, no files and this script.
 fn call(
     alloc: Global,
     host: &mut MemHost,
     words: &[&str],
-    files: &[(&str, &[u8])],
     script: &[u8],
 ) -> Result<RunStatus, Fail> {
     let mut shelf = MemShelf::new(alloc, &[])?;
-    for (name, bytes) in files {
-        shelf.add(alloc, name, bytes)?;
-    }
     let mut source = MemSource::new(alloc, script, 4096, &[])?;
     call_over(alloc, host, words, &mut source, &mut shelf)
 }
@@ -66,178 +56,16 @@ fn call(
 // The left side of a new store.
 fn made(alloc: Global) -> Result<Vec<u8>, Fail> {
     let mut host = host_of(alloc, b"", b"", &[])?;
-    call(alloc, &mut host, &["init", ID], &[], b"")?;
+    call(alloc, &mut host, &["init", ID], b"")?;
     Ok(host.image(alloc, Side::Left, Choice::Old)?)
 }
 
-// Called with these words over these sides, the program has this status and says this.
-fn ends(
-    alloc: Global,
-    sides: (&[u8], &[u8]),
-    words: &[&str],
-    script: &[u8],
-    status: RunStatus,
-    said: &str,
-) -> Result<(), Fail> {
-    let (left, right) = sides;
-    let mut host = host_of(alloc, left, right, &[])?;
-    let found = call(alloc, &mut host, words, &[], script)?;
-    let (left, right) = (left.len(), right.len());
-    let case = format!(in alloc; "{words:?} over {left} and {right} bytes")?;
-    same(case.as_bytes(), &found, &status)?;
-    same_bytes(case.as_bytes(), host.said(), said.as_bytes())
-}
-
-// Over a new store and these files alone the script is answered so.
-fn answers(alloc: Global, files: &[(&str, &[u8])], script: &[u8], said: &str) -> Result<(), Fail> {
-    let left = made(alloc)?;
-    let mut host = host_of(alloc, &left, b"\x00", &[])?;
-    let status = call(alloc, &mut host, &["run"], files, script)?;
-    same(script, &status, &RunStatus::Done)?;
-    same_bytes(script, host.said(), said.as_bytes())
-}
-
-// Over two empty sides the words have this status.
-fn has_status(alloc: Global, words: &[&str], status: RunStatus) -> Result<(), Fail> {
-    let mut host = host_of(alloc, b"", b"", &[])?;
-    let found = call(alloc, &mut host, words, &[], b"")?;
-    let case = format!(in alloc; "{words:?}")?;
-    same(case.as_bytes(), &found, &status)
-}
-
 #[test]
-fn making_and_empty_run(rt: HostRuntime) -> Result<(), Fail> {
-    let alloc = rt.alloc();
-    let left = made(alloc)?;
+fn bytes_of_a_new_store(rt: HostRuntime) -> Result<(), Fail> {
+    let left = made(rt.alloc())?;
     same(b"a new store", &left.len(), &118)?;
     check("a new store begins so", left.starts_with(MADE_FRONT))?;
-    check("a new store ends so", left.ends_with(MADE_BACK))?;
-    let none: (&[u8], &[u8]) = (b"", b"");
-    let store: (&[u8], &[u8]) = (&left, b"\x00");
-    let ready = "ready 5a8f0b1e-7c3d-4e2a-9b6c-0123456789ab\n";
-    ends(alloc, none, &["init", ID], b"", RunStatus::Done, ready)?;
-    ends(alloc, store, &["run"], b"", RunStatus::Done, "")?;
-    ends(
-        alloc,
-        store,
-        &["init", OTHER_ID],
-        b"",
-        RunStatus::AlreadyStore,
-        "",
-    )
-}
-
-#[test]
-fn no_store_and_usage(rt: HostRuntime) -> Result<(), Fail> {
-    let braced = "{5A8F0B1E-7C3D-4E2A-9B6C-0123456789AB}";
-    let rows: [(&[&str], RunStatus); 6] = [
-        (&["run"], RunStatus::NoStore),
-        (&[], RunStatus::Usage),
-        (&["init"], RunStatus::Usage),
-        (&["init", "12"], RunStatus::Usage),
-        (&["run", "now"], RunStatus::Usage),
-        (&["init", braced], RunStatus::Done),
-    ];
-    for (words, status) in rows {
-        has_status(rt.alloc(), words, status)?;
-    }
-    Ok(())
-}
-
-#[test]
-fn first_run(rt: HostRuntime) -> Result<(), Fail> {
-    let rows: [(&[u8], &str); 6] = [
-        (
-            b"participate no\nshow\n",
-            "ok\nid 5a8f0b1e-7c3d-4e2a-9b6c-0123456789ab\nparticipating no\npending no\nend\n",
-        ),
-        (
-            b"participate no\nparticipate\tyes \n \t\n\n  show",
-            "ok\nok\nid 5a8f0b1e-7c3d-4e2a-9b6c-0123456789ab\nparticipating yes\npending no\nend\n",
-        ),
-        (b"show\r\n", SHOWN_IN),
-        (
-            b"fly\nShow\n",
-            "refused UnknownCommand\nrefused UnknownCommand\n",
-        ),
-        (
-            b"show now\nparticipate maybe\n",
-            "refused BadWords\nrefused BadWords\n",
-        ),
-        (
-            b"participate\nparticipate yes no\n",
-            "refused BadWords\nrefused BadWords\n",
-        ),
-    ];
-    for (script, said) in rows {
-        answers(rt.alloc(), &[], script, said)?;
-    }
-    Ok(())
-}
-
-// So many bytes.
-fn bytes_of(alloc: Global, byte: u8, count: usize) -> Result<Vec<u8>, Fail> {
-    let mut bytes = Vec::new(alloc);
-    bytes.resize(count, byte)?;
-    Ok(bytes)
-}
-
-#[test]
-fn script_limits(rt: HostRuntime) -> Result<(), Fail> {
-    let alloc = rt.alloc();
-    let left = made(alloc)?;
-    for (count, status) in [
-        (1_048_576, RunStatus::Done),
-        (1_048_577, RunStatus::ScriptTooLong),
-    ] {
-        let script = bytes_of(alloc, b'\n', count)?;
-        ends(alloc, (&left, b"\x00"), &["run"], &script, status, "")?;
-    }
-    for (count, said) in [
-        (4096, "refused UnknownCommand\n"),
-        (4097, "refused LineTooLong\n"),
-    ] {
-        answers(alloc, &[], &bytes_of(alloc, b'a', count)?, said)?;
-    }
-    answers(
-        alloc,
-        &[],
-        b"opt-out Alpha\nreset 12\nmanifest a b c\nfeature\n",
-        "refused BadSlug 0\nrefused BadId\nrefused BadWords\nrefused BadWords\n",
-    )
-}
-
-// Over these sides each form of words finds a damaged store, and says nothing.
-fn is_bad(alloc: Global, left: &[u8], right: &[u8]) -> Result<(), Fail> {
-    let sides = (left, right);
-    ends(alloc, sides, &["run"], b"show", RunStatus::BadStore, "")?;
-    ends(alloc, sides, &["init", ID], b"", RunStatus::BadStore, "")
-}
-
-#[test]
-fn altered_sides(rt: HostRuntime) -> Result<(), Fail> {
-    let alloc = rt.alloc();
-    for (place, byte, status) in [
-        (0, 0, RunStatus::NoStore),
-        (8, 3, RunStatus::BadStore),
-        (9, 0, RunStatus::BadStore),
-        (117, 1, RunStatus::BadStore),
-        (117, 7, RunStatus::Done),
-    ] {
-        let mut left = made(alloc)?;
-        if let Some(there) = left.get_mut(place) {
-            *there = byte;
-        }
-        let mut host = host_of(alloc, &left, b"\x00", &[])?;
-        let found = call(alloc, &mut host, &["run"], &[], b"")?;
-        let case = format!(in alloc; "byte {place} is {byte}")?;
-        same(case.as_bytes(), &found, &status)?;
-        same_bytes(case.as_bytes(), host.said(), b"")?;
-    }
-    let left = made(alloc)?;
-    is_bad(alloc, left.get(..60).unwrap_or(&left), b"\x00")?;
-    is_bad(alloc, &left, b"")?;
-    is_bad(alloc, &left, b"\x01")
+    check("a new store ends so", left.ends_with(MADE_BACK))
 }
 
 // Each image that is left stands for a state, and for the new one where anything was said.
@@ -251,7 +79,7 @@ fn reopens(
     let left = host.image(alloc, Side::Left, left_choice)?;
     let right = host.image(alloc, Side::Right, right_choice)?;
     let mut reopened = host_of(alloc, &left, &right, &[])?;
-    let status = call(alloc, &mut reopened, &["run"], &[], b"show\n")?;
+    let status = call(alloc, &mut reopened, &["run"], b"show\n")?;
     let case = format!(in alloc; "call {number}, {left_choice:?} and {right_choice:?}")?;
     same(case.as_bytes(), &status, &RunStatus::Done)?;
     let is_old = host.said().is_empty() && reopened.said() == SHOWN_IN.as_bytes();
@@ -263,7 +91,7 @@ fn reopens(
 fn fails_at(alloc: Global, left: &[u8], number: u64) -> Result<(), Fail> {
     let mut host = host_of(alloc, left, b"\x00", &[number])?;
     let script = b"participate no\nshow\n";
-    let status = call(alloc, &mut host, &["run"], &[], script)?;
+    let status = call(alloc, &mut host, &["run"], script)?;
     if !matches!(
         status,
         RunStatus::Done | RunStatus::DiskFault | RunStatus::SayFault
@@ -312,121 +140,41 @@ fn faults_of_the_outside(rt: HostRuntime) -> Result<(), Fail> {
     shelf_fails(alloc, &left)
 }
 
-// A payload of two equal records, a number, and a record of a later schema.
-fn mixed_payload(alloc: Global) -> Result<String, Fail> {
-    let alpha = record(alloc, "alpha", "homescreen", "")?;
-    let beta = record(alloc, "beta", "homescreen", ",\"schemaVersion\":\"2.0.0\"")?;
-    payload(alloc, &[alpha.as_str(), alpha.as_str(), "5", beta.as_str()])
-}
-
-#[test]
-fn skipped_records(rt: HostRuntime) -> Result<(), Fail> {
-    let alloc = rt.alloc();
-    let payload = mixed_payload(alloc)?;
-    let rows: [(&[u8], &str); 2] = [
-        (
-            b"fetch skipped.json\n",
-            "fetched 1 skipped 3\nskipped 1 Duplicate\nskipped 2 NotAnObject\nskipped 3 BadSchema\n",
-        ),
-        (
-            b"show\nfetch skipped.json\nshow\n",
-            "id 5a8f0b1e-7c3d-4e2a-9b6c-0123456789ab\nparticipating yes\npending no\nend\nfetched 1 skipped 3\nskipped 1 Duplicate\nskipped 2 NotAnObject\nskipped 3 BadSchema\nid 5a8f0b1e-7c3d-4e2a-9b6c-0123456789ab\nparticipating yes\npending yes\nend\n",
-        ),
-    ];
-    for (script, said) in rows {
-        answers(alloc, &[("skipped.json", payload.as_bytes())], script, said)?;
+// The number at the end of a line, or 0.
+fn last_number(line: &str) -> u64 {
+    match line.rsplit_once(' ') {
+        Some((_, number)) => read_number(number.as_bytes()).unwrap_or(0),
+        None => 0,
     }
-    Ok(())
 }
 
-#[test]
-fn second_fetch_is_quiet(rt: HostRuntime) -> Result<(), Fail> {
-    let alloc = rt.alloc();
-    let payload = mixed_payload(alloc)?;
-    let left = made(alloc)?;
-    let mut host = host_of(alloc, &left, b"\x00", &[])?;
-    let files: &[(&str, &[u8])] = &[("a.json", payload.as_bytes())];
-    call(alloc, &mut host, &["run"], files, b"fetch a.json\n")?;
-    let first = host.image(alloc, Side::Left, Choice::New)?;
-    call(alloc, &mut host, &["run"], files, b"fetch a.json\n")?;
-    let second = host.image(alloc, Side::Left, Choice::New)?;
-    check("the first fetch writes", first.len() > left.len())?;
-    same_bytes(b"the second fetch", &second, &first)
-}
-
-// A payload of so many numbers.
-fn numbers(alloc: Global, count: usize) -> Result<Vec<u8>, Fail> {
-    let mut bytes = b"{\"data\":[5".to_vec(alloc)?;
-    for _ in 1..count {
-        bytes.extend_from_slice(b",5")?;
+// The sum of the counts in the lines behind the last one that begins a summary.
+fn sum_of_counts(text: &str) -> u64 {
+    let mut sum = 0u64;
+    for line in text.lines() {
+        if line.starts_with("drill ") {
+            sum = 0;
+        } else {
+            sum = sum.saturating_add(last_number(line));
+        }
     }
-    bytes.extend_from_slice(b"]}")?;
-    Ok(bytes)
+    sum
 }
 
-// So many lists, each in the one before.
-fn nested(alloc: Global, count: usize) -> Result<Vec<u8>, Fail> {
-    let mut bytes = bytes_of(alloc, b'[', count)?;
-    bytes.extend_from_slice(&bytes_of(alloc, b']', count)?)?;
-    Ok(bytes)
+// What the largest drill says on fresh sides.
+fn largest(alloc: Global) -> Result<Vec<u8>, Fail> {
+    let mut host = MemHost::new(alloc, b"", b"", LARGE_ROOM, &[])?;
+    let status = call(alloc, &mut host, &["drill", "1", "2000"], b"")?;
+    same(b"drill 1 2000", &status, &RunStatus::Done)?;
+    Ok(host.said().to_vec(alloc)?)
 }
 
 #[test]
-fn file_refusals(rt: HostRuntime) -> Result<(), Fail> {
+fn largest_drill_is_the_same_twice(rt: HostRuntime) -> Result<(), Fail> {
     let alloc = rt.alloc();
-    let fetch = b"fetch a.json\n";
-    let not_json = "refused NotJson \"a.json\"\n";
-    let no_data = "refused NoData\n";
-    let too_deep = nested(alloc, 65)?;
-    let deepest = nested(alloc, 64)?;
-    let too_many = numbers(alloc, 2001)?;
-    let too_large = bytes_of(alloc, b' ', 4_194_305)?;
-    let rows: [(&[u8], &[u8], &str); 9] = [
-        (
-            b"{}",
-            b"fetch none.json\n",
-            "refused AbsentFile \"none.json\"\n",
-        ),
-        (b"{\"data\":[", fetch, not_json),
-        (&too_deep, fetch, not_json),
-        (&deepest, fetch, no_data),
-        (b"{\"app_name\":\"fenix\"}", fetch, no_data),
-        (&too_many, fetch, "refused TooManyRecipes 2001\n"),
-        (
-            &too_large,
-            fetch,
-            "refused FileTooLarge \"a.json\" 4194305\n",
-        ),
-        (
-            b"{}",
-            b"fetch\nfetch a b\nfetch \xff\n",
-            "refused BadWords\nrefused BadWords\nrefused BadWords\n",
-        ),
-        (
-            b"{\"features\":[]}",
-            b"manifest none.json x\nmanifest a.json x\nmanifest a.json\nmanifest a.json \xff\nfeature \xff\n",
-            "refused AbsentFile \"none.json\"\nrefused BadShape \"a.json\" \"/features\"\nrefused BadWords\nrefused BadWords\nrefused BadWords\n",
-        ),
-    ];
-    for (file, script, said) in rows {
-        answers(alloc, &[("a.json", file)], script, said)?;
-    }
-    Ok(())
-}
-
-/// Two features, one of which has an object and a map among its variables, for two channels.
-const MANIFEST: &[u8] =
-    b"{\"channels\":[\"release\",\"nightly\"],\"features\":{\"homescreen\":{\"description\":\"Home\",\"variables\":{\"card\":{\"description\":\"Card\",\"type\":\"Card\",\"default\":{}},\"sections-enabled\":{\"description\":\"Sections\",\"type\":\"Map<HomeSection, Boolean>\",\"default\":{\"top-sites\":true,\"pocket\":false}}},\"defaults\":[{\"channel\":\"nightly\",\"value\":{\"sections-enabled\":{\"pocket\":true}}}]},\"messaging\":{\"description\":\"Messages\",\"allow-coenrollment\":true,\"variables\":{\"limit\":{\"description\":\"Limit\",\"type\":\"Int\",\"default\":3}}}},\"enums\":{\"HomeSection\":{\"description\":\"Sections\",\"variants\":{\"top-sites\":{\"description\":\"a\"},\"pocket\":{\"description\":\"b\"}}}},\"objects\":{\"Card\":{\"description\":\"A card\",\"fields\":{\"title\":{\"type\":\"Text\",\"description\":\"t\",\"default\":\"Hello\"},\"note\":{\"type\":\"Option<Text>\",\"description\":\"n\",\"default\":null}}}}}";
-
-const CONTEXT: &[u8] =
-    b"{\"app_name\":\"fenix\",\"channel\":\"release\",\"app_version\":\"110.1.0\",\"locale\":\"en-US\"}";
-
-#[test]
-fn missing_setup_refusals(rt: HostRuntime) -> Result<(), Fail> {
-    answers(
-        rt.alloc(),
-        &[("m.json", MANIFEST)],
-        b"apply\nfeature homescreen\nmanifest m.json beta\napply\nmanifest m.json release\napply\nfeature nothing\n",
-        "refused NoManifest\nrefused NoManifest\nrefused UnknownChannel\nrefused NoManifest\nok\nrefused NoContext\nrefused UnknownFeature\n",
-    )
+    let first = largest(alloc)?;
+    let second = largest(alloc)?;
+    same_bytes(b"drill 1 2000", &second, &first)?;
+    let text = str::from_utf8(&first)?;
+    same(b"rows of drill 1 2000", &sum_of_counts(text), &2000)
 }

@@ -1,6 +1,7 @@
 //! Tests of conflicts: which wishes are granted, where recipes of one kind share features.
 use crate::inputs::slug;
 use enrol_conflicts::{Candidate, settle, slugs_rise};
+use recipe_reader::Kind;
 use sequences::{Sequence, Text};
 use std::alloc::Global;
 use std::test::Fail;
@@ -22,7 +23,7 @@ fn wish(
 ) -> Result<Candidate, Fail> {
     Ok(Candidate {
         slug: slug(alloc, name)?,
-        rollout: false,
+        kind: Kind::Experiment,
         features: texts(alloc, features)?,
         was_enrolled,
         published,
@@ -37,7 +38,7 @@ fn rollout(
     published: Option<i64>,
 ) -> Result<Candidate, Fail> {
     let mut wish = wish(alloc, name, features, was_enrolled, published)?;
-    wish.rollout = true;
+    wish.kind = Kind::Rollout;
     Ok(wish)
 }
 

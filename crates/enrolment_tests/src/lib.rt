@@ -3,8 +3,6 @@
 #![tactic(auto)]
 
 #[cfg(test)]
-mod applies;
-#[cfg(test)]
 mod buckets;
 #[cfg(test)]
 mod conflicts;
@@ -18,3 +16,5 @@ mod serving;
 mod shown_rows;
 #[cfg(test)]
 mod states;
+#[cfg(test)]
+mod verdicts;

@@ -17,7 +17,7 @@ use fml_value::to_tree;
 use json_tree::{read, write};
 use plain_text::is_name;
 use recipe_reader::{Recipe, Recipes};
-use sequences::Sequence;
+use sequences::{Sequence, SharedList};
 use std::alloc::{AllocError, Global};
 use std::test::Fail;
 use uuid::Uuid;
@@ -131,10 +131,10 @@ fn row(alloc: Global, recipe: &Recipe) -> Result<Row, Fail>
     Ok(Row { slug, status })
 }
 
-fn rows(alloc: Global, live: &Recipes) -> Result<Sequence<Row>, Fail>
+fn rows(alloc: Global, live: &Recipes) -> Result<SharedList<Row>, Fail>
     ensures { IfOk result (λ rs. Rise (slugs_of rs)) }
 {
-    let mut rows = Sequence::new(alloc);
+    let mut rows = SharedList::new(alloc);
     for recipe in live.as_slice() {
         rows.push(row(alloc, recipe)?)?;
     }

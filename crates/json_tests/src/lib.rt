@@ -3,6 +3,8 @@
 #![tactic(auto)]
 
 #[cfg(test)]
+mod experimenter;
+#[cfg(test)]
 mod lengths;
 #[cfg(test)]
 mod pieces;

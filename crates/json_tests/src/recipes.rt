@@ -566,11 +566,12 @@ fn blank_fields(rt: HostRuntime) -> Result<(), Fail> {
     let text = record_with(
         alloc,
         Part::Record,
-        ",\"appName\":\"\",\"targeting\":\" \\t\\n\\r\",\"publishedDate\":\"soon\"",
+        ",\"appName\":\"\",\"channel\":\"\",\"targeting\":\" \\t\\n\\r\",\"publishedDate\":\"soon\"",
     )?;
     let bare = recipe_in(alloc, text.as_str())?;
     let real = recipe_in(alloc, REAL_RECORD)?;
     assert!(rt; bare.app_name.is_none());
+    assert!(rt; bare.channel.is_none());
     assert!(rt; bare.targeting.is_none());
     assert!(rt; bare.published.is_none());
     assert!(rt; bare != real);

@@ -88,6 +88,9 @@ Option<Card> | null | {"title":"u"} | {"next":null,"side":"left","size":4,"title
 List<Card> | zero | [{"size":5}] | [{"next":null,"side":"left","size":5,"title":""}]
 List<Int> | [1,2,3] | [9] | [9]
 Map<String, Int> | {"b":1,"d":2} | {"a":3,"b":4,"c":"x","e":5} | {"a":3,"b":4,"d":2,"e":5}
+Map<String, Int> | {"b":1,"d":2} | {"c":3,"d":4} | {"b":1,"c":3,"d":4}
+Map<String, Int> | {"b":1,"d":2} | {"b":"x","d":5,"e":true} | {"b":1,"d":5}
+Map<String, Option<Int>> | {"a":1,"b":null} | {"a":null,"b":2} | {"a":null,"b":2}
 Map<Side, Int> | zero | {"left":1,"up":2} | {"left":1}
 Card | zero | {"next":{"side":"up","title":"n"},"other":1,"size":true,"title":"t"} | {"next":{"next":null,"side":"left","size":4,"title":"n"},"side":"left","size":4,"title":"t"}
 Card | zero | [] | {"next":null,"side":"left","size":4,"title":""}"#,

@@ -1,7 +1,7 @@
 //! Manifests that are linked from files in memory, and the first fault of those that don't link.
 use crate::checks::{holds, same, sides};
-use fml_link::{LinkFault, link};
-use fml_types::{Manifest, Text};
+use fml_link::{LinkFault, LinkRefusal, link};
+use fml_types::{Manifest, Text, coenrolling_features};
 use host_model::MemShelf;
 use std::alloc::Global;
 use std::test::Fail;
@@ -12,35 +12,41 @@ fn named(alloc: Global, fault: &str, name: &Text) -> Result<String, Fail> {
 }
 
 // What a file that is read is refused for.
-fn file_fault(alloc: Global, fault: &LinkFault) -> Result<String, Fail> {
-    match fault {
-        LinkFault::AbsentFile(name) => named(alloc, "AbsentFile", name),
-        LinkFault::FileTooLarge(name, length) => {
+fn file_refusal(alloc: Global, refusal: &LinkRefusal) -> Result<String, Fail> {
+    match refusal {
+        LinkRefusal::AbsentFile(name) => named(alloc, "AbsentFile", name),
+        LinkRefusal::FileTooLarge(name, length) => {
             let name = name.as_str();
             Ok(format!(in alloc; "FileTooLarge {name} {length}")?)
         }
-        LinkFault::NotJson(name) => named(alloc, "NotJson", name),
-        LinkFault::BadShape(name, path) => {
+        LinkRefusal::NotJson(name) => named(alloc, "NotJson", name),
+        LinkRefusal::BadShape(name, path) => {
             let name = name.as_str();
             let path = path.as_str();
             Ok(format!(in alloc; "BadShape {name} {path}")?)
         }
-        LinkFault::ImportsUnbuilt(name) => named(alloc, "ImportsUnbuilt", name),
-        LinkFault::TooManyFiles => Ok(String::from_str(alloc, "TooManyFiles")?),
-        LinkFault::ShelfFault => Ok(String::from_str(alloc, "ShelfFault")?),
-        _ => Err(Fail::new("memory is wanting")),
+        LinkRefusal::ImportsUnbuilt(name) => named(alloc, "ImportsUnbuilt", name),
+        _ => Ok(String::from_str(alloc, "TooManyFiles")?),
     }
 }
 
 // What linking is refused for.
+fn refusal_text(alloc: Global, refusal: &LinkRefusal) -> Result<String, Fail> {
+    match refusal {
+        LinkRefusal::DuplicateName(name) => named(alloc, "DuplicateName", name),
+        LinkRefusal::UnknownType(name) => named(alloc, "UnknownType", name),
+        LinkRefusal::EndlessObject(name) => named(alloc, "EndlessObject", name),
+        LinkRefusal::ObjectTooLarge(name) => named(alloc, "ObjectTooLarge", name),
+        LinkRefusal::UnknownChannel => Ok(String::from_str(alloc, "UnknownChannel")?),
+        refusal => file_refusal(alloc, refusal),
+    }
+}
+
 fn fault_text(alloc: Global, fault: &LinkFault) -> Result<String, Fail> {
     match fault {
-        LinkFault::DuplicateName(name) => named(alloc, "DuplicateName", name),
-        LinkFault::UnknownType(name) => named(alloc, "UnknownType", name),
-        LinkFault::EndlessObject(name) => named(alloc, "EndlessObject", name),
-        LinkFault::ObjectTooLarge(name) => named(alloc, "ObjectTooLarge", name),
-        LinkFault::UnknownChannel => Ok(String::from_str(alloc, "UnknownChannel")?),
-        fault => file_fault(alloc, fault),
+        LinkFault::Refused(refusal) => refusal_text(alloc, refusal),
+        LinkFault::ShelfFault => Ok(String::from_str(alloc, "ShelfFault")?),
+        LinkFault::OutOfMemory => Err(Fail::new("memory is wanting")),
     }
 }
 
@@ -105,7 +111,7 @@ UnknownChannel = {"channels":["nightly"],"includes":["other.json"]}"#,
 }
 
 const MANIFEST: &[u8] =
-    br#"{"channels":["release","nightly"],"features":{"homescreen":{"variables":{"card":{"type":"Card","default":{}},"sections-enabled":{"type":"Map<HomeSection, Boolean>","default":{"top-sites":true}}}}},"enums":{"HomeSection":{"variants":{"top-sites":{},"pocket":{}}}},"objects":{"Card":{"fields":{"title":{"type":"Text","default":"Hello"}}}}}"#;
+    br#"{"channels":["release","nightly"],"features":{"homescreen":{"description":"Home","variables":{"card":{"description":"Card","type":"Card","default":{}},"sections-enabled":{"description":"Sections","type":"Map<HomeSection, Boolean>","default":{"top-sites":true,"pocket":false}}},"defaults":[{"channel":"nightly","value":{"sections-enabled":{"pocket":true}}}]},"messaging":{"description":"Messages","allow-coenrollment":true,"variables":{"limit":{"description":"Limit","type":"Int","default":3}}}},"enums":{"HomeSection":{"description":"Sections","variants":{"top-sites":{"description":"a"},"pocket":{"description":"b"}}}},"objects":{"Card":{"description":"A card","fields":{"title":{"type":"Text","description":"t","default":"Hello"},"note":{"type":"Option<Text>","description":"n","default":null}}}}}"#;
 
 const ENDLESS: &[u8] =
     br#"{"channels":["release"],"objects":{"A":{"fields":{"b":{"type":"B"}}},"B":{"fields":{"a":{"type":"A"}}}}}"#;
@@ -130,6 +136,23 @@ fn manifest_faults(rt: HostRuntime) -> Result<(), Fail> {
         has_verdict(alloc, &mut shelf, name, name, channel, wanted)?;
     }
     Ok(())
+}
+
+// The one feature of the manifest that several experiments may have at once.
+#[test]
+fn coenrolling_features_of_a_file(rt: HostRuntime) -> Result<(), Fail> {
+    let alloc = rt.alloc();
+    let mut shelf = MemShelf::new(alloc, &[])?;
+    shelf.add(alloc, "m.json", MANIFEST)?;
+    let manifest = match link(alloc, &mut shelf, "m.json", "release") {
+        Ok(manifest) => manifest,
+        Err(_) => return Err(Fail::new("m.json doesn't link")),
+    };
+    let names = coenrolling_features(alloc, &manifest)?;
+    let [name] = names.as_slice() else {
+        return Err(Fail::new("there is another count of names"));
+    };
+    same("the names", name.as_str(), "messaging")
 }
 
 const SPACES: &str = "                                                                ";

@@ -1,7 +1,7 @@
 //! Modules that JSON texts are, and the first fault of those that are none.
 use crate::checks::{holds, same, sides};
 use crate::tables::tree_of;
-use fml_reader::{Module, ModuleFault, read_module};
+use fml_reader::{Module, ModuleFault, ModuleRefusal, read_module};
 use fml_types::{FeatureDefinition, Text};
 use std::alloc::Global;
 use std::test::Fail;
@@ -11,8 +11,10 @@ fn verdict(alloc: Global, text: &str) -> Result<Text, Fail> {
     let tree = tree_of(alloc, text)?;
     match read_module(alloc, &tree) {
         Ok(_) => Ok(Text::new(alloc, "ok")?),
-        Err(ModuleFault::BadShape(path)) => Ok(path),
-        Err(ModuleFault::ImportsUnbuilt) => Ok(Text::new(alloc, "imports")?),
+        Err(ModuleFault::Refused(ModuleRefusal::BadShape(path))) => Ok(path),
+        Err(ModuleFault::Refused(ModuleRefusal::ImportsUnbuilt)) => {
+            Ok(Text::new(alloc, "imports")?)
+        }
         Err(ModuleFault::OutOfMemory) => Err(Fail::new("memory is wanting")),
     }
 }
@@ -201,7 +203,13 @@ fn parts_of_modules(rt: HostRuntime) -> Result<(), Fail> {
     entry_channels(
         alloc,
         r#"{"channel":" , my channel ,","channels":[" x",""],"value":{}}"#,
-        "|my channel| x|",
+        "|| x|my channel",
+    )?;
+    entry_channels(alloc, r#"{"channel":"b,a,a","value":{}}"#, "|a|b")?;
+    entry_channels(
+        alloc,
+        r#"{"channel":" é,à ","channels":["é","z"],"value":{}}"#,
+        "|z|à|é",
     )?;
     entry_channels(alloc, r#"{"channels":[],"value":{}}"#, "")?;
     entry_channels(alloc, r#"{"value":{}}"#, "any")

@@ -3,7 +3,7 @@ use crate::checks::{holds, same, sides};
 use crate::tables::{field, type_of};
 use fml_types::{
     ByName, FeatureDefinition, FieldType, GroundFault, Key, Manifest, ObjectDefinition, Text,
-    TypeFault, TypeTable, coenrolling_features, grounded, read_type, without_spaces,
+    TypeFault, TypeTable, Ungrounded, coenrolling_features, grounded, read_type, without_spaces,
 };
 use sequences::Sequence;
 use std::alloc::Global;
@@ -135,11 +135,11 @@ fn objects_of(alloc: Global, rows: &str) -> Result<TypeTable, Fail> {
 fn fault(alloc: Global, types: &TypeTable) -> Result<String, Fail> {
     match grounded(alloc, types) {
         Ok(()) => Ok(String::from_str(alloc, "ok")?),
-        Err(GroundFault::EndlessObject(name)) => {
+        Err(GroundFault::Refused(Ungrounded::EndlessObject(name))) => {
             let name = name.as_str();
             Ok(format!(in alloc; "endless {name}")?)
         }
-        Err(GroundFault::ObjectTooLarge(name)) => {
+        Err(GroundFault::Refused(Ungrounded::ObjectTooLarge(name))) => {
             let name = name.as_str();
             Ok(format!(in alloc; "large {name}")?)
         }

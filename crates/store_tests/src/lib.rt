@@ -1,7 +1,9 @@
-//! Tests of the layers that keep a state: hosts in memory, journals on their sides, pairs of sides, and the spelling of a
-//! state.
+//! Tests of the layers that keep a state: hosts in memory, journals on their sides, pairs of sides, batches and rows,
+//! and the spelling of a state.
 #![tactic(auto)]
 
+#[cfg(test)]
+mod batches;
 #[cfg(test)]
 mod hosts;
 #[cfg(test)]
@@ -9,4 +11,8 @@ mod journals;
 #[cfg(test)]
 mod pairs;
 #[cfg(test)]
+mod rows;
+#[cfg(test)]
 mod spellings;
+#[cfg(test)]
+mod state_rows;

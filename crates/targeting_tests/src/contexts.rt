@@ -14,7 +14,7 @@ use enrol_states::{
 use jexl_value::{Attributes, Value};
 use json_tree::read;
 use plain_text::{Slug, SlugFault, slug_of};
-use sequences::{Sequence, Text};
+use sequences::{SharedList, Text};
 use std::alloc::{AllocError, Global};
 use std::process::Abort;
 use std::test::Fail;
@@ -226,15 +226,15 @@ fn enrolled(alloc: Global, reason: EnrolledReason, branch: &str) -> Result<Statu
 }
 
 /// Puts a row at the end.
-fn add(alloc: Global, rows: &mut Sequence<Row>, text: &str, status: Status) -> Result<(), Fail> {
+fn add(alloc: Global, rows: &mut SharedList<Row>, text: &str, status: Status) -> Result<(), Fail> {
     let slug = slug(alloc, text)?;
     rows.push(Row { slug, status })?;
     Ok(())
 }
 
 /// A row of each status, and two of those that are enrolled.
-fn rows(alloc: Global) -> Result<Sequence<Row>, Fail> {
-    let mut rows = Sequence::new(alloc);
+fn rows(alloc: Global) -> Result<SharedList<Row>, Fail> {
+    let mut rows = SharedList::new(alloc);
     let opted_in = enrolled(alloc, EnrolledReason::OptIn, "treatment")?;
     add(alloc, &mut rows, "a", opted_in)?;
     let opted_out = Status::NotEnrolled {

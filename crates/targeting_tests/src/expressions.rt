@@ -138,6 +138,85 @@ a[.x] + .y
 a|b(.x)
 .x[0]";
 
+/// Targeting as experiments have it, and near to it: each text is an expression.
+const EXPRESSIONS: &str = "true
+is_already_enrolled || days_since_install < 7
+(is_already_enrolled) || (isFirstRun == 'true')
+is_first_run == false && is_phone
+app_version|versionCompare('118.!') >= 0
+app_version|versionCompare('118.2.1') == 0 && app_version|versionCompare('119.!') < 0
+app_version|versionCompare('118.*') >= 0
+android_sdk_version|versionCompare('28') >= 0 && !(region in ['CN', 'RU'])
+locale in ['de-AT', 'de-DE', 'en-US']
+language in ['de', 'en'] && region == 'AT'
+region in region_list
+!(locale in ['en-US'])
+'uBlock0@raymondhill.net' in addon_ids
+addon_ids[0] == 'uBlock0@raymondhill.net'
+addon_ids[5] == null
+'Pixel' in device_model
+device_manufacturer == 'Google' && device_model != 'Pixel 6'
+number_of_app_launches >= 5 && number_of_app_launches <= 10
+number_of_app_launches % 2 == 1
+number_of_app_launches // 2 == 3
+profile.age_days > 28
+profile.age_days|versionCompare('28') >= 0
+profile.tags[0] == 'new' && profile.missing.deeper == null
+profile['age_days'] == 42
+user_accepted_tou == true && tou_points == 0
+adjust_network == \"Organic\" || adjust_network == \"\"
+'home-cards' in active_experiments
+('home-cards' in active_experiments) == false
+enrollments_map['home-cards'] == 'treatment'
+enrollments_map.nothing == null
+!('alpha' in enrollments)
+[nimbus_id, 'salt']|bucketSample(0, 10000, 10000)
+[nimbus_id, 'salt']|bucketSample(0, 0, 10000)
+nimbus_id|bucketSample(0, 5000, 10000) in [true, false]
+'2023-11-14'|date < '2023-11-15T00:00:00Z'|date
+current_date|date - '2023-01-01'|date > 0
+days_since_update == 0
+days_since_install == 0 ? true : false
+is_phone ? number_of_app_launches > 3 : number_of_app_launches > 30
+missing ?: true
+days_since_install
+'text'
+unknown_name
+unknown_name == null
+'app_opened'|eventSum('Days', 28, 0) > 0
+'app_opened'|eventAveragePerInterval('Days', 7, 0) > 2
+'browser.x'|preferenceValue('y')
+addon_ids|length > 0
+[{a: 1}, {a: 2}][.a == 2][0].a == 2
+{x: {y: 'z'}}.x.y == 'z'
+-5 // 2 == -3 && -5 % 2 == -1
+2 ^ 10 == 1024
+2 ^ 63 > 0
+1 // 0 == 0
+'b' > 'a' && 'B' < 'a'
+'a' + 'b' == 'ab'
+'a' + 1 == 'a1'
+1 < 'a'
+null < 1
+true && 'yes'
+!'' && !0 && !null
+app_version.major == 118
+'it\\'s' == \"it's\"
+\"tab\\tend\" == 'tab\tend'
+locale == 'de-AT' && (region == 'DE' || region == 'AT') && language == 'de' && !is_first_run
+os == 'Android' && os_version|versionCompare('12') >= 0 && architecture == 'arm64-v8a'";
+
+/// Targeting that is no expression of this language.
+const NO_EXPRESSIONS: &str = "number_of_app_launches / 2 >= 3
+number_of_app_launches > 2.5
+(currentDate|date - profileAgeCreated|date) / 86400000 >= 28
+[1, 2, 3][. > 1] == [2, 3]
+addon_ids[. == 'adguard@adguard.com'] != []
+(true
+true)
+true &&
+# a comment";
+
 /// The tree of a node, in one line.
 fn shown(alloc: Global, node: &Node) -> Result<String, AllocError> {
     match node {
@@ -235,6 +314,29 @@ fn trees_of_texts(rt: HostRuntime) -> Result<(), Fail> {
     Ok(())
 }
 
+/// Whether a text is an expression: `tree`, or `none`.
+fn reading_of(alloc: Global, text: &str) -> Result<String, Fail> {
+    let found = match lex(alloc, text) {
+        Ok(tokens) => parse(alloc, tokens.as_slice()).is_ok(),
+        Err(_) => false,
+    };
+    Ok(String::from_str(alloc, if found { "tree" } else { "none" })?)
+}
+
+#[test]
+fn targeting_of_experiments(rt: HostRuntime) -> Result<(), Fail> {
+    let alloc = rt.alloc();
+    for text in EXPRESSIONS.lines() {
+        let answer = reading_of(alloc, text)?;
+        assert_eq!(rt; answer.as_str(), "tree", "at {text}");
+    }
+    for text in NO_EXPRESSIONS.lines() {
+        let answer = reading_of(alloc, text)?;
+        assert_eq!(rt; answer.as_str(), "none", "at {text}");
+    }
+    Ok(())
+}
+
 /// The answer for a text that is a start, so many repetitions, a middle, and so many repetitions:
 /// a fault, or `tree`.
 fn answer_for(
@@ -268,6 +370,8 @@ fn limits_of_trees(rt: HostRuntime) -> Result<(), Fail> {
         ("", "(", 64, "1", ")", "tree"),
         ("", "(", 65, "1", ")", "TooDeep"),
         ("", "(", 65, "", "", "TooDeep"),
+        (")", "(", 64, "", "", "Unexpected"),
+        (")", "(", 65, "", "", "TooDeep"),
         ("", "[{a:", 32, "1", "}]", "tree"),
         ("", "[{a:", 33, "1", "}]", "TooDeep"),
         ("", "!", 64, "1", "", "tree"),

@@ -1,7 +1,7 @@
 //! The values and faults of expressions. Rows are worked out by hand from the rules of Jexl: each is
 //! an expression, and its value as a JSON text or the name of its fault.
 use crate::json_texts::{json_text, value};
-use jexl_eval::eval;
+use jexl_eval::{eval, eval_truth};
 use jexl_lexer::lex;
 use jexl_parser::parse;
 use jexl_transforms::{
@@ -18,6 +18,8 @@ const ATTRIBUTES: &str =
 const NUMBERS: &str = "1 + 2 => 3
 'ab' + 'cd' => \"abcd\"
 '' + '' => \"\"
+region + '-' + app_version + '' => \"US-110.0\"
+region + region + 1 => Kind
 1 + 'a' => Kind
 null + 1 => Kind
 [1] + [2] => Kind
@@ -144,7 +146,12 @@ days.x => null
 [1, [], 'x'] => [1,[],\"x\"]
 {b: 1, a: {}} => {\"a\":{},\"b\":1}
 {a: 1, b: 2, a: 3} => {\"a\":3,\"b\":2}
-{'a b': true}['a b'] => true";
+{'a b': true}['a b'] => true
+[map, list][1][0] => \"b\"
+(days ? map : list).b.c[0] => 10
+(none ?: map).a => 1
+{m: map}.m.a => 1
+[map.b][0].c == map.b.c => true";
 
 const FILTERS: &str = "[{a: 1}, {a: 2}][.a == 2] == [{a: 2}] => true
 [{a: 1}, {b: 1}, {a: 0}, {a: 'x'}][.a] => [{\"a\":1},{\"a\":\"x\"}]
@@ -158,7 +165,9 @@ none[.a] => []
 [{a: 'x'}, {a: 0}][1 // .a == 1] => Kind
 [][1 // 0 + .a] => []
 [{a: [{b: 1}, {b: 2}]}, {a: []}][.a[.b == 2][0].b == 2] => [{\"a\":[{\"b\":1},{\"b\":2}]}]
-[{a: 1}][.a == days - 4] => [{\"a\":1}]";
+[{a: 1}][.a == days - 4] => [{\"a\":1}]
+[map, {a: 2}][.a == 1][0].b.c => [10,20]
+[{a: list}][.a[0] == 'b'][0].a == list => true";
 
 const FAULTS: &str = "1 // 0 + ('a' - 1) => ZeroDivisor
 ('a' - 1) + 1 // 0 => Kind
@@ -206,6 +215,17 @@ fn outcome(alloc: Global, table: &TransformTable, expression: &str) -> Result<Te
     }
 }
 
+/// The truth value of an expression, `none` where it has another value, or the name of its fault.
+fn truth(alloc: Global, table: &TransformTable, expression: &str) -> Result<String, Fail> {
+    let tokens = lex(alloc, expression)?;
+    let expr = parse(alloc, tokens.as_slice())?;
+    match eval_truth(alloc, &expr, &attributes(alloc)?, table) {
+        Ok(Some(truth)) => Ok(format!(in alloc; "{truth}")?),
+        Ok(None) => Ok(String::from_str(alloc, "none")?),
+        Err(fault) => Ok(format!(in alloc; "{fault:?}")?),
+    }
+}
+
 /// Each row's expression has its value or its fault.
 fn rows_hold(
     rt: &impl Abort,
@@ -237,6 +257,39 @@ fn without_transforms(rt: HostRuntime) -> Result<(), Fail> {
     ] {
         rows_hold(&rt, alloc, &table, rows)?;
     }
+    Ok(())
+}
+
+#[test]
+fn truth_values(rt: HostRuntime) -> Result<(), Fail> {
+    let alloc = rt.alloc();
+    let table = TransformTable::new(alloc);
+    for (expression, want) in [
+        ("region == 'US'", "true"),
+        ("'z' in list", "false"),
+        ("{a: true}.a", "true"),
+        ("days", "none"),
+        ("list", "none"),
+        ("nothing", "none"),
+        ("days // 0 == 1", "ZeroDivisor"),
+        ("days|nothing", "UnknownTransform"),
+    ] {
+        let found = truth(alloc, &table, expression)?;
+        assert_eq!(rt; found.as_str(), want, "at {expression}");
+    }
+    Ok(())
+}
+
+#[test]
+fn tallest_tree(rt: HostRuntime) -> Result<(), Fail> {
+    let alloc = rt.alloc();
+    let table = TransformTable::new(alloc);
+    let mut expression = String::from_str(alloc, "1")?;
+    for _ in 0..511 {
+        expression.push_str(" + 1")?;
+    }
+    let found = outcome(alloc, &table, expression.as_str())?;
+    assert_eq!(rt; found.as_str(), "512");
     Ok(())
 }
 

@@ -54,25 +54,19 @@ fn tokens_of_texts(rt: HostRuntime) -> Result<(), Fail> {
 fn faults_of_texts(rt: HostRuntime) -> Result<(), Fail> {
     let alloc = rt.alloc();
     for (text, want) in [
-        ("1.5", "the number at byte 0 has a fraction"),
-        (
-            "-99999999999999999999.1",
-            "the number at byte 1 has a fraction",
-        ),
-        (
-            "9223372036854775808",
-            "the number at byte 0 is above 9223372036854775807",
-        ),
-        ("'a", "the text in quotes at byte 0 is not closed"),
-        ("a \"b\\\"", "the text in quotes at byte 2 is not closed"),
-        ("a = b", "no token begins with the character at byte 2"),
-        ("1 & 'a", "no token begins with the character at byte 2"),
-        ("ä", "no token begins with the character at byte 0"),
-        ("a\u{b}", "no token begins with the character at byte 1"),
+        ("1.5", "Decimal Decimal(0)"),
+        ("-99999999999999999999.1", "Decimal Decimal(1)"),
+        ("9223372036854775808", "BigNumber BigNumber(0)"),
+        ("'a", "OpenText OpenText(0)"),
+        ("a \"b\\\"", "OpenText OpenText(2)"),
+        ("a = b", "BadChar BadChar(2)"),
+        ("1 & 'a", "BadChar BadChar(2)"),
+        ("ä", "BadChar BadChar(0)"),
+        ("a\u{b}", "BadChar BadChar(1)"),
     ] {
         let message = match lex(alloc, text) {
             Ok(_) => format!(in alloc; "tokens")?,
-            Err(fault) => format!(in alloc; "{fault}")?,
+            Err(fault) => format!(in alloc; "{fault} {fault:?}")?,
         };
         assert_eq!(rt; message.as_str(), want, "at {text}");
     }

@@ -1,0 +1,44 @@
+//! Scenarios of the client's program, which stand on standard input: each calls it over two sides, files and a script in
+//! memory, and says which status it ends with and what is said. A line tells of each scenario that it passes, or what was
+//! found and what was wanted. `directive` says how a scenario is written.
+#![tactic(auto)]
+
+mod directive;
+mod inputs;
+mod scenario;
+
+use directive::Directive;
+use scenario::Scenario;
+use std::io;
+
+// Does what one line says, and tells what differs from what is wanted.
+fn step(rt: &HostRuntime, scenario: &mut Scenario, line: &str) -> anyhow::Result<()> {
+    let Some(directive) = Directive::of(line) else {
+        println!(rt; "no line of a scenario: {line}")?;
+        return Ok(());
+    };
+    if matches!(&directive, Directive::Begin(_)) {
+        tell(rt, scenario)?;
+    }
+    if let Some(difference) = scenario.does(rt.alloc(), directive)? {
+        println!(rt; "{}: {}", scenario.name(), difference.as_str())?;
+    }
+    Ok(())
+}
+
+// Tells that the scenario passes, where there is one and it does.
+fn tell(rt: &HostRuntime, scenario: &Scenario) -> anyhow::Result<()> {
+    if !scenario.name().is_empty() && scenario.passes() {
+        println!(rt; "{}: passed", scenario.name())?;
+    }
+    Ok(())
+}
+
+fn main(rt: HostRuntime) -> anyhow::Result<()> {
+    let input = io::read_to_string(rt.alloc(), rt.reader())?;
+    let mut scenario = Scenario::new(rt.alloc())?;
+    for line in input.lines() {
+        step(&rt, &mut scenario, line)?;
+    }
+    tell(&rt, &scenario)
+}
