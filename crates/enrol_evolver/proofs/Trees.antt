@@ -6,6 +6,7 @@ use Rattle.jexl_lexer.specs.declared.fault.LexFault.{LexFault}
 use Rattle.jexl_lexer.specs.declared.fault.LexFault.TheVariants as lexing
 use Rattle.jexl_lexer.specs.declared.token.Token.{Token}
 use Rattle.jexl_lexer.proofs.Uniqueness.{never_both}
+use Rattle.jexl_parser.specs.declared.node.TheConstants.{MAX_HEIGHT}
 use Rattle.jexl_parser.specs.Kinds.{kinds_of}
 use Rattle.jexl_parser.specs.Parses.{Parses}
 use Rattle.jexl_parser.specs.Tree.{Tree, height}
@@ -59,5 +60,5 @@ pub has_not_parsed : (text : List ℕ) (ts : List Token) (e : ParseFault) → Le
 has_not_parsed text ts parsing.TooDeep l p other = has_none text (λ t is. (spelled_by text ts t l is).0 p)
 has_not_parsed text ts parsing.Unexpected l p other = has_none text (λ t is. p.1 t (spelled_by text ts t l is).1)
 has_not_parsed text ts parsing.TooTall l p other =
-    has_none text (λ t is. let s = spelled_by text ts t l is in over (height t) s.2 (subst (λ (u : Tree). 512 < height u) (one_tree (kinds_of ts) p.1.0 t p.1.1 s.1) p.1.2))
+    has_none text (λ t is. let s = spelled_by text ts t l is in over (height t) s.2 (subst (λ (u : Tree). MAX_HEIGHT < height u) (one_tree (kinds_of ts) p.1.0 t p.1.1 s.1) p.1.2))
 has_not_parsed text ts parsing.OutOfMemory l p other = absurd cc

@@ -5,6 +5,7 @@ use Rattle.jexl_lexer.specs.Lexing.{Lexes}
 use Rattle.jexl_lexer.specs.declared.fault.LexFault.{LexFault}
 use Rattle.jexl_lexer.specs.declared.fault.LexFault.TheVariants as lexing
 use Rattle.jexl_lexer.specs.declared.token.Token.{Token}
+use Rattle.jexl_parser.specs.declared.node.TheConstants.{MAX_HEIGHT}
 use Rattle.jexl_parser.specs.Depth.{IsShallow}
 use Rattle.jexl_parser.specs.Grammar.{SpellsTree}
 use Rattle.jexl_parser.specs.Kinds.{kinds_of}
@@ -20,7 +21,7 @@ pub record IsTree (text : List ℕ) (tree : Tree) : Type 0 where
   pub lexed : Lexes 0 0 text tokens
   pub shallow : IsShallow (kinds_of tokens)
   pub spelled : SpellsTree (kinds_of tokens) tree
-  pub low : height tree ≤ 512
+  pub low : height tree ≤ MAX_HEIGHT
 
 -- a tree of the text, or that there is none
 abbrev pub Reading : List ℕ → Type 0

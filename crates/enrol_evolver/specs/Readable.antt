@@ -4,6 +4,7 @@ use Rattle.jexl_lexer.specs.Lexing.{Fault, Lexes, Faults}
 use Rattle.jexl_lexer.specs.declared.token.Token.{Token}
 use Rattle.jexl_lexer.specs.declared.token.TokenKind.{TokenKind}
 use Rattle.jexl_lexer.proofs.Uniqueness.{one_list, never_both, always_one}
+use Rattle.jexl_parser.specs.declared.node.TheConstants.{MAX_HEIGHT}
 use Rattle.jexl_parser.specs.Counting.{deep_from}
 use Rattle.jexl_parser.specs.Depth.{IsShallow}
 use Rattle.jexl_parser.specs.Grammar.{SpellsTree}
@@ -17,33 +18,33 @@ use Rattle.enrol_evolver.specs.Expressions.{IsTree, Reading}
 
 -- a tree that tokens spell within the limits
 abbrev pub Spelled : List TokenKind → Tree → Type 0
-Spelled ks t = IsShallow ks × SpellsTree ks t × (height t ≤ 512)
+Spelled ks t = IsShallow ks × SpellsTree ks t × (height t ≤ MAX_HEIGHT)
 
 abbrev Spelling : List TokenKind → Type 0
 Spelling ks = ((t : Tree) × Spelled ks t) ⊎ ((t : Tree) → Spelled ks t → ⊥)
 
-pub over : (n : ℕ) → n ≤ 512 → 512 < n → ⊥
+pub over : (n : ℕ) → n ≤ MAX_HEIGHT → MAX_HEIGHT < n → ⊥
 over n most more = absurd (omega arith)
 
 kept : (ks : List TokenKind) (x : Seen) (o : Option Tree) → deep_from 0 0 0 ks ≡ false → Found ks x → x.tree ≡ o → Spelling ks
 kept ks x (Some u) e f k = let s = found_small ks x u f k in inl (u, (shallow ks e, s.0, s.1))
-kept ks x None e f k = inr (λ t s. over (height t) s.2 (subst (λ (u : Tree). 512 < height u) (one_tree ks f.tree t f.spells s.1) (found_tall ks x f k)))
+kept ks x None e f k = inr (λ t s. over (height t) s.2 (subst (λ (u : Tree). MAX_HEIGHT < height u) (one_tree ks f.tree t f.spells s.1) (found_tall ks x f k)))
 
-closed : (ks : List TokenKind) (x : Seen) (b : Bool) → deep_from 0 0 0 ks ≡ false → read_of 512 AnExpr ks ≡ Some (x, []) → x.relative ≡ b → Spelling ks
+closed : (ks : List TokenKind) (x : Seen) (b : Bool) → deep_from 0 0 0 ks ≡ false → read_of MAX_HEIGHT AnExpr ks ≡ Some (x, []) → x.relative ≡ b → Spelling ks
 closed ks x true e r c = inr (λ t s. none_closed ks x [] r c t s.1)
 closed ks x false e r c = kept ks x x.tree e (found ks x r c) refl
 
-by_rest : (ks : List TokenKind) (x : Seen) (rest : List TokenKind) → deep_from 0 0 0 ks ≡ false → read_of 512 AnExpr ks ≡ Some (x, rest) → Spelling ks
+by_rest : (ks : List TokenKind) (x : Seen) (rest : List TokenKind) → deep_from 0 0 0 ks ≡ false → read_of MAX_HEIGHT AnExpr ks ≡ Some (x, rest) → Spelling ks
 by_rest ks x [] e r = closed ks x x.relative e r refl
 by_rest ks x (l ∷ ls) e r = inr (λ t s. none_left ks x l ls r t s.1)
 
-by_read : (ks : List TokenKind) (o : Option (Seen × List TokenKind)) → deep_from 0 0 0 ks ≡ false → read_of 512 AnExpr ks ≡ o → Spelling ks
+by_read : (ks : List TokenKind) (o : Option (Seen × List TokenKind)) → deep_from 0 0 0 ks ≡ false → read_of MAX_HEIGHT AnExpr ks ≡ o → Spelling ks
 by_read ks None e r = inr (λ t s. none_there ks r t s.1)
 by_read ks (Some p) e r = by_rest ks p.0 p.1 e r
 
 by_depth : (ks : List TokenKind) (b : Bool) → deep_from 0 0 0 ks ≡ b → Spelling ks
 by_depth ks true e = inr (λ t s. s.0 (too_deep ks e))
-by_depth ks false e = by_read ks (read_of 512 AnExpr ks) e refl
+by_depth ks false e = by_read ks (read_of MAX_HEIGHT AnExpr ks) e refl
 
 -- ---- by the one list of tokens
 

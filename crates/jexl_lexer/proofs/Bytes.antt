@@ -1,10 +1,9 @@
 -- Bytes of characters.
-use Rattle.std.proofs.Common.{◌≡◌, ℕ, ◌<◌, ◌≤◌, Bool, true, false, cond, List, [], ◌∷◌, ◌++◌, length, Some, None, refl, sym, ap, ◌∙◌, arith, length-append}
-use Rattle.std.specs.Prelude.{◌==◌, nat_lt, encode_utf8}
-use Rattle.std.proofs.lemmas.Bool.{eqb-true, eq-eqb, ltb-true, ltb-false}
+use Rattle.std.proofs.Common.{◌≡◌, ℕ, ◌<◌, ◌≤◌, Bool, true, false, List, [], ◌∷◌, ◌++◌, length, refl, ap, ◌∙◌, arith, length-append}
+use Rattle.std.specs.Prelude.{nat_lt, encode_utf8}
+use Rattle.std.proofs.lemmas.Bool.{ltb-true, ltb-false}
 use Rattle.std.proofs.lemmas.Str.{encode_ascii, inside_one, length-encode, len_utf8_bounds}
 use Rattle.jexl_lexer.specs.Scanning.{NoAsciiFront}
-use Rattle.jexl_lexer.specs.Scanning.{strip}
 
 pub no_bytes : (bs : List ℕ) → length bs ≡ 0 → bs ≡ []
 no_bytes [] e = refl
@@ -31,17 +30,3 @@ big_front (b ∷ bs) rest c e h = big_by b (nat_lt b 128) refl (λ l. high b c b
 
 pub small_front : (bs rest : List ℕ) (c : ℕ) → bs ≡ encode_utf8 c ++ rest → c < 128 → bs ≡ c ∷ rest
 small_front bs rest c e l = e ∙ ap (λ (w : List ℕ). w ++ rest) (encode_ascii c l)
-
-not_eq : (a b : ℕ) → (a ≡ b → ⊥) → (t : Bool) → (a == b) ≡ t → t ≡ false
-not_eq a b n true e = absurd (n (eqb-true a b e))
-not_eq a b n false e = refl
-
-pub strip_other : (b c : ℕ) (rest : List ℕ) → (b ≡ c → ⊥) → strip (c ∷ []) (b ∷ rest) ≡ None
-strip_other b c rest n = ap (λ (t : Bool). cond t (Some rest) None) (not_eq c b (λ e. n (sym e)) (c == b) refl)
-
-pub strip_one : (b c : ℕ) (rest : List ℕ) → b ≡ c → strip (c ∷ []) (b ∷ rest) ≡ Some rest
-strip_one b c rest e = ap (λ (t : Bool). cond t (Some rest) None) (eq-eqb c b (sym e))
-
-pub strip_big : (c : ℕ) (bs : List ℕ) → c < 128 → NoAsciiFront bs → strip (c ∷ []) bs ≡ None
-strip_big c [] l h = refl
-strip_big c (b ∷ bs) l h = strip_other b c bs (λ e. omega arith)

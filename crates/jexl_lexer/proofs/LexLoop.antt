@@ -1,5 +1,6 @@
 -- The loop of the lexer: a turn takes one token and the blanks after it.
 use Rattle.std.proofs.Common.{◌≡◌, ℕ, suc, ◌+◌, ◌-◌, ◌<◌, ◌≤◌, Bool, true, false, cond, List, [], ◌∷◌, ◌++◌, length, Ok, Err, refl, sym, ap, subst, ◌∙◌, arith, length-append, append_assoc, append-nil}
+use Rattle.jexl_lexer.specs.declared.lexer.TheConstants.{MAX_TOKENS}
 use Rattle.jexl_lexer.specs.declared.token.Token.{Token}
 use Rattle.jexl_lexer.specs.declared.token.TokenKind.{TokenKind}
 use Rattle.jexl_lexer.specs.declared.fault.LexFault.{LexFault}
@@ -55,7 +56,7 @@ begins_by (b ∷ bs) after k e = subst (λ (t : TokenRead). Tells (b ∷ bs) t) 
 fault_by : (b : ℕ) (bs : List ℕ) (f : Fault) → token_of (b ∷ bs) ≡ Err f → FaultAt (b ∷ bs) f
 fault_by b bs f e = subst (λ (t : TokenRead). Tells (b ∷ bs) t) e (tells b bs)
 
-past_token : (bytes rest after : List ℕ) (k : TokenKind) (so_far : List Token) → length so_far < 4096 → token_of rest ≡ Ok (k, after) → Reaches bytes rest so_far
+past_token : (bytes rest after : List ℕ) (k : TokenKind) (so_far : List Token) → length so_far < MAX_TOKENS → token_of rest ≡ Ok (k, after) → Reaches bytes rest so_far
     → Reaches bytes after (so_far ++ (record { kind = k; start = length bytes - length rest; end = length bytes - length after } ∷ []))
 past_token bytes rest after k so_far few e r =
     let s = r.shorter in
@@ -79,14 +80,14 @@ begin bytes rest e = subst (λ (w : List ℕ). Reaches bytes w []) (sym e) (past
 pub stops_blank : (bs rest : List ℕ) → rest ≡ (run is_blank bs).1 → Stops is_blank rest
 stops_blank bs rest e = subst (λ (w : List ℕ). Stops is_blank w) (sym e) (run_is is_blank bs).stop
 
-pub turn : (bytes rest after more : List ℕ) (ts us : List Token) (k : TokenKind) → Reaches bytes rest ts → length ts < 4096 → token_of rest ≡ Ok (k, after)
+pub turn : (bytes rest after more : List ℕ) (ts us : List Token) (k : TokenKind) → Reaches bytes rest ts → length ts < MAX_TOKENS → token_of rest ≡ Ok (k, after)
     → us ≡ ts ++ (span_of k (length bytes - length rest) (length bytes - length after) ∷ []) → more ≡ (run is_blank after).1 → Reaches bytes more us
 turn bytes rest after more ts us k r few e eu em =
     let vs = ts ++ (span_of k (length bytes - length rest) (length bytes - length after) ∷ []) in
     let there = past_blanks bytes after vs (past_token bytes rest after k ts few e r) in
     subst (λ (w : List Token). Reaches bytes more w) (sym eu) (subst (λ (w : List ℕ). Reaches bytes w vs) (sym em) there)
 
-pub one_more : (ts us : List Token) (t : Token) → us ≡ ts ++ (t ∷ []) → length ts < 4096 → length us ≤ 4096
+pub one_more : (ts us : List Token) (t : Token) → us ≡ ts ++ (t ∷ []) → length ts < MAX_TOKENS → length us ≤ MAX_TOKENS
 one_more ts us t e few = let l : length us ≡ length (ts ++ (t ∷ [])) = ap (λ (w : List Token). length w) e in omega (arith, l, few, length-append ts (t ∷ []))
 
 run_short : (bs : List ℕ) → length (run is_blank bs).1 ≤ length bs
@@ -109,18 +110,18 @@ pub finish : (bytes rest : List ℕ) (ts : List Token) → Reaches bytes rest ts
 finish bytes [] ts r e = subst (λ (w : List Token). Lexes 0 0 bytes w) (append-nil ts) (r.tokens [] (done (length ts) (length bytes - 0)))
 finish bytes (b ∷ bs) ts r e = absurd (omega arith)
 
-pub too_many_there : (bytes rest : List ℕ) (ts : List Token) (place : ℕ) → Reaches bytes rest ts → Stops is_blank rest → (length rest ≡ 0 → ⊥) → length ts ≡ 4096 → place ≡ length bytes - length rest → Faults 0 0 bytes TooManyTokens place
+pub too_many_there : (bytes rest : List ℕ) (ts : List Token) (place : ℕ) → Reaches bytes rest ts → Stops is_blank rest → (length rest ≡ 0 → ⊥) → length ts ≡ MAX_TOKENS → place ≡ length bytes - length rest → Faults 0 0 bytes TooManyTokens place
 too_many_there bytes [] ts place r s n m e = absurd (n refl)
 too_many_there bytes (b ∷ bs) ts place r s n m e =
-    let z : 4096 ≡ length ts = omega (arith, m) in
+    let z : MAX_TOKENS ≡ length ts = omega (arith, m) in
     subst (λ (p : ℕ). Faults 0 0 bytes TooManyTokens p) (sym e) (r.fault TooManyTokens (length bytes - length (b ∷ bs)) (subst (λ (c : ℕ). Faults c (length bytes - length (b ∷ bs)) (b ∷ bs) TooManyTokens (length bytes - length (b ∷ bs))) z (too_many (length bytes - length (b ∷ bs)) b bs s)))
 
-fault_there : (bytes rest : List ℕ) (ts : List Token) (place p : ℕ) (f : Fault) → Reaches bytes rest ts → Stops is_blank rest → (length rest ≡ 0 → ⊥) → length ts < 4096 → place ≡ length bytes - length rest → p ≡ place → token_of rest ≡ Err f → Faults 0 0 bytes f p
+fault_there : (bytes rest : List ℕ) (ts : List Token) (place p : ℕ) (f : Fault) → Reaches bytes rest ts → Stops is_blank rest → (length rest ≡ 0 → ⊥) → length ts < MAX_TOKENS → place ≡ length bytes - length rest → p ≡ place → token_of rest ≡ Err f → Faults 0 0 bytes f p
 fault_there bytes [] ts place p f r s n l e g h = absurd (n refl)
 fault_there bytes (b ∷ bs) ts place p f r s n l e g h =
     subst (λ (q : ℕ). Faults 0 0 bytes f q) (sym (g ∙ e)) (r.fault f (length bytes - length (b ∷ bs)) (here (length bytes - length (b ∷ bs)) b l s (fault_by b bs f h)))
 
-pub fails : (bytes rest : List ℕ) (ts : List Token) (place : ℕ) (x : LexFault) → Reaches bytes rest ts → Stops is_blank rest → (length rest ≡ 0 → ⊥) → length ts < 4096 → place ≡ length bytes - length rest → FailsAs place (token_of rest) x → FaultsAs bytes x
+pub fails : (bytes rest : List ℕ) (ts : List Token) (place : ℕ) (x : LexFault) → Reaches bytes rest ts → Stops is_blank rest → (length rest ≡ 0 → ⊥) → length ts < MAX_TOKENS → place ≡ length bytes - length rest → FailsAs place (token_of rest) x → FaultsAs bytes x
 fails bytes rest ts place (faults.BadChar p) r s n l e h = fault_there bytes rest ts place p BadChar r s n l e h.0 h.1
 fails bytes rest ts place (faults.OpenText p) r s n l e h = fault_there bytes rest ts place p OpenText r s n l e h.0 h.1
 fails bytes rest ts place (faults.BigNumber p) r s n l e h = fault_there bytes rest ts place p BigNumber r s n l e h.0 h.1

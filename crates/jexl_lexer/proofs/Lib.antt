@@ -5,7 +5,7 @@ pub mod Uniqueness
 pub mod Bytes
 pub mod Runs
 pub mod Quoting
-pub mod SignSteps
+pub mod SignAt
 pub mod TokenFront
 pub mod LexLoop
 pub mod SpanLaws

@@ -1,93 +1,68 @@
--- Runs by a byte at a time.
-use Rattle.std.proofs.Common.{◌≡◌, ℕ, ◌+◌, ◌-◌, ◌*◌, ◌^◌, ◌<◌, ◌≤◌, Bool, true, false, cond, List, [], ◌∷◌, ◌++◌, refl, sym, ap, subst, ◌∙◌, arith, append_assoc, append-nil}
+-- The longest run at the front, and where it ends.
+use Rattle.std.proofs.Common.{◌≡◌, ℕ, zero, suc, ◌+◌, ◌<◌, ◌≤◌, Bool, true, false, cond, List, [], ◌∷◌, length, add-one, take, drop, get_or, Some, None, refl, ap, ◌∙◌, arith}
+use Rattle.std.specs.Prelude.{nat_lt, not, position}
+use Rattle.std.specs.Option.{unwrap_or}
+use Rattle.std.specs.List.{position_or_len}
+use Rattle.std.specs.Str.{IsUtf8, IsCharBoundary}
+use Rattle.std.proofs.lemmas.Bool.{ltb-false}
 use Rattle.std.proofs.lemmas.Bool.Decides.{nat_tests}
-use Rattle.std.specs.Prelude.{nat_lt}
-use Rattle.std.proofs.lemmas.Bool.{ltb-false, lt-ltb, le-ltb}
-use Rattle.jexl_lexer.specs.Scanning.{NoAsciiFront, with_bytes, capped}
-use Rattle.sequences.specs.Runs.{prepend, run, value_from}
-use Rattle.jexl_lexer.specs.Lexing.{is_blank, is_digit, is_word}
-
-big_no_digit : (b : ℕ) → 128 ≤ b → is_digit b ≡ false
-big_no_digit b h = grind (arith, nat_tests)
-
-big_no_word : (b : ℕ) → 128 ≤ b → is_word b ≡ false
-big_no_word b h = grind (arith, nat_tests)
+use Rattle.std.proofs.lemmas.List.Sums.{prefix_len-le-length, prefix_len_passes}
+use Rattle.std.proofs.lemmas.Str.{IsCharBoundary-start, IsCharBoundary-after_ascii}
+use Rattle.sequences.specs.Runs.{prepend, run}
+use Rattle.jexl_lexer.specs.declared.front.ByteClass.{ByteClass}
+use Rattle.jexl_lexer.specs.declared.front.ByteClass.TheVariants as classes
+use Rattle.jexl_lexer.specs.Classes.{in_class}
 
 pub run_on : (p : ℕ → Bool) (b : ℕ) (bs rest : List ℕ) → bs ≡ b ∷ rest → p b ≡ true → run p bs ≡ prepend b (run p rest)
 unfolding run
 run_on p b bs rest e t = ap (run p) e ∙ ap (λ (s : Bool). cond s (prepend b (run p rest)) ([], b ∷ rest)) t
 
-run_stop_at : (p : ℕ → Bool) (b : ℕ) (rest : List ℕ) → p b ≡ false → run p (b ∷ rest) ≡ ([], b ∷ rest)
+-- the place of the first byte that fails, or the length where none does
+abbrev run_end : (ℕ → Bool) → List ℕ → ℕ
+run_end p bs = position_or_len (λ b. not (p b)) bs
+
+end_by : (n len : ℕ) (t : Bool) → nat_lt n len ≡ t → n ≤ len → unwrap_or (cond t (Some n) None) len ≡ n
+end_by n len true e l = refl
+end_by n len false e l = let g = ltb-false n len e in omega arith
+
+end_is : (p : ℕ → Bool) (bs : List ℕ) → unwrap_or (position (λ b. not (p b)) bs) (length bs) ≡ run_end p bs
+end_is p bs = end_by (run_end p bs) (length bs) (nat_lt (run_end p bs) (length bs)) refl (prefix_len-le-length (λ (b : ℕ). not (not (p b))) bs)
+
+run_by : (p : ℕ → Bool) (b : ℕ) (bs : List ℕ) (t : Bool) → run p bs ≡ (take (run_end p bs) bs, drop (run_end p bs) bs)
+    → cond t (prepend b (run p bs)) ([], b ∷ bs) ≡ (take (cond (not (not t)) (1 + run_end p bs) 0) (b ∷ bs), drop (cond (not (not t)) (1 + run_end p bs) 0) (b ∷ bs))
+run_by p b bs true e = let s : 1 + run_end p bs ≡ suc (run_end p bs) = omega arith in rw s (ap (prepend b) e)
+run_by p b bs false e = refl
+
+run_parts : (p : ℕ → Bool) (bs : List ℕ) → run p bs ≡ (take (run_end p bs) bs, drop (run_end p bs) bs)
 unfolding run
-run_stop_at p b rest t = ap (λ (s : Bool). cond s (prepend b (run p rest)) ([], b ∷ rest)) t
+run_parts p [] = refl
+run_parts p (b ∷ bs) = run_by p b bs (p b) (run_parts p bs)
 
-pub run_stop : (p : ℕ → Bool) (b : ℕ) (bs rest : List ℕ) → bs ≡ b ∷ rest → p b ≡ false → run p bs ≡ ([], bs)
-run_stop p b bs rest e t = subst (λ (w : List ℕ). run p w ≡ ([], w)) (sym e) (run_stop_at p b rest t)
+-- what stands up to that place, and from there on
+pub run_cut : (p : ℕ → Bool) (bs front back : List ℕ) (end : ℕ) → end ≡ unwrap_or (position (λ b. not (p b)) bs) (length bs) → front ≡ take end bs → back ≡ drop end bs → (front, back) ≡ run p bs
+run_cut p bs front back end e f g =
+    let i : end ≡ run_end p bs = e ∙ end_is p bs in
+    let j : take end bs ≡ take (run_end p bs) bs = ap (λ (n : ℕ). take n bs) i in
+    let k : drop end bs ≡ drop (run_end p bs) bs = ap (λ (n : ℕ). drop n bs) i in
+    let r = run_parts p bs in
+    cc
 
-pub run_word_big : (bs : List ℕ) → NoAsciiFront bs → run is_word bs ≡ ([], bs)
-unfolding run
-run_word_big [] h = refl
-run_word_big (b ∷ bs) h = run_stop_at is_word b bs (big_no_word b h)
+not_not : (t : Bool) → not (not t) ≡ true → t ≡ true
+not_not true e = refl
+not_not false e = absurd cc
 
-pub run_digit_big : (bs : List ℕ) → NoAsciiFront bs → run is_digit bs ≡ ([], bs)
-unfolding run
-run_digit_big [] h = refl
-run_digit_big (b ∷ bs) h = run_stop_at is_digit b bs (big_no_digit b h)
+low : (class : ByteClass) (b : ℕ) → in_class class b ≡ true → b < 128
+low classes.Blank b e = grind (arith, nat_tests)
+low classes.Digit b e = grind (arith, nat_tests)
+low classes.Word b e = grind (arith, nat_tests)
 
-pub before_step : (w : List ℕ) (b : ℕ) (x : List ℕ × List ℕ) → with_bytes (w ++ (b ∷ [])) x ≡ with_bytes w (prepend b x)
-before_step w b x = ap (λ (y : List ℕ). (y, x.1)) (append_assoc w (b ∷ []) x.0)
+boundary_at : (class : ByteClass) (bs : List ℕ) (n : ℕ) → IsUtf8 bs → n ≡ run_end (in_class class) bs → IsCharBoundary bs n
+boundary_at class bs zero u e = IsCharBoundary-start bs u
+boundary_at class bs (suc n) u e =
+    let l = prefix_len-le-length (λ (b : ℕ). not (not (in_class class b))) bs in
+    let h = prefix_len_passes (λ (b : ℕ). not (not (in_class class b))) bs n 0 (omega arith) in
+    rw (← add-one) (IsCharBoundary-after_ascii bs n u (omega arith) (low class (get_or bs n 0) (not_not (in_class class (get_or bs n 0)) h)))
 
-pub before_none : (w bs : List ℕ) → with_bytes w ([], bs) ≡ (w, bs)
-before_none w bs = ap (λ (y : List ℕ). (y, bs)) (append-nil w)
-
-pub digit_bounds : (b : ℕ) → is_digit b ≡ true → (48 ≤ b) × (b ≤ 57)
-digit_bounds b e = grind (arith, nat_tests)
-
-capped_high : (n : ℕ) → 2 ^ 63 ≤ n → capped n ≡ 2 ^ 63
-capped_high n l = ap (λ (t : Bool). cond t n (2 ^ 63)) (le-ltb n (2 ^ 63) l)
-
-capped_low : (n : ℕ) → n < 2 ^ 63 → capped n ≡ n
-capped_low n l = ap (λ (t : Bool). cond t n (2 ^ 63)) (lt-ltb n (2 ^ 63) l)
-
-pub capped_large : (v k : ℕ) → 922337203685477580 < v → 9223372036854775808 ≡ capped (10 * v + k)
-capped_large v k l = sym (capped_high (10 * v + k) (omega arith))
-
-grows : (n : ℕ) (ds : List ℕ) → n ≤ value_from n ds
-grows n [] = omega arith
-grows n (d ∷ ds) = let g = grows (10 * n + (d - 48)) ds in omega arith
-
-capped_by : (n : ℕ) (ds : List ℕ) (t : Bool) → nat_lt n (2 ^ 63) ≡ t → capped (value_from (cond t n (2 ^ 63)) ds) ≡ capped (value_from n ds)
-capped_by n ds true e = refl
-capped_by n ds false e =
-    let l = ltb-false n (2 ^ 63) e in
-    let g = grows n ds in
-    capped_high (value_from (2 ^ 63) ds) (grows (2 ^ 63) ds) ∙ sym (capped_high (value_from n ds) (omega (arith, l, g)))
-
--- a digit more
-pub capped_step : (v w b : ℕ) (x y : List ℕ × List ℕ) → x ≡ prepend b y → w ≡ capped (10 * v + (b - 48)) → capped (value_from v x.0) ≡ capped (value_from w y.0)
-capped_step v w b x y e f =
-    ap (λ (z : List ℕ × List ℕ). capped (value_from v z.0)) e
-    ∙ sym (capped_by (10 * v + (b - 48)) y.0 (nat_lt (10 * v + (b - 48)) (2 ^ 63)) refl)
-    ∙ ap (λ (n : ℕ). capped (value_from n y.0)) (sym f)
-
-capped_self : (v : ℕ) (t : Bool) → nat_lt v (2 ^ 63) ≡ t → v ≤ 2 ^ 63 → v ≡ cond t v (2 ^ 63)
-capped_self v true e l = refl
-capped_self v false e l = let g = ltb-false v (2 ^ 63) e in omega arith
-
--- no digit more
-pub capped_end : (v : ℕ) (x : List ℕ × List ℕ) (bs : List ℕ) → x ≡ ([], bs) → v ≤ 2 ^ 63 → v ≡ capped (value_from v x.0)
-capped_end v x bs e l = capped_self v (nat_lt v (2 ^ 63)) refl l ∙ sym (ap (λ (z : List ℕ × List ℕ). capped (value_from v z.0)) e)
-
-big_no_blank : (b : ℕ) → 128 ≤ b → is_blank b ≡ false
-big_no_blank b h = grind (arith, nat_tests)
-
-pub run_blank_big : (bs : List ℕ) → NoAsciiFront bs → (run is_blank bs).1 ≡ bs
-unfolding run
-run_blank_big [] h = refl
-run_blank_big (b ∷ bs) h = ap (λ (x : List ℕ × List ℕ). x.1) (run_stop_at is_blank b bs (big_no_blank b h))
-
-pub run_blank_on : (b : ℕ) (bs rest : List ℕ) → bs ≡ b ∷ rest → is_blank b ≡ true → (run is_blank bs).1 ≡ (run is_blank rest).1
-run_blank_on b bs rest e t = ap (λ (x : List ℕ × List ℕ). x.1) (run_on is_blank b bs rest e t)
-
-pub run_blank_stop : (b : ℕ) (bs rest : List ℕ) → bs ≡ b ∷ rest → is_blank b ≡ false → (run is_blank bs).1 ≡ bs
-run_blank_stop b bs rest e t = ap (λ (x : List ℕ × List ℕ). x.1) (run_stop is_blank b bs rest e t)
+-- a text may be cut there
+pub run_boundary : (class : ByteClass) (bs : List ℕ) (end : ℕ) → IsUtf8 bs → end ≡ unwrap_or (position (λ b. not (in_class class b)) bs) (length bs) → IsCharBoundary bs end
+run_boundary class bs end u e = boundary_at class bs end u (e ∙ end_is (in_class class) bs)

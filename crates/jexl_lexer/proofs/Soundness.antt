@@ -2,6 +2,7 @@
 use Rattle.std.proofs.Common.{◌≡◌, ℕ, zero, suc, ◌+◌, ◌^◌, ◌<◌, ◌≤◌, Bool, true, false, List, [], ◌∷◌, ◌++◌, length, Option, Some, None, Ok, Err, refl, sym, ap, subst, arith, length-append}
 use Rattle.std.specs.Prelude.{◌&&◌, ◌==◌, nat_lt}
 use Rattle.std.proofs.lemmas.Bool.{eqb-true, ltb-true, ltb-false}
+use Rattle.jexl_lexer.specs.declared.lexer.TheConstants.{MAX_TOKENS}
 use Rattle.jexl_lexer.specs.declared.token.Sign.{Sign}
 use Rattle.jexl_lexer.specs.declared.token.Sign.TheVariants.{And, Or, Equal, NotEqual, AtMost, AtLeast, FloorDiv, Less, Greater, Plus, Minus, Star, Percent, Caret, Bang, Question, Colon, Dot, Comma, LeftRound, RightRound, LeftSquare, RightSquare, LeftBrace, RightBrace, Bar}
 use Rattle.jexl_lexer.specs.declared.token.TokenKind.{TokenKind}
@@ -118,31 +119,31 @@ lexed_skip : (n place b : ℕ) (bs : List ℕ) (r : AllRead) → is_blank b ≡ 
 lexed_skip n place b bs (Ok ts) e h = skip b e h
 lexed_skip n place b bs (Err f) e h = skip_on b e h
 
-lexed_next : (n place end : ℕ) (bs rest : List ℕ) (k : TokenKind) (r : AllRead) → n < 4096 → Begins bs k rest → place + length bs ≡ end + length rest → Lexed (suc n) end rest r → Lexed n place bs (in_front (record { kind = k; start = place; end = end }) r)
+lexed_next : (n place end : ℕ) (bs rest : List ℕ) (k : TokenKind) (r : AllRead) → n < MAX_TOKENS → Begins bs k rest → place + length bs ≡ end + length rest → Lexed (suc n) end rest r → Lexed n place bs (in_front (record { kind = k; start = place; end = end }) r)
 lexed_next n place end bs rest k (Ok ts) lt d e h = next place end k lt d e h
 lexed_next n place end bs rest k (Err f) lt d e h = next_on place end k lt d e h
 
-module _ (f : ℕ → ℕ → List ℕ → AllRead) (size : ℕ) (h : (n place : ℕ) (bs : List ℕ) → length bs < size → n ≤ 4096 → Lexed n place bs (f n place bs)) where
-  lexed_token : (n place b : ℕ) (bs : List ℕ) (t : TokenRead) → length bs < size → n < 4096 → is_blank b ≡ false → Tells (b ∷ bs) t → Lexed n place (b ∷ bs) (after_token f n place (b ∷ bs) t)
+module _ (f : ℕ → ℕ → List ℕ → AllRead) (size : ℕ) (h : (n place : ℕ) (bs : List ℕ) → length bs < size → n ≤ MAX_TOKENS → Lexed n place bs (f n place bs)) where
+  lexed_token : (n place b : ℕ) (bs : List ℕ) (t : TokenRead) → length bs < size → n < MAX_TOKENS → is_blank b ≡ false → Tells (b ∷ bs) t → Lexed n place (b ∷ bs) (after_token f n place (b ∷ bs) t)
   lexed_token n place b bs (Err e) le lt blank d = here place b lt blank d
   lexed_token n place b bs (Ok x) le lt blank d =
       let s = shrinks d in
       let end = end_of place (b ∷ bs) x.1 in
       lexed_next n place end (b ∷ bs) x.1 x.0 (f (suc n) end x.1) lt d (omega arith) (h (suc n) end x.1 (omega arith) (omega arith))
 
-  lexed_room : (n place b : ℕ) (bs : List ℕ) (t : Bool) → length bs < size → n ≤ 4096 → is_blank b ≡ false → nat_lt n 4096 ≡ t → Lexed n place (b ∷ bs) (room_part f n place b bs t)
-  lexed_room n place b bs true le few blank e = lexed_token n place b bs (token_at b bs) le (ltb-true n 4096 e) blank (tells b bs)
+  lexed_room : (n place b : ℕ) (bs : List ℕ) (t : Bool) → length bs < size → n ≤ MAX_TOKENS → is_blank b ≡ false → nat_lt n MAX_TOKENS ≡ t → Lexed n place (b ∷ bs) (room_part f n place b bs t)
+  lexed_room n place b bs true le few blank e = lexed_token n place b bs (token_at b bs) le (ltb-true n MAX_TOKENS e) blank (tells b bs)
   lexed_room n place b bs false le few blank e =
-      let more = ltb-false n 4096 e in
-      let all : 4096 ≡ n = omega arith in
+      let more = ltb-false n MAX_TOKENS e in
+      let all : MAX_TOKENS ≡ n = omega arith in
       subst (λ (m : ℕ). Faults m place (b ∷ bs) TooManyTokens place) all (too_many place b bs blank)
 
-  lexed_blank : (n place b : ℕ) (bs : List ℕ) (t : Bool) → length bs < size → n ≤ 4096 → is_blank b ≡ t → Lexed n place (b ∷ bs) (blank_part f n place b bs t)
+  lexed_blank : (n place b : ℕ) (bs : List ℕ) (t : Bool) → length bs < size → n ≤ MAX_TOKENS → is_blank b ≡ t → Lexed n place (b ∷ bs) (blank_part f n place b bs t)
   lexed_blank n place b bs true le few e = lexed_skip n place b bs (f n (suc place) bs) e (h n (suc place) bs le few)
-  lexed_blank n place b bs false le few e = lexed_room n place b bs (nat_lt n 4096) le few e refl
+  lexed_blank n place b bs false le few e = lexed_room n place b bs (nat_lt n MAX_TOKENS) le few e refl
 
 -- lexing gives the tokens, or the first fault with its place
-pub lexed : (m n place : ℕ) (bs : List ℕ) → length bs < m → n ≤ 4096 → Lexed n place bs (lex_from m n place bs)
+pub lexed : (m n place : ℕ) (bs : List ℕ) → length bs < m → n ≤ MAX_TOKENS → Lexed n place bs (lex_from m n place bs)
 unfolding lex_from
 lexed zero n place bs le few = absurd (omega arith)
 lexed (suc m) n place [] le few = done n place

@@ -3,6 +3,7 @@ use Rattle.std.proofs.Common.{◌≡◌, ◌≢◌, ℕ, zero, suc, ◌+◌, ◌
 use Rattle.std.specs.Prelude.{◌&&◌, ◌==◌}
 use Rattle.std.proofs.lemmas.Bool.{eq-eqb, lt-ltb, le-ltb}
 use Rattle.std.proofs.lemmas.Bool.Decides.{nat_tests}
+use Rattle.jexl_lexer.specs.declared.lexer.TheConstants.{MAX_TOKENS}
 use Rattle.jexl_lexer.specs.declared.token.Token.{Token}
 use Rattle.jexl_lexer.specs.declared.token.TokenKind.{TokenKind}
 use Rattle.jexl_lexer.specs.declared.token.TokenKind.TheVariants as kinds
@@ -26,7 +27,7 @@ and_makes true true e f = refl
 and_makes true false e f = cc
 and_makes false b e f = cc
 
-start_no_digit : (b : ℕ) → is_start b ≡ true → is_digit b ≡ false
+pub start_no_digit : (b : ℕ) → is_start b ≡ true → is_digit b ≡ false
 start_no_digit b h = grind (arith, nat_tests)
 
 quote_no_digit : (b : ℕ) → is_quote b ≡ true → is_digit b ≡ false
@@ -96,12 +97,15 @@ sign_by s rest (Some x) l t =
     let signs_same = same_text s x.0 front in
     ap (λ (r : Sign). found r x.1) (sym signs_same) ∙ ap (found s) (sym back)
 
-sign_found : (s : Sign) (rest : List ℕ) → IsLongest s (sign_text s ++ rest) → first_sign all_signs (sign_text s ++ rest) ≡ found s rest
+pub sign_found : (s : Sign) (rest : List ℕ) → IsLongest s (sign_text s ++ rest) → first_sign all_signs (sign_text s ++ rest) ≡ found s rest
 sign_found s rest l = sign_by s rest (first_sign all_signs (sign_text s ++ rest)) l (sign_told (sign_text s ++ rest))
 
 none_by : (bs : List ℕ) (o : Option (Sign × List ℕ)) → NoSign bs → Told bs o → o ≡ None
 none_by bs None n t = refl
 none_by bs (Some x) n t = absurd (n x.0 x.1 t.0)
+
+pub sign_missing : (bs : List ℕ) → NoSign bs → first_sign all_signs bs ≡ None
+sign_missing bs n = none_by bs (first_sign all_signs bs) n (sign_told bs)
 
 sign_front : (s : Sign) (rest : List ℕ) → token_of (sign_text s ++ rest) ≡ sign_part (first_sign all_signs (sign_text s ++ rest))
 unfolding token_at
@@ -167,7 +171,7 @@ fault_only (big_number d ds rest p s n v) =
     number_front d ds rest p s ∙ ap (number_part (d ∷ ds) rest) (not_decimal rest n (decimal rest) refl) ∙ ap (value_part (value_from 0 (d ∷ ds)) rest) (le-ltb (value_from 0 (d ∷ ds)) (2 ^ 63) v)
 fault_only (open_text q body e h) = quote_front q body e ∙ ap quote_part (never_there q body (quote_no_backslash q e) h)
 fault_only (bad_char b bs d s q n) =
-    ap (token_part b bs) d ∙ ap (name_part b bs) s ∙ ap (other_part b bs) q ∙ ap sign_part (none_by (b ∷ bs) (first_sign all_signs (b ∷ bs)) n (sign_told (b ∷ bs)))
+    ap (token_part b bs) d ∙ ap (name_part b bs) s ∙ ap (other_part b bs) q ∙ ap sign_part (sign_missing (b ∷ bs) n)
 
 -- a token begins with a byte that isn't blank
 record Front (bs : List ℕ) : Type 0 where
@@ -219,7 +223,7 @@ front_of (name b bs rest e p s) = record { byte = b; more = bs ++ rest; parts = 
 front_of (quoted q body text rest e i) = record { byte = q; more = body ++ (q ∷ rest); parts = refl; seen = quote_no_blank q e }
 front_of (sign s rest l) = sign_seen s rest
 
-one_turn : (m n place : ℕ) (bs rest : List ℕ) (k : TokenKind) → Front bs → n < 4096 → token_of bs ≡ Ok (k, rest) → lex_from (suc m) n place bs ≡ after_token (lex_from m) n place bs (Ok (k, rest))
+one_turn : (m n place : ℕ) (bs rest : List ℕ) (k : TokenKind) → Front bs → n < MAX_TOKENS → token_of bs ≡ Ok (k, rest) → lex_from (suc m) n place bs ≡ after_token (lex_from m) n place bs (Ok (k, rest))
 unfolding lex_from
 one_turn m n place bs rest k w few t =
     let b = w.byte in
@@ -227,14 +231,14 @@ one_turn m n place bs rest k w few t =
     let read : token_at b cs ≡ Ok (k, rest) = sym (ap token_of w.parts) ∙ t in
     ap (lex_from (suc m) n place) w.parts
     ∙ ap (blank_part (lex_from m) n place b cs) w.seen
-    ∙ ap (room_part (lex_from m) n place b cs) (lt-ltb n 4096 few)
+    ∙ ap (room_part (lex_from m) n place b cs) (lt-ltb n MAX_TOKENS few)
     ∙ ap (after_token (lex_from m) n place (b ∷ cs)) read
     ∙ ap (λ (x : List ℕ). after_token (lex_from m) n place x (Ok (k, rest))) (sym w.parts)
 
 abbrev turn : ℕ → ℕ → ℕ → ℕ → List ℕ → TokenKind → AllRead
 turn m n place end rest k = in_front (record { kind = k; start = place; end = end }) (lex_from m (suc n) end rest)
 
-turned : (m n place end : ℕ) (bs rest : List ℕ) (k : TokenKind) → n < 4096 → Begins bs k rest → place + length bs ≡ end + length rest → lex_from (suc m) n place bs ≡ turn m n place end rest k
+turned : (m n place end : ℕ) (bs rest : List ℕ) (k : TokenKind) → n < MAX_TOKENS → Begins bs k rest → place + length bs ≡ end + length rest → lex_from (suc m) n place bs ≡ turn m n place end rest k
 turned m n place end bs rest k few d e =
     let s = shrinks d in
     let at : end_of place bs rest ≡ end = omega arith in
@@ -261,10 +265,10 @@ faults_only (suc m) (next_on {n = n} {bs = bs} {rest = rest} place end k few b e
     let s = shrinks b in
     turned m n place end bs rest k few b e ∙ ap (in_front (record { kind = k; start = place; end = end })) (faults_only m d (omega arith))
 faults_only (suc m) (too_many place b bs e) lt =
-    ap (blank_part (lex_from m) 4096 place b bs) e
+    ap (blank_part (lex_from m) MAX_TOKENS place b bs) e
 faults_only (suc m) (here {n = n} {bs = bs} place b few e d) lt =
     ap (blank_part (lex_from m) n place b bs) e
-    ∙ ap (room_part (lex_from m) n place b bs) (lt-ltb n 4096 few)
+    ∙ ap (room_part (lex_from m) n place b bs) (lt-ltb n MAX_TOKENS few)
     ∙ ap (after_token (lex_from m) n place (b ∷ bs)) (fault_only d)
 
 -- so a text has one list of tokens or one first fault

@@ -1,6 +1,7 @@
 -- Which bytes spell which tokens, and where the first fault is.
-use Rattle.std.specs.Prelude.{◌≡◌, ◌≢◌, ℕ, suc, ◌+◌, ◌-◌, ◌*◌, ◌^◌, ◌<◌, ◌≤◌, pos, Bool, true, false, ◌||◌, ◌&&◌, ◌==◌, nat_le, List, [], ◌∷◌, ◌++◌, length, codes}
+use Rattle.std.specs.Prelude.{◌≡◌, ◌≢◌, ℕ, suc, ◌+◌, ◌^◌, ◌<◌, ◌≤◌, pos, Bool, true, false, ◌||◌, ◌&&◌, ◌==◌, nat_le, List, [], ◌∷◌, ◌++◌, length, codes}
 use Rattle.sequences.specs.Runs.{value_from}
+use Rattle.jexl_lexer.specs.declared.lexer.TheConstants.{MAX_TOKENS}
 use Rattle.jexl_lexer.specs.declared.token.Sign.{Sign}
 use Rattle.jexl_lexer.specs.declared.token.Sign.TheVariants as signs
 use Rattle.jexl_lexer.specs.declared.token.Token.{Token}
@@ -123,22 +124,22 @@ pub data FaultAt : List ℕ → Fault → Type 0 where
   bad_char : (b : ℕ) (bs : List ℕ) → is_digit b ≡ false → is_start b ≡ false → is_quote b ≡ false → NoSign (b ∷ bs)
       → FaultAt (b ∷ bs) BadChar
 
--- From this place on, after n tokens, the bytes are these tokens and blanks. There are at most 4096 tokens in all
+-- From this place on, after n tokens, the bytes are these tokens and blanks. There are at most `MAX_TOKENS` tokens in all
 pub data Lexes : ℕ → ℕ → List ℕ → List Token → Type 0 where
   done : (n place : ℕ) → Lexes n place [] []
   skip : {n place : ℕ} {bs : List ℕ} {ts : List Token} (b : ℕ) → is_blank b ≡ true → Lexes n (suc place) bs ts
       → Lexes n place (b ∷ bs) ts
-  next : {n : ℕ} {bs rest : List ℕ} {ts : List Token} (place end : ℕ) (k : TokenKind) → n < 4096 → Begins bs k rest → place + length bs ≡ end + length rest → Lexes (suc n) end rest ts
+  next : {n : ℕ} {bs rest : List ℕ} {ts : List Token} (place end : ℕ) (k : TokenKind) → n < MAX_TOKENS → Begins bs k rest → place + length bs ≡ end + length rest → Lexes (suc n) end rest ts
       → Lexes n place bs (record { kind = k; start = place; end = end } ∷ ts)
 
 -- From this place on, after n tokens, the first fault is this one, at that place: behind blanks and tokens, where a token would begin.
--- Whether there are 4096 tokens before it is asked first
+-- Whether there are `MAX_TOKENS` tokens before it is asked first
 pub data Faults : ℕ → ℕ → List ℕ → Fault → ℕ → Type 0 where
   skip_on : {n place at : ℕ} {bs : List ℕ} {f : Fault} (b : ℕ) → is_blank b ≡ true → Faults n (suc place) bs f at
       → Faults n place (b ∷ bs) f at
-  next_on : {n at : ℕ} {bs rest : List ℕ} {f : Fault} (place end : ℕ) (k : TokenKind) → n < 4096 → Begins bs k rest → place + length bs ≡ end + length rest → Faults (suc n) end rest f at
+  next_on : {n at : ℕ} {bs rest : List ℕ} {f : Fault} (place end : ℕ) (k : TokenKind) → n < MAX_TOKENS → Begins bs k rest → place + length bs ≡ end + length rest → Faults (suc n) end rest f at
       → Faults n place bs f at
   too_many : (place b : ℕ) (bs : List ℕ) → is_blank b ≡ false
-      → Faults 4096 place (b ∷ bs) TooManyTokens place
-  here : {n : ℕ} {bs : List ℕ} {f : Fault} (place b : ℕ) → n < 4096 → is_blank b ≡ false → FaultAt (b ∷ bs) f
+      → Faults MAX_TOKENS place (b ∷ bs) TooManyTokens place
+  here : {n : ℕ} {bs : List ℕ} {f : Fault} (place b : ℕ) → n < MAX_TOKENS → is_blank b ≡ false → FaultAt (b ∷ bs) f
       → Faults n place (b ∷ bs) f place

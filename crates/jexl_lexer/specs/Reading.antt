@@ -1,5 +1,6 @@
 -- Lexing a text from the left, as functions on its bytes: what the functions of the lexer give.
 use Rattle.std.specs.Prelude.{ℕ, zero, suc, ◌+◌, ◌-◌, ◌^◌, pos, Bool, true, false, ◌&&◌, ◌==◌, nat_lt, List, [], ◌∷◌, length, Option, Some, None, Result, Ok, Err}
+use Rattle.jexl_lexer.specs.declared.lexer.TheConstants.{MAX_TOKENS}
 use Rattle.jexl_lexer.specs.declared.token.Sign.{Sign}
 use Rattle.jexl_lexer.specs.declared.token.Token.{Token}
 use Rattle.jexl_lexer.specs.declared.token.TokenKind.{TokenKind}
@@ -74,7 +75,7 @@ room_part f n place b bs false = Err (TooManyTokens, place)
 
 abbrev pub blank_part : (ℕ → ℕ → List ℕ → AllRead) → ℕ → ℕ → ℕ → List ℕ → Bool → AllRead
 blank_part f n place b bs true = f n (suc place) bs
-blank_part f n place b bs false = room_part f n place b bs (nat_lt n 4096)
+blank_part f n place b bs false = room_part f n place b bs (nat_lt n MAX_TOKENS)
 
 -- lexing in at most so many steps, after n tokens, from this place on
 unfoldable pub lex_from : ℕ → ℕ → ℕ → List ℕ → AllRead

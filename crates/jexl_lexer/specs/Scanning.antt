@@ -1,5 +1,5 @@
 -- Scanning a text from the left, as functions on its bytes: what the functions of the lexer give.
-use Rattle.std.specs.Prelude.{ℕ, ◌^◌, ◌≤◌, Bool, true, false, cond, nat_lt, ◌==◌, List, [], ◌∷◌, ◌++◌, Option, Some, None, option_map}
+use Rattle.std.specs.Prelude.{◌≡◌, ◌≢◌, ℕ, ◌≤◌, Bool, true, false, cond, ◌==◌, List, [], ◌∷◌, ◌++◌, length, Option, Some, None, option_map}
 use Rattle.sequences.specs.Runs.{prepend}
 use Rattle.jexl_lexer.specs.declared.token.Sign.{Sign}
 use Rattle.jexl_lexer.specs.declared.token.Sign.TheVariants as signs
@@ -10,9 +10,10 @@ abbrev pub NoAsciiFront : List ℕ → Type 0
 NoAsciiFront [] = Unit {0}
 NoAsciiFront (b ∷ bs) = 128 ≤ b
 
--- at most 2 ^ 63
-abbrev pub capped : ℕ → ℕ
-capped n = cond (nat_lt n (2 ^ 63)) n (2 ^ 63)
+-- the first byte is there, and passes the test
+abbrev pub Starts : (ℕ → Bool) → List ℕ → Type 0
+Starts p [] = ⊥
+Starts p (b ∷ bs) = p b ≡ true
 
 -- bytes put before the first part
 abbrev pub with_bytes : List ℕ → List ℕ × List ℕ → List ℕ × List ℕ
@@ -49,5 +50,15 @@ all_signs =
     ∷ signs.Colon ∷ signs.Dot ∷ signs.Comma ∷ signs.LeftRound ∷ signs.RightRound ∷ signs.LeftSquare ∷ signs.RightSquare
     ∷ signs.LeftBrace ∷ signs.RightBrace ∷ signs.Bar ∷ []
 
-abbrev pub sign_then : Sign → List ℕ → Sign × List ℕ
-sign_then s rest = (s, rest)
+-- the sign is spelled by these bytes, or none is
+abbrev pub IsSignOf : List ℕ → Option Sign → Type 0
+IsSignOf bytes (Some s) = sign_text s ≡ bytes
+IsSignOf bytes None = (s : Sign) → sign_text s ≢ bytes
+
+-- this sign of two bytes stands in front of the rest
+abbrev pub IsDouble : List ℕ → Sign → List ℕ → Type 0
+IsDouble bytes s rest = (bytes ≡ sign_text s ++ rest) × (length (sign_text s) ≡ 2)
+
+-- no sign of two bytes stands in front
+abbrev pub NoDouble : List ℕ → Type 0
+NoDouble bytes = (s : Sign) (rest : List ℕ) → IsDouble bytes s rest → ⊥

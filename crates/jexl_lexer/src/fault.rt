@@ -21,7 +21,7 @@ pub enum LexFault {
     /// A dot and a digit follow the number at this place.
     #[error("Decimal")]
     Decimal(usize),
-    /// There are 4,096 tokens before this place, and more after it.
+    /// There are `MAX_TOKENS` tokens before this place, and more after it.
     #[error("TooManyTokens")]
     TooManyTokens(usize),
     /// Memory is wanting.

@@ -1,7 +1,48 @@
 // What stands at the front of a text, and what kinds of bytes there are.
-ghost use Rattle.std.specs.Prelude.{◌≡◌, ◌<◌, ◌++◌, [], ◌∷◌, length, IfSome, MatchOption, encode_utf8, option_map};
-ghost use Rattle.jexl_lexer.specs.Lexing.{is_blank, is_digit, is_start, is_word, is_quote};
-ghost use Rattle.jexl_lexer.specs.Scanning.{NoAsciiFront, strip};
+ghost use Rattle.std.specs.Prelude.{◌≡◌, ◌<◌, ◌++◌, [], ◌∷◌, length, IfSome, MatchOption, encode_utf8, not, position};
+ghost use Rattle.sequences.specs.Runs.{run};
+ghost use Rattle.jexl_lexer.specs.Classes.{in_class};
+ghost use Rattle.jexl_lexer.specs.Lexing.{is_start, is_quote};
+ghost use Rattle.jexl_lexer.specs.Scanning.{NoAsciiFront};
+
+/// A class of ASCII bytes that runs are made of.
+#[derive(Clone, Copy)]
+pub enum ByteClass {
+    /// A space, a tab and the bytes of a line end.
+    Blank,
+    Digit,
+    /// What may stand in a name after its first byte.
+    Word,
+}
+
+impl ByteClass {
+    /// Whether the byte is of the class.
+    fn contains(self, byte: u8) -> bool
+        ensures { result ≡ in_class self byte }
+    {
+        match self {
+            ByteClass::Blank => byte == b' ' || byte == b'\t' || byte == b'\n' || byte == b'\r',
+            ByteClass::Digit => byte.is_ascii_digit(),
+            ByteClass::Word => is_start(byte) || byte.is_ascii_digit(),
+        }
+    }
+}
+
+/// The longest run of bytes of the class at the front, and the text after it.
+#[tactic(auto, using(crate::proofs::Runs::run_boundary, crate::proofs::Runs::run_cut))]
+pub fn split_run(text: &str, class: ByteClass) -> (&str, &str)
+    ensures { (result.0.now, result.1.now) ≡ run (in_class class) text.now }
+{
+    let end = first_other(text.as_bytes(), class).unwrap_or(text.len());
+    text.split_at(end)
+}
+
+/// The place of the first byte that isn't of the class.
+fn first_other(bytes: &[u8], class: ByteClass) -> Option<usize>
+    ensures { result ≡ position (λ b. not (in_class class b)) bytes.now }
+{
+    bytes.iter().position(|byte| !class.contains(*byte))
+}
 
 /// The first character, and the text after it.
 #[tactic(auto, using(crate::proofs::Bytes::no_bytes, crate::proofs::Bytes::shorter))]
@@ -25,7 +66,7 @@ pub fn first_ascii(text: &str) -> Option<(u8, &str)>
     match first_char(text) {
         None => None,
         Some((c, rest)) => {
-            if (c as u32) < 128 {
+            if c.is_ascii() {
                 Some((c as u8, rest))
             } else {
                 None
@@ -34,44 +75,11 @@ pub fn first_ascii(text: &str) -> Option<(u8, &str)>
     }
 }
 
-/// The text after this byte, if it stands at the front.
-#[tactic(auto, using(crate::proofs::Bytes::strip_big, crate::proofs::Bytes::strip_one, crate::proofs::Bytes::strip_other))]
-pub fn strip_byte(text: &str, byte: u8) -> Option<&str>
-    requires { byte < 128 }
-    ensures { option_map (λ rest. rest.now) result ≡ strip (byte ∷ []) text.now }
-{
-    match first_ascii(text) {
-        None => None,
-        Some((first, rest)) => { if first == byte { Some(rest) } else { None } }
-    }
-}
-
-/// Whether the byte is a digit.
-pub fn is_digit(b: u8) -> bool
-    ensures { result ≡ is_digit b }
-{
-    b'0' <= b && b <= b'9'
-}
-
 /// Whether the byte is a letter, `_` or `$`.
 pub fn is_start(b: u8) -> bool
     ensures { result ≡ is_start b }
 {
-    (b'A' <= b && b <= b'Z') || ((b'a' <= b && b <= b'z') || (b == b'_' || b == b'$'))
-}
-
-/// Whether the byte may stand in a name after its first one.
-pub fn is_word(b: u8) -> bool
-    ensures { result ≡ is_word b }
-{
-    is_start(b) || is_digit(b)
-}
-
-/// Whether the byte is a space, a tab or a byte of a line end.
-pub fn is_blank(b: u8) -> bool
-    ensures { result ≡ is_blank b }
-{
-    b == b' ' || (b == b'\t' || (b == b'\n' || b == b'\r'))
+    b.is_ascii_alphabetic() || b == b'_' || b == b'$'
 }
 
 /// Whether the byte is one of the two quotes.

@@ -1,43 +1,31 @@
 // The tokens of a whole text.
-ghost use Rattle.std.specs.Prelude.{◌≡◌, ◌<◌, All, length, IfOk, IfErr, IfSome, MatchOption};
+ghost use Rattle.std.specs.Prelude.{◌≡◌, All, length, IfOk, IfErr};
 ghost use Rattle.jexl_lexer.specs.Answering.{FaultsAs};
 ghost use Rattle.jexl_lexer.specs.Lexing.{is_blank, Lexes};
 ghost use Rattle.sequences.specs.Runs.{run};
 ghost use Rattle.jexl_lexer.specs.Spans.{SpansRise, BlanksOutside, IsReadFrom};
 
 use crate::fault::LexFault;
-use crate::front::{first_ascii, is_blank};
+use crate::front::{ByteClass, split_run};
 use crate::token::Token;
 use crate::token_reader::read_token;
 use sequences::Sequence;
 use std::alloc::Global;
 
-/// The text after the blank at the front.
-#[tactic(auto, using(crate::proofs::Runs::run_blank_big, crate::proofs::Runs::run_blank_on, crate::proofs::Runs::run_blank_stop))]
-fn after_blank(text: &str) -> Option<&str>
-    ensures found { MatchOption result ((run is_blank text.now).1 ≡ text.now) (λ rest. (run is_blank text.now).1 ≡ (run is_blank rest.now).1) }
-    ensures short { IfSome result (λ rest. length rest.now < length text.now) }
-{
-    match first_ascii(text) {
-        None => None,
-        Some((b, rest)) => { if is_blank(b) { Some(rest) } else { None } }
-    }
-}
+/// The most tokens that a text may have.
+pub const MAX_TOKENS: usize = 4096;
 
 /// The text after the blanks at the front.
 fn after_blanks(text: &str) -> &str
     ensures { result.now ≡ (run is_blank text.now).1 }
 {
-    let mut rest = text;
-    while let Some(after) = after_blank(rest) {
-        rest = after;
-    }
+    let (_, rest) = split_run(text, ByteClass::Blank);
     rest
 }
 
 /// The tokens of the text, or the first fault in it from the left, with its place.
 ///
-/// Blanks are space, tab, line feed and carriage return. A text has at most 4,096 tokens, and where
+/// Blanks are space, tab, line feed and carriage return. A text has at most `MAX_TOKENS` tokens, and where
 /// one more would begin, that is the fault. The spans of the tokens rise, each token is read from
 /// its own bytes, and only blanks stand outside the spans.
 #[tactic(auto, using(crate::proofs::LexLoop::begin, crate::proofs::LexLoop::stops_blank, crate::proofs::LexLoop::falls, crate::proofs::LexLoop::finish, crate::proofs::LexLoop::too_many_there, crate::proofs::LexLoop::fails))]
@@ -52,7 +40,7 @@ pub fn lex(alloc: Global, text: &str) -> Result<Sequence<Token>, LexFault>
     let mut rest = after_blanks(text);
     while !rest.is_empty() {
         let start = text.len() - rest.len();
-        if tokens.len() == 4096 {
+        if tokens.len() == MAX_TOKENS {
             return Err(LexFault::TooManyTokens(start));
         }
         match read_token(alloc, start, rest) {

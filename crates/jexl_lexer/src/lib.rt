@@ -8,8 +8,6 @@ mod fault;
 mod front;
 mod laws;
 mod lexer;
-mod names;
-mod numbers;
 mod quotes;
 mod signs;
 mod token;
@@ -17,5 +15,5 @@ mod token_reader;
 
 pub use fault::LexFault;
 pub use laws::one_answer;
-pub use lexer::lex;
+pub use lexer::{MAX_TOKENS, lex};
 pub use token::{Sign, Token, TokenKind};

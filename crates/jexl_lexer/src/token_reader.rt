@@ -1,71 +1,52 @@
 // The token at the front of a text.
 ghost use Rattle.std.specs.Prelude.{◌≡◌, ◌<◌, true};
 ghost use Rattle.jexl_lexer.specs.Answering.{Gives};
-ghost use Rattle.jexl_lexer.specs.Lexing.{is_digit};
-ghost use Rattle.jexl_lexer.specs.Reading.{decimal, token_of, token_part, name_part, other_part, sign_part};
-ghost use Rattle.jexl_lexer.specs.Scanning.{first_sign, all_signs};
+ghost use Rattle.jexl_lexer.specs.Lexing.{is_digit, is_start};
+ghost use Rattle.jexl_lexer.specs.Reading.{decimal, token_of, other_part, sign_part};
+ghost use Rattle.jexl_lexer.specs.Scanning.{Starts, first_sign, all_signs};
 
 use crate::fault::LexFault;
-use crate::front::{first_ascii, is_digit, is_quote, is_start};
-use crate::names::name;
-use crate::numbers::digits;
+use crate::front::{ByteClass, first_ascii, is_quote, is_start, split_run};
 use crate::quotes::quoted_text;
 use crate::signs::longest_sign;
 use crate::token::TokenKind;
+use sequences::Text;
 use std::alloc::Global;
 
 /// Whether a dot and a digit stand in front.
-#[tactic(auto, using(crate::proofs::TokenFront::decimal_big, crate::proofs::TokenFront::decimal_other, crate::proofs::TokenFront::decimal_dot_big, crate::proofs::TokenFront::decimal_dot))]
 fn has_fraction(text: &str) -> bool
     ensures { result ≡ decimal text.now }
 {
-    match first_ascii(text) {
-        None => false,
-        Some((dot, rest)) => {
-            if dot == b'.' {
-                match first_ascii(rest) {
-                    None => false,
-                    Some((digit, _)) => is_digit(digit),
-                }
-            } else {
-                false
-            }
-        }
+    match text.as_bytes() {
+        [b'.', digit, ..] => digit.is_ascii_digit(),
+        _ => false,
     }
 }
 
-/// The number that begins with this digit.
+/// The number at the front.
 #[tactic(auto, using(crate::proofs::TokenFront::number_decimal, crate::proofs::TokenFront::number_small, crate::proofs::TokenFront::number_big))]
-fn number_token(place: usize, first: u8, text: &str) -> Result<(TokenKind, &str), LexFault>
-    requires { is_digit first ≡ true }
-    ensures { Gives place (λ x. (x.0, x.1.now)) result (token_part first text.now true) }
+fn number_token(place: usize, text: &str) -> Result<(TokenKind, &str), LexFault>
+    requires { Starts is_digit text.now }
+    ensures { Gives place (λ x. (x.0, x.1.now)) result (token_of text.now) }
 {
-    let (value, rest) = digits(u64::from(first - b'0'), text);
+    let (digits, rest) = split_run(text, ByteClass::Digit);
     if has_fraction(rest) {
         return Err(LexFault::Decimal(place));
     }
-    if value < 9223372036854775808 {
-        Ok((TokenKind::Number(value as i64), rest))
-    } else {
-        Err(LexFault::BigNumber(place))
+    match digits.parse::<i64>() {
+        Ok(value) => Ok((TokenKind::Number(value), rest)),
+        Err(_) => Err(LexFault::BigNumber(place)),
     }
 }
 
-/// The name that begins with this byte.
+/// The name at the front.
 #[tactic(auto, using(crate::proofs::TokenFront::name_found))]
-fn name_token(
-    alloc: Global,
-    place: usize,
-    first: u8,
-    text: &str,
-) -> Result<(TokenKind, &str), LexFault>
-    requires { first < 128 }
-    ensures { Gives place (λ x. (x.0, x.1.now)) result (name_part first text.now true) }
+fn name_token(alloc: Global, place: usize, text: &str) -> Result<(TokenKind, &str), LexFault>
+    requires { Starts is_start text.now }
+    ensures { Gives place (λ x. (x.0, x.1.now)) result (token_of text.now) }
 {
-    match name(alloc, first, text) {
-        Ok((word, rest)) => Ok((TokenKind::Name(word), rest)),
-        Err(_) => Err(LexFault::OutOfMemory),
-    }
+    let (name, rest) = split_run(text, ByteClass::Word);
+    Ok((TokenKind::Name(Text::new(alloc, name)?), rest))
 }
 
 /// The quoted text after this quote.
@@ -98,19 +79,19 @@ fn sign_token(place: usize, text: &str) -> Result<(TokenKind, &str), LexFault>
 }
 
 /// The token at the front, and the text after it.
-#[tactic(auto, using(crate::proofs::TokenFront::token_big, crate::proofs::TokenFront::token_digit, crate::proofs::TokenFront::token_name, crate::proofs::TokenFront::token_quote, crate::proofs::TokenFront::token_sign, crate::proofs::TokenFront::quote_low))]
+#[tactic(auto, using(crate::proofs::TokenFront::starts, crate::proofs::TokenFront::token_big, crate::proofs::TokenFront::token_quote, crate::proofs::TokenFront::token_sign, crate::proofs::TokenFront::quote_low))]
 pub fn read_token(alloc: Global, place: usize, text: &str) -> Result<(TokenKind, &str), LexFault>
     ensures { Gives place (λ x. (x.0, x.1.now)) result (token_of text.now) }
 {
     match first_ascii(text) {
         None => Err(LexFault::BadChar(place)),
-        Some((b, rest)) => {
-            if is_digit(b) {
-                number_token(place, b, rest)
-            } else if is_start(b) {
-                name_token(alloc, place, b, rest)
-            } else if is_quote(b) {
-                quoted_token(alloc, place, b, rest)
+        Some((first, rest)) => {
+            if first.is_ascii_digit() {
+                number_token(place, text)
+            } else if is_start(first) {
+                name_token(alloc, place, text)
+            } else if is_quote(first) {
+                quoted_token(alloc, place, first, rest)
             } else {
                 sign_token(place, text)
             }

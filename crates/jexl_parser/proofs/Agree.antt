@@ -6,9 +6,9 @@ use Rattle.jexl_lexer.specs.declared.token.TokenKind.{TokenKind}
 use Rattle.jexl_lexer.specs.declared.token.TokenKind.TheVariants as kinds
 use Rattle.jexl_parser.specs.declared.node.BinarySign.{BinarySign}
 use Rattle.jexl_parser.specs.declared.front.Suffix.{Suffix}
-use Rattle.jexl_parser.specs.declared.front.Suffix.TheVariants.{MemberSuffix, BracketSuffix, TransformSuffix, NoSuffix}
+use Rattle.jexl_parser.specs.declared.front.Suffix.TheVariants as suffixes
 use Rattle.jexl_parser.specs.declared.front.Opening.{Opening}
-use Rattle.jexl_parser.specs.declared.front.Opening.TheVariants.{MinusOpening, DotOpening, RoundOpening, SquareOpening, BraceOpening, NoOpening}
+use Rattle.jexl_parser.specs.declared.front.Opening.TheVariants as openings
 use Rattle.jexl_parser.specs.Tree.{Items, Members, none, no_pair}
 use Rattle.jexl_parser.specs.Seen.{Seen, cap, seen_member, seen_bracket, seen_binary, seen_args, seen_item, seen_pair}
 use Rattle.jexl_parser.specs.Grammar.{level_of, Symbol, sign}
@@ -89,22 +89,22 @@ module _ (limit : ℕ) where
     agree_transform a ts le (Some n) e = agree_args a n.0 n.1 (omega (arith, ap length (plain_is ts n e).front)) (after signs.LeftRound n.1) refl
 
     agree_suffix : (a : Seen) (ts us : List TokenKind) (o : Suffix) → length us < top → (suffix_part limit) f a ts us o ≡ (suffix_part limit) g a ts us o
-    agree_suffix a ts us NoSuffix lt = refl
-    agree_suffix a ts us MemberSuffix lt = agree_member a us (omega arith) (name_at us) refl
-    agree_suffix a ts us BracketSuffix lt = bind_agree _ _ _ _ (k AnExpr us lt) (λ b r. let s = taken_le (h AnExpr us b r) in agree_square a b.0 b.1 (omega arith) (after signs.RightSquare b.1) refl)
-    agree_suffix a ts us TransformSuffix lt = agree_transform a us (omega arith) (plain_at us) refl
+    agree_suffix a ts us suffixes.None lt = refl
+    agree_suffix a ts us suffixes.Member lt = agree_member a us (omega arith) (name_at us) refl
+    agree_suffix a ts us suffixes.Bracket lt = bind_agree _ _ _ _ (k AnExpr us lt) (λ b r. let s = taken_le (h AnExpr us b r) in agree_square a b.0 b.1 (omega arith) (after signs.RightSquare b.1) refl)
+    agree_suffix a ts us suffixes.Transform lt = agree_transform a us (omega arith) (plain_at us) refl
 
     agree_suffixes : (a : Seen) (ts : List TokenKind) → length ts ≤ top → (suffixes_part limit) f a ts ≡ (suffixes_part limit) g a ts
     agree_suffixes a [] le = refl
     agree_suffixes a (q ∷ qs) le = agree_suffix a (q ∷ qs) qs (suffix_of q) (omega arith)
 
     agree_opening : (ks : List TokenKind) (o : Opening) → length ks < top → (opening_part limit) f ks o ≡ (opening_part limit) g ks o
-    agree_opening ks MinusOpening lt = refl
-    agree_opening ks DotOpening lt = refl
-    agree_opening ks RoundOpening lt = bind_agree _ _ _ _ (k AnExpr ks lt) (λ a r. refl)
-    agree_opening ks SquareOpening lt = k (UpTo signs.RightSquare) ks lt
-    agree_opening ks BraceOpening lt = k ToBrace ks lt
-    agree_opening ks NoOpening lt = refl
+    agree_opening ks openings.Minus lt = refl
+    agree_opening ks openings.Dot lt = refl
+    agree_opening ks openings.Round lt = bind_agree _ _ _ _ (k AnExpr ks lt) (λ a r. refl)
+    agree_opening ks openings.Square lt = k (UpTo signs.RightSquare) ks lt
+    agree_opening ks openings.Brace lt = k ToBrace ks lt
+    agree_opening ks openings.None lt = refl
 
     agree_primary : (ts : List TokenKind) → length ts ≤ top → (primary_part limit) f ts ≡ (primary_part limit) g ts
     agree_primary [] le = refl

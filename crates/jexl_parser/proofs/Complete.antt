@@ -10,9 +10,9 @@ use Rattle.jexl_lexer.specs.declared.token.TokenKind.TheVariants as kinds
 use Rattle.jexl_parser.specs.declared.node.BinarySign.{BinarySign}
 use Rattle.jexl_parser.specs.Tokens.{same_sign, is_sign}
 use Rattle.jexl_parser.specs.declared.front.Word.{Word}
-use Rattle.jexl_parser.specs.declared.front.Word.TheVariants.{InWord}
+use Rattle.jexl_parser.specs.declared.front.Word.TheVariants as words
 use Rattle.jexl_parser.specs.declared.front.Suffix.{Suffix}
-use Rattle.jexl_parser.specs.declared.front.Suffix.TheVariants.{NoSuffix}
+use Rattle.jexl_parser.specs.declared.front.Suffix.TheVariants as suffixes
 use Rattle.jexl_parser.specs.Words.{word_of}
 use Rattle.jexl_parser.specs.Tree.{Whole, Tree, Literal, Items, Members, none, no_pair}
 use Rattle.jexl_parser.specs.Seen.{Seen, cap, seen_not, seen_bracket, seen_binary, seen_or_else, seen_choose, seen_args, seen_item, seen_pair}
@@ -46,7 +46,7 @@ tightness_of_sign signs.LeftRound = 7
 tightness_of_sign _ = 0
 
 abbrev pub tightness_of_word : Word → ℕ
-tightness_of_word InWord = 3
+tightness_of_word words.In = 3
 tightness_of_word _ = 0
 
 abbrev pub tightness : TokenKind → ℕ
@@ -91,7 +91,7 @@ tightness_sign signs.Caret = refl
 tightness_sign _ = tt
 
 tightness_word : (w : Word) → IfSome (operator_of_word w) (λ o. tightness_of_word w ≡ suc (level_of o))
-tightness_word InWord = refl
+tightness_word words.In = refl
 tightness_word _ = tt
 
 tightness_operator : (k : TokenKind) → IfSome (operator_of k) (λ o. tightness k ≡ suc (level_of o))
@@ -111,13 +111,13 @@ not_operator : (n m : ℕ) (ts : List TokenKind) → n ≤ m → Ends n ts → o
 not_operator n m [] le h = refl
 not_operator n m (k ∷ ks) le h = not_operator_by n m k ks le h (operator_of k) refl
 
-no_suffix_sign : (s : Sign) → tightness_of_sign s ≤ 6 → suffix_of_sign s ≡ NoSuffix
+no_suffix_sign : (s : Sign) → tightness_of_sign s ≤ 6 → suffix_of_sign s ≡ suffixes.None
 no_suffix_sign signs.Dot h = absurd (omega arith)
 no_suffix_sign signs.LeftSquare h = absurd (omega arith)
 no_suffix_sign signs.Bar h = absurd (omega arith)
 no_suffix_sign _ h = refl
 
-no_suffix : (k : TokenKind) → tightness k ≤ 6 → suffix_of k ≡ NoSuffix
+no_suffix : (k : TokenKind) → tightness k ≤ 6 → suffix_of k ≡ suffixes.None
 no_suffix (kinds.Number n) h = refl
 no_suffix (kinds.Quoted q) h = refl
 no_suffix (kinds.Name n) h = refl

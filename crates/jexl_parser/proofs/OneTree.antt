@@ -3,6 +3,7 @@ use Rattle.std.proofs.Common.{◌≡◌, ℕ, ◌<◌, ◌≤◌, Bool, true, fa
 use Rattle.std.proofs.lemmas.List.{append-nil}
 use Rattle.std.proofs.lemmas.Bool.{le-leb}
 use Rattle.jexl_lexer.specs.declared.token.TokenKind.{TokenKind}
+use Rattle.jexl_parser.specs.declared.node.TheConstants.{MAX_HEIGHT}
 use Rattle.jexl_parser.specs.Tree.{Tree, height, has_relative}
 use Rattle.jexl_parser.specs.Seen.{Seen, fit, cap}
 use Rattle.jexl_parser.specs.Grammar.{Expr, Spells, SpellsTree}
@@ -36,23 +37,23 @@ pub one_tree : OneTree
 one_tree ts t u d e = one_spelled ts t u d.spelled e.spelled
 
 -- where nothing is read there is no tree
-pub none_there : (ts : List TokenKind) → read_of 512 AnExpr ts ≡ None → (t : Tree) → SpellsTree ts t → ⊥
-none_there ts r t d = let e = read_all 512 ts t d.spelled in cc
+pub none_there : (ts : List TokenKind) → read_of MAX_HEIGHT AnExpr ts ≡ None → (t : Tree) → SpellsTree ts t → ⊥
+none_there ts r t d = let e = read_all MAX_HEIGHT ts t d.spelled in cc
 
 -- nor where tokens are left, or a relative name stands outside
-pub none_left : (ts : List TokenKind) (x : Seen) (k : TokenKind) (ks : List TokenKind) → read_of 512 AnExpr ts ≡ Some (x, k ∷ ks) → (t : Tree) → SpellsTree ts t → ⊥
+pub none_left : (ts : List TokenKind) (x : Seen) (k : TokenKind) (ks : List TokenKind) → read_of MAX_HEIGHT AnExpr ts ≡ Some (x, k ∷ ks) → (t : Tree) → SpellsTree ts t → ⊥
 none_left ts x k ks r t d =
-    let p : Seen × List TokenKind = (cap 512 t, []) in
+    let p : Seen × List TokenKind = (cap MAX_HEIGHT t, []) in
     let q : Seen × List TokenKind = (x, k ∷ ks) in
-    let same : p ≡ q = some_is p q (sym (read_all 512 ts t d.spelled) ∙ r) in
+    let same : p ≡ q = some_is p q (sym (read_all MAX_HEIGHT ts t d.spelled) ∙ r) in
     let rests : [] ≡ k ∷ ks = ap (λ (z : Seen × List TokenKind). z.1) same in
     cc
 
-pub none_closed : (ts : List TokenKind) (x : Seen) (rest : List TokenKind) → read_of 512 AnExpr ts ≡ Some (x, rest) → x.relative ≡ true → (t : Tree) → SpellsTree ts t → ⊥
+pub none_closed : (ts : List TokenKind) (x : Seen) (rest : List TokenKind) → read_of MAX_HEIGHT AnExpr ts ≡ Some (x, rest) → x.relative ≡ true → (t : Tree) → SpellsTree ts t → ⊥
 none_closed ts x rest r open_name t d =
-    let p : Seen × List TokenKind = (cap 512 t, []) in
+    let p : Seen × List TokenKind = (cap MAX_HEIGHT t, []) in
     let q : Seen × List TokenKind = (x, rest) in
-    let same : p ≡ q = some_is p q (sym (read_all 512 ts t d.spelled) ∙ r) in
+    let same : p ≡ q = some_is p q (sym (read_all MAX_HEIGHT ts t d.spelled) ∙ r) in
     let names : has_relative t ≡ x.relative = ap (λ (z : Seen × List TokenKind). z.0.relative) same in
     let closed = d.closed in
     cc
@@ -61,19 +62,19 @@ none_closed ts x rest r open_name t d =
 pub record Found (ts : List TokenKind) (x : Seen) : Type 0 where
   pub tree : Tree
   pub spells : SpellsTree ts tree
-  pub kept : x ≡ cap 512 tree
+  pub kept : x ≡ cap MAX_HEIGHT tree
 
-pub found : (ts : List TokenKind) (x : Seen) → read_of 512 AnExpr ts ≡ Some (x, []) → x.relative ≡ false → Found ts x
+pub found : (ts : List TokenKind) (x : Seen) → read_of MAX_HEIGHT AnExpr ts ≡ Some (x, []) → x.relative ≡ false → Found ts x
 found ts x r no_names =
-    let t = read_sound 512 AnExpr ts (x, []) r in
+    let t = read_sound MAX_HEIGHT AnExpr ts (x, []) r in
     let names : has_relative t.tree ≡ false = sym (ap (λ (z : Seen). z.relative) t.kept) ∙ no_names in
     record { tree = t.tree; spells = record { spelled = subst (λ (w : List TokenKind). Spells Expr w t.tree) (sym (t.parts ∙ append-nil t.used)) t.spelled; closed = names }; kept = t.kept }
 
 -- where the tree was kept it is that tree
-pub found_small : (ts : List TokenKind) (x : Seen) (u : Tree) → Found ts x → x.tree ≡ Some u → SpellsTree ts u × (height u ≤ 512)
+pub found_small : (ts : List TokenKind) (x : Seen) (u : Tree) → Found ts x → x.tree ≡ Some u → SpellsTree ts u × (height u ≤ MAX_HEIGHT)
 found_small ts x u f e =
-    let same = fit_is 512 f.tree u (sym (ap (λ (z : Seen). z.tree) f.kept) ∙ e) in
+    let same = fit_is MAX_HEIGHT f.tree u (sym (ap (λ (z : Seen). z.tree) f.kept) ∙ e) in
     (subst (λ (v : Tree). SpellsTree ts v) same.0 f.spells, same.1)
 
-pub found_tall : (ts : List TokenKind) (x : Seen) (f : Found ts x) → x.tree ≡ None → 512 < height f.tree
-found_tall ts x f e = fit_not 512 f.tree (sym (ap (λ (z : Seen). z.tree) f.kept) ∙ e)
+pub found_tall : (ts : List TokenKind) (x : Seen) (f : Found ts x) → x.tree ≡ None → MAX_HEIGHT < height f.tree
+found_tall ts x f e = fit_not MAX_HEIGHT f.tree (sym (ap (λ (z : Seen). z.tree) f.kept) ∙ e)

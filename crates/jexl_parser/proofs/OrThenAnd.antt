@@ -1,5 +1,5 @@
 -- The tree of `a || b && c`.
-use Rattle.std.proofs.Common.{◌≡◌, List, ◌∷◌, ◌++◌, refl, subst, append_assoc}
+use Rattle.std.proofs.Common.{List, ◌∷◌, ◌++◌, refl, subst, append_assoc}
 use Rattle.jexl_lexer.specs.declared.token.TokenKind.{TokenKind}
 use Rattle.jexl_lexer.specs.declared.token.Sign.TheVariants as signs
 use Rattle.jexl_parser.specs.declared.node.BinarySign.TheVariants as binary

@@ -7,11 +7,11 @@ use Rattle.jexl_lexer.specs.declared.token.TokenKind.{TokenKind}
 use Rattle.jexl_lexer.specs.declared.token.TokenKind.TheVariants as kinds
 use Rattle.jexl_parser.specs.declared.node.BinarySign.{BinarySign}
 use Rattle.jexl_parser.specs.declared.front.Word.{Word}
-use Rattle.jexl_parser.specs.declared.front.Word.TheVariants.{PlainWord, InWord, TrueWord, FalseWord, NullWord}
+use Rattle.jexl_parser.specs.declared.front.Word.TheVariants as words
 use Rattle.jexl_parser.specs.declared.front.Suffix.{Suffix}
-use Rattle.jexl_parser.specs.declared.front.Suffix.TheVariants.{MemberSuffix, BracketSuffix, TransformSuffix, NoSuffix}
+use Rattle.jexl_parser.specs.declared.front.Suffix.TheVariants as suffixes
 use Rattle.jexl_parser.specs.declared.front.Opening.{Opening}
-use Rattle.jexl_parser.specs.declared.front.Opening.TheVariants.{MinusOpening, DotOpening, RoundOpening, SquareOpening, BraceOpening, NoOpening}
+use Rattle.jexl_parser.specs.declared.front.Opening.TheVariants as openings
 use Rattle.jexl_parser.specs.Words.{word_of}
 use Rattle.jexl_parser.specs.Tree.{Null, Truth, Whole, Quote, Tree, Literal, Named, Relative, Items, Members, Member, Index, Filter, Transform, Not, Binary, Choose, OrElse, Trees, none, one_more, Pairs, no_pair, pair, add, add_pair, has_relative}
 use Rattle.jexl_parser.specs.Seen.{Seen, cap, seen_not, seen_member, seen_bracket, seen_binary, seen_or_else, seen_choose, seen_args, seen_item, seen_pair}
@@ -101,7 +101,7 @@ module _ (limit : ℕ) where
       let l = exprs_are d in
       record { tree = Items (add l.0 b); spelled = next_expr (subst (λ (t : Tree). Spells Exprs us t) l.1 d) e; kept = (kept_item limit) s r l.0 b (ea ∙ ap (cap limit) l.1) eb }
 
-  args_both : (us vs : List TokenKind) (s r : Seen) (a b : Tree) (n : List ℕ) → word_of n ≡ PlainWord → s ≡ (cap limit) a → r ≡ (cap limit) b → Spells Postfix us a → Spells Args vs b
+  args_both : (us vs : List TokenKind) (s r : Seen) (a b : Tree) (n : List ℕ) → word_of n ≡ words.Plain → s ≡ (cap limit) a → r ≡ (cap limit) b → Spells Postfix us a → Spells Args vs b
       → Both Postfix (us ++ (sign signs.Bar ∷ kinds.Name n ∷ sign signs.LeftRound ∷ (vs ++ (sign signs.RightRound ∷ [])))) ((seen_args limit) s n r)
   args_both us vs s r a b n p ea eb d e =
       let l = args_are e in
@@ -206,7 +206,7 @@ module _ (limit : ℕ) where
         let e1 : (us ++ inner) ++ n.1 ≡ us ++ (dot ∷ ts) = append_assoc us inner n.1 ∙ ap (λ (w : List TokenKind). us ++ (dot ∷ w)) (sym (name_is ts n e)) in
         subst (λ (w : List TokenKind). Taken Postfix w x.0 x.1) e1 g
 
-    sound_args : (us : List TokenKind) (s : Seen) (a : Tree) (n : List ℕ) (ts : List TokenKind) → s ≡ (cap limit) a → word_of n ≡ PlainWord → Spells Postfix us a → (o : Option (List TokenKind)) → after signs.LeftRound ts ≡ o → (x : Seen × List TokenKind) → (args_part limit) f s n ts o ≡ Some x → Taken Postfix (us ++ (sign signs.Bar ∷ kinds.Name n ∷ ts)) x.0 x.1
+    sound_args : (us : List TokenKind) (s : Seen) (a : Tree) (n : List ℕ) (ts : List TokenKind) → s ≡ (cap limit) a → word_of n ≡ words.Plain → Spells Postfix us a → (o : Option (List TokenKind)) → after signs.LeftRound ts ≡ o → (x : Seen × List TokenKind) → (args_part limit) f s n ts o ≡ Some x → Taken Postfix (us ++ (sign signs.Bar ∷ kinds.Name n ∷ ts)) x.0 x.1
     sound_args us s a n ts ea p d None e x r =
         let inner = sign signs.Bar ∷ kinds.Name n ∷ [] in
         let g = h (Suffixes ((seen_args limit) s n ((cap limit) (Items none)))) ts x r (us ++ inner) (Transform a n none) ((kept_args limit) s ((cap limit) (Items none)) a n none ea refl) (transform n p d) in
@@ -230,16 +230,16 @@ module _ (limit : ℕ) where
         subst (λ (w : List TokenKind). Taken Postfix (us ++ (sign signs.Bar ∷ w)) x.0 x.1) (sym p.front) (sound_args us s a n.0 n.1 ea p.plain d (after signs.LeftRound n.1) refl x r)
 
     sound_suffix : (s : Seen) (k : TokenKind) (ks : List TokenKind) (o : Suffix) → suffix_of k ≡ o → (x : Seen × List TokenKind) → (suffix_part limit) f s (k ∷ ks) ks o ≡ Some x → Sound (Suffixes s) (k ∷ ks) x.0 x.1
-    sound_suffix s k ks NoSuffix e x r us a ea d =
+    sound_suffix s k ks suffixes.None e x r us a ea d =
         subst (λ (y : Seen × List TokenKind). Taken Postfix (us ++ (k ∷ ks)) y.0 y.1) (some_is (s, k ∷ ks) x r) (record { used = us; tree = a; parts = refl; spelled = d; kept = ea })
-    sound_suffix s k ks MemberSuffix e x r us a ea d =
+    sound_suffix s k ks suffixes.Member e x r us a ea d =
         subst (λ (q : TokenKind). Taken Postfix (us ++ (q ∷ ks)) x.0 x.1) (sym (member_suffix_is k e)) (sound_member us s a ks ea d (name_at ks) refl x r)
-    sound_suffix s k ks BracketSuffix e x r us a ea d =
+    sound_suffix s k ks suffixes.Bracket e x r us a ea d =
         let b = bind_ok (f AnExpr ks) (λ b. (square_part limit) f s b.0 (after signs.RightSquare b.1)) x r in
         let t = h AnExpr ks b.0 b.1 in
         let g = sound_square us t.used s b.0.0 a t.tree b.0.1 ea t.kept d t.spelled (after signs.RightSquare b.0.1) refl x b.2 in
         subst (λ (q : TokenKind). Taken Postfix (us ++ (q ∷ ks)) x.0 x.1) (sym (bracket_suffix_is k e)) (subst (λ (w : List TokenKind). Taken Postfix (us ++ (sign signs.LeftSquare ∷ w)) x.0 x.1) (sym t.parts) g)
-    sound_suffix s k ks TransformSuffix e x r us a ea d =
+    sound_suffix s k ks suffixes.Transform e x r us a ea d =
         subst (λ (q : TokenKind). Taken Postfix (us ++ (q ∷ ks)) x.0 x.1) (sym (transform_suffix_is k e)) (sound_transform us s a ks ea d (plain_at ks) refl x r)
 
     sound_suffixes : (s : Seen) (ts : List TokenKind) (x : Seen × List TokenKind) → (suffixes_part limit) f s ts ≡ Some x → Sound (Suffixes s) ts x.0 x.1
@@ -255,40 +255,40 @@ module _ (limit : ℕ) where
         subst (λ (y : Seen × List TokenKind). Taken Primary (left ∷ (vs ++ ts)) y.0 y.1) (some_is (s, ws) x r) (record { used = left ∷ (vs ++ (right ∷ [])); tree = a; parts = e1; spelled = group d; kept = ea })
 
     sound_opening : (s : Sign) (ks : List TokenKind) (o : Opening) → opening_of s ≡ o → (x : Seen × List TokenKind) → (opening_part limit) f ks o ≡ Some x → Taken Primary (kinds.Sign s ∷ ks) x.0 x.1
-    sound_opening s ks MinusOpening e x r =
+    sound_opening s ks openings.Minus e x r =
         let n = bind_ok (number_at ks) (λ n. Some ((cap limit) (Literal (Whole (neg_ℤ n.0))), n.1)) x r in
         let e1 : kinds.Sign s ∷ ks ≡ (sign signs.Minus ∷ kinds.Number n.0.0 ∷ []) ++ n.0.1 = let p = minus_opening_is s e in let q = (number_is ks n.0 n.1).front in cc in
         let t = Literal (Whole (neg_ℤ n.0.0)) in
         subst (λ (y : Seen × List TokenKind). Taken Primary (kinds.Sign s ∷ ks) y.0 y.1) (some_is ((cap limit) t, n.0.1) x n.2) (record { used = sign signs.Minus ∷ kinds.Number n.0.0 ∷ []; tree = t; parts = e1; spelled = negative n.0.0 (number_is ks n.0 n.1).natural; kept = refl })
-    sound_opening s ks DotOpening e x r =
+    sound_opening s ks openings.Dot e x r =
         let n = bind_ok (name_at ks) (λ n. Some ((cap limit) (Relative n.0), n.1)) x r in
         let e1 : kinds.Sign s ∷ ks ≡ (sign signs.Dot ∷ kinds.Name n.0.0 ∷ []) ++ n.0.1 = let p = dot_opening_is s e in let q = name_is ks n.0 n.1 in cc in
         subst (λ (y : Seen × List TokenKind). Taken Primary (kinds.Sign s ∷ ks) y.0 y.1) (some_is ((cap limit) (Relative n.0.0), n.0.1) x n.2) (record { used = sign signs.Dot ∷ kinds.Name n.0.0 ∷ []; tree = Relative n.0.0; parts = e1; spelled = relative n.0.0; kept = refl })
-    sound_opening s ks RoundOpening e x r =
+    sound_opening s ks openings.Round e x r =
         let a = bind_ok (f AnExpr ks) (λ a. (closed_part limit) a.0 (after signs.RightRound a.1)) x r in
         let t = h AnExpr ks a.0 a.1 in
         let g = sound_group t.used a.0.0 t.tree a.0.1 t.kept t.spelled (after signs.RightRound a.0.1) refl x a.2 in
         subst (λ (q : Sign). Taken Primary (kinds.Sign q ∷ ks) x.0 x.1) (sym (round_opening_is s e)) (subst (λ (w : List TokenKind). Taken Primary (sign signs.LeftRound ∷ w) x.0 x.1) (sym t.parts) g)
-    sound_opening s ks SquareOpening e x r =
+    sound_opening s ks openings.Square e x r =
         let t = h (UpTo signs.RightSquare) ks x r in
         let left = sign signs.LeftSquare in
         let right = sign signs.RightSquare in
         let e1 : left ∷ ks ≡ (left ∷ (t.used ++ (right ∷ []))) ++ x.1 = ap (λ (w : List TokenKind). left ∷ w) (t.parts ∙ sym (append_assoc t.used (right ∷ []) x.1)) in
         subst (λ (q : Sign). Taken Primary (kinds.Sign q ∷ ks) x.0 x.1) (sym (square_opening_is s e)) (record { used = left ∷ (t.used ++ (right ∷ [])); tree = t.tree; parts = e1; spelled = items t.spelled; kept = t.kept })
-    sound_opening s ks BraceOpening e x r =
+    sound_opening s ks openings.Brace e x r =
         let t = h ToBrace ks x r in
         let left = sign signs.LeftBrace in
         let right = sign signs.RightBrace in
         let e1 : left ∷ ks ≡ (left ∷ (t.used ++ (right ∷ []))) ++ x.1 = ap (λ (w : List TokenKind). left ∷ w) (t.parts ∙ sym (append_assoc t.used (right ∷ []) x.1)) in
         subst (λ (q : Sign). Taken Primary (kinds.Sign q ∷ ks) x.0 x.1) (sym (brace_opening_is s e)) (record { used = left ∷ (t.used ++ (right ∷ [])); tree = t.tree; parts = e1; spelled = object t.spelled; kept = t.kept })
-    sound_opening s ks NoOpening e x r = absurd cc
+    sound_opening s ks openings.None e x r = absurd cc
 
     sound_word : (n : List ℕ) (ks : List TokenKind) (w : Word) → word_of n ≡ w → (x : Seen × List TokenKind) → (word_part limit) n ks w ≡ Some x → Taken Primary (kinds.Name n ∷ ks) x.0 x.1
-    sound_word n ks PlainWord e x r = one_token (kinds.Name n) ks (Named n) x (name n e) r
-    sound_word n ks InWord e x r = absurd cc
-    sound_word n ks TrueWord e x r = one_token (kinds.Name n) ks (Literal (Truth true)) x (truth n e) r
-    sound_word n ks FalseWord e x r = one_token (kinds.Name n) ks (Literal (Truth false)) x (falsity n e) r
-    sound_word n ks NullWord e x r = one_token (kinds.Name n) ks (Literal Null) x (null n e) r
+    sound_word n ks words.Plain e x r = one_token (kinds.Name n) ks (Named n) x (name n e) r
+    sound_word n ks words.In e x r = absurd cc
+    sound_word n ks words.True e x r = one_token (kinds.Name n) ks (Literal (Truth true)) x (truth n e) r
+    sound_word n ks words.False e x r = one_token (kinds.Name n) ks (Literal (Truth false)) x (falsity n e) r
+    sound_word n ks words.Null e x r = one_token (kinds.Name n) ks (Literal Null) x (null n e) r
 
     sound_primary : (ts : List TokenKind) (x : Seen × List TokenKind) → (primary_part limit) f ts ≡ Some x → Taken Primary ts x.0 x.1
     sound_primary [] x r = absurd cc

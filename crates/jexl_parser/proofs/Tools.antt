@@ -9,9 +9,9 @@ use Rattle.jexl_lexer.specs.declared.token.TokenKind.TheVariants as kinds
 use Rattle.jexl_parser.specs.declared.node.BinarySign.{BinarySign}
 use Rattle.jexl_parser.specs.declared.node.BinarySign.TheVariants as binary
 use Rattle.jexl_parser.specs.declared.front.Word.{Word}
-use Rattle.jexl_parser.specs.declared.front.Word.TheVariants.{PlainWord}
-use Rattle.jexl_parser.specs.declared.front.Suffix.TheVariants.{MemberSuffix, BracketSuffix, TransformSuffix}
-use Rattle.jexl_parser.specs.declared.front.Opening.TheVariants.{MinusOpening, DotOpening, RoundOpening, SquareOpening, BraceOpening}
+use Rattle.jexl_parser.specs.declared.front.Word.TheVariants as words
+use Rattle.jexl_parser.specs.declared.front.Suffix.TheVariants as suffixes
+use Rattle.jexl_parser.specs.declared.front.Opening.TheVariants as openings
 use Rattle.jexl_parser.specs.Words.{word_of}
 use Rattle.jexl_parser.specs.Tokens.{place, same_sign, is_sign}
 use Rattle.jexl_parser.specs.Grammar.{operator_of, level_of, key_of}
@@ -104,10 +104,10 @@ number_is (kinds.Sign s ∷ ks) x e = absurd cc
 -- a plain name at the front
 pub record IsPlain (ts : List TokenKind) (n : List ℕ) (us : List TokenKind) : Type 0 where
   pub front : ts ≡ kinds.Name n ∷ us
-  pub plain : word_of n ≡ PlainWord
+  pub plain : word_of n ≡ words.Plain
 
 plain_by : (n : List ℕ) (ks : List TokenKind) (x : List ℕ × List TokenKind) (w : Word) → word_of n ≡ w → if_plain n ks w ≡ Some x → IsPlain (kinds.Name n ∷ ks) x.0 x.1
-plain_by n ks x PlainWord t e = subst (λ (y : List ℕ × List TokenKind). IsPlain (kinds.Name n ∷ ks) y.0 y.1) (some_is (n, ks) x e) (record { front = refl; plain = t })
+plain_by n ks x words.Plain t e = subst (λ (y : List ℕ × List TokenKind). IsPlain (kinds.Name n ∷ ks) y.0 y.1) (some_is (n, ks) x e) (record { front = refl; plain = t })
 plain_by n ks x _ t e = absurd cc
 
 pub plain_is : (ts : List TokenKind) (x : List ℕ × List TokenKind) → plain_at ts ≡ Some x → IsPlain ts x.0 x.1
@@ -161,53 +161,53 @@ operator_below j k us o t e =
     below_by j o us (nat_le j (level_of o)) refl g
 
 -- the sign that a suffix or an opening comes from
-member_suffix_sign : (s : Sign) → suffix_of_sign s ≡ MemberSuffix → s ≡ Dot
+member_suffix_sign : (s : Sign) → suffix_of_sign s ≡ suffixes.Member → s ≡ Dot
 member_suffix_sign Dot e = refl
 member_suffix_sign _ e = absurd cc
 
-bracket_suffix_sign : (s : Sign) → suffix_of_sign s ≡ BracketSuffix → s ≡ LeftSquare
+bracket_suffix_sign : (s : Sign) → suffix_of_sign s ≡ suffixes.Bracket → s ≡ LeftSquare
 bracket_suffix_sign LeftSquare e = refl
 bracket_suffix_sign _ e = absurd cc
 
-transform_suffix_sign : (s : Sign) → suffix_of_sign s ≡ TransformSuffix → s ≡ Bar
+transform_suffix_sign : (s : Sign) → suffix_of_sign s ≡ suffixes.Transform → s ≡ Bar
 transform_suffix_sign Bar e = refl
 transform_suffix_sign _ e = absurd cc
 
-pub member_suffix_is : (k : TokenKind) → suffix_of k ≡ MemberSuffix → k ≡ kinds.Sign Dot
+pub member_suffix_is : (k : TokenKind) → suffix_of k ≡ suffixes.Member → k ≡ kinds.Sign Dot
 member_suffix_is (kinds.Number n) e = absurd cc
 member_suffix_is (kinds.Quoted q) e = absurd cc
 member_suffix_is (kinds.Name n) e = absurd cc
 member_suffix_is (kinds.Sign s) e = ap (λ (q : Sign). kinds.Sign q) (member_suffix_sign s e)
 
-pub bracket_suffix_is : (k : TokenKind) → suffix_of k ≡ BracketSuffix → k ≡ kinds.Sign LeftSquare
+pub bracket_suffix_is : (k : TokenKind) → suffix_of k ≡ suffixes.Bracket → k ≡ kinds.Sign LeftSquare
 bracket_suffix_is (kinds.Number n) e = absurd cc
 bracket_suffix_is (kinds.Quoted q) e = absurd cc
 bracket_suffix_is (kinds.Name n) e = absurd cc
 bracket_suffix_is (kinds.Sign s) e = ap (λ (q : Sign). kinds.Sign q) (bracket_suffix_sign s e)
 
-pub transform_suffix_is : (k : TokenKind) → suffix_of k ≡ TransformSuffix → k ≡ kinds.Sign Bar
+pub transform_suffix_is : (k : TokenKind) → suffix_of k ≡ suffixes.Transform → k ≡ kinds.Sign Bar
 transform_suffix_is (kinds.Number n) e = absurd cc
 transform_suffix_is (kinds.Quoted q) e = absurd cc
 transform_suffix_is (kinds.Name n) e = absurd cc
 transform_suffix_is (kinds.Sign s) e = ap (λ (q : Sign). kinds.Sign q) (transform_suffix_sign s e)
 
-pub minus_opening_is : (s : Sign) → opening_of s ≡ MinusOpening → s ≡ Minus
+pub minus_opening_is : (s : Sign) → opening_of s ≡ openings.Minus → s ≡ Minus
 minus_opening_is Minus e = refl
 minus_opening_is _ e = absurd cc
 
-pub dot_opening_is : (s : Sign) → opening_of s ≡ DotOpening → s ≡ Dot
+pub dot_opening_is : (s : Sign) → opening_of s ≡ openings.Dot → s ≡ Dot
 dot_opening_is Dot e = refl
 dot_opening_is _ e = absurd cc
 
-pub round_opening_is : (s : Sign) → opening_of s ≡ RoundOpening → s ≡ LeftRound
+pub round_opening_is : (s : Sign) → opening_of s ≡ openings.Round → s ≡ LeftRound
 round_opening_is LeftRound e = refl
 round_opening_is _ e = absurd cc
 
-pub square_opening_is : (s : Sign) → opening_of s ≡ SquareOpening → s ≡ LeftSquare
+pub square_opening_is : (s : Sign) → opening_of s ≡ openings.Square → s ≡ LeftSquare
 square_opening_is LeftSquare e = refl
 square_opening_is _ e = absurd cc
 
-pub brace_opening_is : (s : Sign) → opening_of s ≡ BraceOpening → s ≡ LeftBrace
+pub brace_opening_is : (s : Sign) → opening_of s ≡ openings.Brace → s ≡ LeftBrace
 brace_opening_is LeftBrace e = refl
 brace_opening_is _ e = absurd cc
 

@@ -4,6 +4,7 @@ use Rattle.std.specs.Prelude.{Vec}
 use Rattle.std.proofs.lemmas.Bool.{le-leb}
 use Rattle.std.specs.declared.alloc.Global.{Global}
 use Rattle.std.specs.declared.boxed.Box.{Box}
+use Rattle.jexl_parser.specs.declared.node.TheConstants.{MAX_HEIGHT}
 use Rattle.jexl_parser.specs.declared.node.Node.{Node, Row_of-Node, end_of-Node, more_of-Node, items-the_row-Node, items_hidden-the_row-Node-0, Row_of-Node-Members-0-2, end_of-Node-Members-0-2, more_of-Node-Members-0-2, items-the_row-Node-Members-0-2, items_hidden-the_row-Node-Members-0-2-1}
 use Rattle.jexl_parser.specs.declared.node.Node.TheVariants as nodes
 use Rattle.jexl_parser.specs.Tree.{Tree, Items, Members, Transform, Trees, one_more, Pairs, pair, add, add_pair, most, most_of_pairs, height}
@@ -45,23 +46,23 @@ pub pairs_push : (ps : List (List ℕ × Node)) (p : List ℕ × Node) → view_
 pairs_push [] p = refl
 pairs_push (q ∷ ps) p = ap (λ (qs : Pairs). pair q.0 (view q.1) qs) (pairs_push ps p)
 
-pub item_tall : (ts : Trees) (t : Tree) → 512 < max (suc (most ts)) (suc (height t)) → fit 512 (Items (add ts t)) ≡ None
-item_tall ts t h = let e = most_add 512 ts t in fit_none 512 (Items (add ts t)) (omega arith)
+pub item_tall : (ts : Trees) (t : Tree) → MAX_HEIGHT < max (suc (most ts)) (suc (height t)) → fit MAX_HEIGHT (Items (add ts t)) ≡ None
+item_tall ts t h = let e = most_add MAX_HEIGHT ts t in fit_none MAX_HEIGHT (Items (add ts t)) (omega arith)
 
-pub pair_tall : (ps : Pairs) (n : List ℕ) (t : Tree) → 512 < max (suc (most_of_pairs ps)) (suc (height t)) → fit 512 (Members (add_pair ps n t)) ≡ None
-pair_tall ps n t h = let e = most_add_pair 512 ps n t in fit_none 512 (Members (add_pair ps n t)) (omega arith)
+pub pair_tall : (ps : Pairs) (n : List ℕ) (t : Tree) → MAX_HEIGHT < max (suc (most_of_pairs ps)) (suc (height t)) → fit MAX_HEIGHT (Members (add_pair ps n t)) ≡ None
+pair_tall ps n t h = let e = most_add_pair MAX_HEIGHT ps n t in fit_none MAX_HEIGHT (Members (add_pair ps n t)) (omega arith)
 
 pub item_height : (ts : Trees) (t : Tree) → suc (most (add ts t)) ≡ max (suc (most ts)) (suc (height t))
-item_height ts t = let e = most_add 512 ts t in omega arith
+item_height ts t = let e = most_add MAX_HEIGHT ts t in omega arith
 
 pub pair_height : (ps : Pairs) (n : List ℕ) (t : Tree) → suc (most_of_pairs (add_pair ps n t)) ≡ max (suc (most_of_pairs ps)) (suc (height t))
-pair_height ps n t = let e = most_add_pair 512 ps n t in omega arith
+pair_height ps n t = let e = most_add_pair MAX_HEIGHT ps n t in omega arith
 
-pub item_fits : (ts : Trees) (t : Tree) → max (suc (most ts)) (suc (height t)) ≤ 512 → fit 512 (Items (add ts t)) ≡ Some (Items (add ts t))
-item_fits ts t h = let e = most_add 512 ts t in ap (λ (b : Bool). cond b (Some (Items (add ts t))) None) (le-leb (height (Items (add ts t))) 512 (omega arith))
+pub item_fits : (ts : Trees) (t : Tree) → max (suc (most ts)) (suc (height t)) ≤ MAX_HEIGHT → fit MAX_HEIGHT (Items (add ts t)) ≡ Some (Items (add ts t))
+item_fits ts t h = let e = most_add MAX_HEIGHT ts t in ap (λ (b : Bool). cond b (Some (Items (add ts t))) None) (le-leb (height (Items (add ts t))) MAX_HEIGHT (omega arith))
 
-pub pair_fits : (ps : Pairs) (n : List ℕ) (t : Tree) → max (suc (most_of_pairs ps)) (suc (height t)) ≤ 512 → fit 512 (Members (add_pair ps n t)) ≡ Some (Members (add_pair ps n t))
-pair_fits ps n t h = let e = most_add_pair 512 ps n t in ap (λ (b : Bool). cond b (Some (Members (add_pair ps n t))) None) (le-leb (height (Members (add_pair ps n t))) 512 (omega arith))
+pub pair_fits : (ps : Pairs) (n : List ℕ) (t : Tree) → max (suc (most_of_pairs ps)) (suc (height t)) ≤ MAX_HEIGHT → fit MAX_HEIGHT (Members (add_pair ps n t)) ≡ Some (Members (add_pair ps n t))
+pair_fits ps n t h = let e = most_add_pair MAX_HEIGHT ps n t in ap (λ (b : Bool). cond b (Some (Members (add_pair ps n t))) None) (le-leb (height (Members (add_pair ps n t))) MAX_HEIGHT (omega arith))
 
 pub transform_height : (b : Box Node Global) (n : List ℕ) (v : Vec Node Global) → height (view (nodes.Transform b n v)) ≡ suc (max (height (view b.value)) (most (views v.items)))
 transform_height b n v = ap height (view_transform b n v)

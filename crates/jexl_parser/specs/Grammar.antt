@@ -7,7 +7,7 @@ use Rattle.jexl_lexer.specs.declared.token.TokenKind.TheVariants as kinds
 use Rattle.jexl_parser.specs.declared.node.BinarySign.{BinarySign}
 use Rattle.jexl_parser.specs.declared.node.BinarySign.TheVariants as binary
 use Rattle.jexl_parser.specs.declared.front.Word.{Word}
-use Rattle.jexl_parser.specs.declared.front.Word.TheVariants.{PlainWord, InWord, TrueWord, FalseWord, NullWord}
+use Rattle.jexl_parser.specs.declared.front.Word.TheVariants as words
 use Rattle.jexl_parser.specs.Words.{word_of}
 use Rattle.jexl_parser.specs.Tree.{Null, Truth, Whole, Quote, Tree, Literal, Named, Relative, Items, Members, Member, Index, Filter, Transform, Not, Binary, Choose, OrElse, Trees, none, one_more, Pairs, no_pair, pair, add, add_pair, has_relative}
 
@@ -30,7 +30,7 @@ operator_of_sign signs.Caret = Some binary.Power
 operator_of_sign _ = None
 
 abbrev pub operator_of_word : Word → Option BinarySign
-operator_of_word InWord = Some binary.Inside
+operator_of_word words.In = Some binary.Inside
 operator_of_word _ = None
 
 abbrev pub operator_of : TokenKind → Option BinarySign
@@ -113,9 +113,9 @@ pub data Spells : Symbol → List TokenKind → Tree → Type 0 where
       → Spells Postfix (us ++ (sign signs.LeftSquare ∷ (vs ++ (sign signs.RightSquare ∷ [])))) (Index a b)
   filter : {us vs : List TokenKind} {a b : Tree} → Spells Postfix us a → Spells Expr vs b → has_relative b ≡ true
       → Spells Postfix (us ++ (sign signs.LeftSquare ∷ (vs ++ (sign signs.RightSquare ∷ [])))) (Filter a b)
-  transform : {ts : List TokenKind} {a : Tree} (n : List ℕ) → word_of n ≡ PlainWord → Spells Postfix ts a
+  transform : {ts : List TokenKind} {a : Tree} (n : List ℕ) → word_of n ≡ words.Plain → Spells Postfix ts a
       → Spells Postfix (ts ++ (sign signs.Bar ∷ kinds.Name n ∷ [])) (Transform a n none)
-  transform_with : {us vs : List TokenKind} {a : Tree} {bs : Trees} (n : List ℕ) → word_of n ≡ PlainWord → Spells Postfix us a → Spells Args vs (Items bs)
+  transform_with : {us vs : List TokenKind} {a : Tree} {bs : Trees} (n : List ℕ) → word_of n ≡ words.Plain → Spells Postfix us a → Spells Args vs (Items bs)
       → Spells Postfix (us ++ (sign signs.Bar ∷ kinds.Name n ∷ sign signs.LeftRound ∷ (vs ++ (sign signs.RightRound ∷ [])))) (Transform a n bs)
   -- primary = number | - number | quoted | true | false | null | name | . name | ( expr ) | [ args ] | { members }
   number : (n : ℤ)
@@ -124,13 +124,13 @@ pub data Spells : Symbol → List TokenKind → Tree → Type 0 where
       → Spells Primary (sign signs.Minus ∷ kinds.Number n ∷ []) (Literal (Whole (neg_ℤ n)))
   quoted : (q : List ℕ)
       → Spells Primary (kinds.Quoted q ∷ []) (Literal (Quote q))
-  truth : (n : List ℕ) → word_of n ≡ TrueWord
+  truth : (n : List ℕ) → word_of n ≡ words.True
       → Spells Primary (kinds.Name n ∷ []) (Literal (Truth true))
-  falsity : (n : List ℕ) → word_of n ≡ FalseWord
+  falsity : (n : List ℕ) → word_of n ≡ words.False
       → Spells Primary (kinds.Name n ∷ []) (Literal (Truth false))
-  null : (n : List ℕ) → word_of n ≡ NullWord
+  null : (n : List ℕ) → word_of n ≡ words.Null
       → Spells Primary (kinds.Name n ∷ []) (Literal Null)
-  name : (n : List ℕ) → word_of n ≡ PlainWord
+  name : (n : List ℕ) → word_of n ≡ words.Plain
       → Spells Primary (kinds.Name n ∷ []) (Named n)
   relative : (n : List ℕ)
       → Spells Primary (sign signs.Dot ∷ kinds.Name n ∷ []) (Relative n)

@@ -10,6 +10,7 @@ pub mod Seen
 pub mod Gives
 pub mod Parses
 pub mod Kept
+pub mod Drafts
 pub mod Heights
 pub mod Kinds
 pub mod Depth

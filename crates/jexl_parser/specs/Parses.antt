@@ -2,6 +2,7 @@
 -- where its line holds.
 use Rattle.std.specs.Prelude.{◌≡◌, ◌<◌, ◌≤◌, false, List, Option, Some, None, Result, Ok, Err}
 use Rattle.jexl_lexer.specs.declared.token.TokenKind.{TokenKind}
+use Rattle.jexl_parser.specs.declared.node.TheConstants.{MAX_HEIGHT}
 use Rattle.jexl_parser.specs.declared.fault.ParseFault.{ParseFault}
 use Rattle.jexl_parser.specs.declared.fault.ParseFault.TheVariants as faults
 use Rattle.jexl_parser.specs.declared.expression.Expr.{Expr}
@@ -12,16 +13,16 @@ use Rattle.jexl_parser.specs.View.{view}
 
 -- the answer for these tokens, for each of the answers
 abbrev pub Parses : List TokenKind → Result Expr ParseFault → Type 0
-Parses ts (Ok e) = IsShallow ts × SpellsTree ts (view e.root) × (height (view e.root) ≤ 512)
+Parses ts (Ok e) = IsShallow ts × SpellsTree ts (view e.root) × (height (view e.root) ≤ MAX_HEIGHT)
 Parses ts (Err faults.TooDeep) = IsTooDeep ts
 Parses ts (Err faults.Unexpected) = IsShallow ts × ((t : Tree) → SpellsTree ts t → ⊥)
-Parses ts (Err faults.TooTall) = IsShallow ts × ((t : Tree) × SpellsTree ts t × (512 < height t))
+Parses ts (Err faults.TooTall) = IsShallow ts × ((t : Tree) × SpellsTree ts t × (MAX_HEIGHT < height t))
 Parses ts (Err faults.OutOfMemory) = Unit {0}
 
 -- what whole asks of the tree that was kept, and answers for it
 abbrev pub IsWhole : Option Tree → Type 0
 IsWhole None = Unit {0}
-IsWhole (Some t) = (has_relative t ≡ false) × (height t ≤ 512)
+IsWhole (Some t) = (has_relative t ≡ false) × (height t ≤ MAX_HEIGHT)
 
 abbrev pub WholeOf : Option Tree → Result Expr ParseFault → Type 0
 WholeOf tree (Ok e) = tree ≡ Some (view e.root)

@@ -7,11 +7,11 @@ use Rattle.jexl_lexer.specs.declared.token.TokenKind.{TokenKind}
 use Rattle.jexl_lexer.specs.declared.token.TokenKind.TheVariants as kinds
 use Rattle.jexl_parser.specs.declared.node.BinarySign.{BinarySign}
 use Rattle.jexl_parser.specs.declared.front.Word.{Word}
-use Rattle.jexl_parser.specs.declared.front.Word.TheVariants.{PlainWord, InWord, TrueWord, FalseWord, NullWord}
+use Rattle.jexl_parser.specs.declared.front.Word.TheVariants as words
 use Rattle.jexl_parser.specs.declared.front.Suffix.{Suffix}
-use Rattle.jexl_parser.specs.declared.front.Suffix.TheVariants.{MemberSuffix, BracketSuffix, TransformSuffix, NoSuffix}
+use Rattle.jexl_parser.specs.declared.front.Suffix.TheVariants as suffixes
 use Rattle.jexl_parser.specs.declared.front.Opening.{Opening}
-use Rattle.jexl_parser.specs.declared.front.Opening.TheVariants.{MinusOpening, DotOpening, RoundOpening, SquareOpening, BraceOpening, NoOpening}
+use Rattle.jexl_parser.specs.declared.front.Opening.TheVariants as openings
 use Rattle.jexl_parser.specs.Words.{word_of}
 use Rattle.jexl_parser.specs.Tokens.{is_sign}
 use Rattle.jexl_parser.specs.Tree.{Null, Truth, Whole, Quote, Literal, Named, Relative, Items, Members, none, no_pair}
@@ -60,7 +60,7 @@ name_at (kinds.Name n ∷ ks) = Some (n, ks)
 name_at (kinds.Sign s ∷ ks) = None
 
 abbrev pub if_plain : List ℕ → List TokenKind → Word → Option (List ℕ × List TokenKind)
-if_plain n ks PlainWord = Some (n, ks)
+if_plain n ks words.Plain = Some (n, ks)
 if_plain n ks _ = None
 
 -- a plain name at the front
@@ -99,25 +99,25 @@ operator_at lowest (k ∷ ks) = high_enough lowest (operator_of k) ks
 
 -- what a sign after a postfix begins
 abbrev pub suffix_of_sign : Sign → Suffix
-suffix_of_sign signs.Dot = MemberSuffix
-suffix_of_sign signs.LeftSquare = BracketSuffix
-suffix_of_sign signs.Bar = TransformSuffix
-suffix_of_sign _ = NoSuffix
+suffix_of_sign signs.Dot = suffixes.Member
+suffix_of_sign signs.LeftSquare = suffixes.Bracket
+suffix_of_sign signs.Bar = suffixes.Transform
+suffix_of_sign _ = suffixes.None
 
 abbrev pub suffix_of : TokenKind → Suffix
-suffix_of (kinds.Number n) = NoSuffix
-suffix_of (kinds.Quoted q) = NoSuffix
-suffix_of (kinds.Name n) = NoSuffix
+suffix_of (kinds.Number n) = suffixes.None
+suffix_of (kinds.Quoted q) = suffixes.None
+suffix_of (kinds.Name n) = suffixes.None
 suffix_of (kinds.Sign s) = suffix_of_sign s
 
 -- what a sign at the front of a primary begins
 abbrev pub opening_of : Sign → Opening
-opening_of signs.Minus = MinusOpening
-opening_of signs.Dot = DotOpening
-opening_of signs.LeftRound = RoundOpening
-opening_of signs.LeftSquare = SquareOpening
-opening_of signs.LeftBrace = BraceOpening
-opening_of _ = NoOpening
+opening_of signs.Minus = openings.Minus
+opening_of signs.Dot = openings.Dot
+opening_of signs.LeftRound = openings.Round
+opening_of signs.LeftSquare = openings.Square
+opening_of signs.LeftBrace = openings.Brace
+opening_of _ = openings.None
 
 abbrev pub rank : Job → ℕ
 rank AnExpr = 5
@@ -177,10 +177,10 @@ module _ (limit : ℕ) where
   transform_part f a (Some n) = args_part f a n.0 n.1 (after signs.LeftRound n.1)
 
   abbrev pub suffix_part : Reader → Seen → List TokenKind → List TokenKind → Suffix → Read
-  suffix_part f a ts us NoSuffix = Some (a, ts)
-  suffix_part f a ts us MemberSuffix = member_part f a (name_at us)
-  suffix_part f a ts us BracketSuffix = f AnExpr us >>= λ b. square_part f a b.0 (after signs.RightSquare b.1)
-  suffix_part f a ts us TransformSuffix = transform_part f a (plain_at us)
+  suffix_part f a ts us suffixes.None = Some (a, ts)
+  suffix_part f a ts us suffixes.Member = member_part f a (name_at us)
+  suffix_part f a ts us suffixes.Bracket = f AnExpr us >>= λ b. square_part f a b.0 (after signs.RightSquare b.1)
+  suffix_part f a ts us suffixes.Transform = transform_part f a (plain_at us)
 
   abbrev pub suffixes_part : Reader → Seen → List TokenKind → Read
   suffixes_part f a [] = Some (a, [])
@@ -192,19 +192,19 @@ module _ (limit : ℕ) where
   closed_part a (Some us) = Some (a, us)
 
   abbrev pub opening_part : Reader → List TokenKind → Opening → Read
-  opening_part f ks MinusOpening = number_at ks >>= λ n. Some ((cap limit) (Literal (Whole (neg_ℤ n.0))), n.1)
-  opening_part f ks DotOpening = name_at ks >>= λ n. Some ((cap limit) (Relative n.0), n.1)
-  opening_part f ks RoundOpening = f AnExpr ks >>= λ a. closed_part a.0 (after signs.RightRound a.1)
-  opening_part f ks SquareOpening = f (UpTo signs.RightSquare) ks
-  opening_part f ks BraceOpening = f ToBrace ks
-  opening_part f ks NoOpening = None
+  opening_part f ks openings.Minus = number_at ks >>= λ n. Some ((cap limit) (Literal (Whole (neg_ℤ n.0))), n.1)
+  opening_part f ks openings.Dot = name_at ks >>= λ n. Some ((cap limit) (Relative n.0), n.1)
+  opening_part f ks openings.Round = f AnExpr ks >>= λ a. closed_part a.0 (after signs.RightRound a.1)
+  opening_part f ks openings.Square = f (UpTo signs.RightSquare) ks
+  opening_part f ks openings.Brace = f ToBrace ks
+  opening_part f ks openings.None = None
 
   abbrev pub word_part : List ℕ → List TokenKind → Word → Read
-  word_part n ks PlainWord = Some ((cap limit) (Named n), ks)
-  word_part n ks InWord = None
-  word_part n ks TrueWord = Some ((cap limit) (Literal (Truth true)), ks)
-  word_part n ks FalseWord = Some ((cap limit) (Literal (Truth false)), ks)
-  word_part n ks NullWord = Some ((cap limit) (Literal Null), ks)
+  word_part n ks words.Plain = Some ((cap limit) (Named n), ks)
+  word_part n ks words.In = None
+  word_part n ks words.True = Some ((cap limit) (Literal (Truth true)), ks)
+  word_part n ks words.False = Some ((cap limit) (Literal (Truth false)), ks)
+  word_part n ks words.Null = Some ((cap limit) (Literal Null), ks)
 
   abbrev pub primary_part : Reader → List TokenKind → Read
   primary_part f [] = None

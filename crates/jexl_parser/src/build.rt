@@ -1,11 +1,13 @@
-// Trees from their parts, kept only while no path in them has more than 512 nodes.
-ghost use Rattle.std.specs.Prelude.{◌≡◌, ◌≤◌, IfOk, Some, None, suc, max, false};
-ghost use Rattle.jexl_parser.specs.Tree.{Relative, Transform, Items, Members, none as no_trees, no_pair, add, add_pair, most, most_of_pairs, height as tree_height, has_relative};
-ghost use Rattle.jexl_parser.specs.Seen.{fit, cap, seen_not, seen_member, seen_bracket, seen_binary, seen_or_else, seen_choose, seen_args, seen_item, seen_pair};
+// Trees from their parts, kept only while no path in them has more than `MAX_HEIGHT` nodes.
+ghost use Rattle.std.specs.Prelude.{◌≡◌, ◌≤◌, ◌+◌, IfOk, Some, None, suc, max, false};
+ghost use Rattle.jexl_parser.specs.Drafts.{seen_draft};
+ghost use Rattle.jexl_parser.specs.Tree.{Relative, Items, Members, none as no_trees, no_pair, add, add_pair, most, most_of_pairs, height as tree_height, has_relative};
+ghost use Rattle.jexl_parser.specs.Seen.{fit, cap, seen_item, seen_pair};
 ghost use Rattle.jexl_parser.specs.View.{view, views, view_pairs};
 ghost use Rattle.jexl_parser.specs.Kept.{see, see_list, see_members};
 
-use crate::node::{BinarySign, Node};
+use crate::draft::Draft;
+use crate::node::{MAX_HEIGHT, Node};
 use crate::part::{PairParts, Part, Parts};
 use sequences::Text;
 use std::alloc::{AllocError, Global};
@@ -14,7 +16,7 @@ use std::alloc::{AllocError, Global};
 pub fn leaf(node: Node) -> Part
     requires low { tree_height (view node) ≡ 1 }
     requires free { has_relative (view node) ≡ false }
-    ensures { see result ≡ cap 512 (view node) }
+    ensures { see result ≡ cap MAX_HEIGHT (view node) }
 {
     Part {
         tree: Some(node),
@@ -25,7 +27,7 @@ pub fn leaf(node: Node) -> Part
 
 /// A relative name.
 pub fn relative_name(alloc: Global, name: &str) -> Result<Part, AllocError>
-    ensures { IfOk result (λ p. see p ≡ cap 512 (Relative name.now)) }
+    ensures { IfOk result (λ p. see p ≡ cap MAX_HEIGHT (Relative name.now)) }
 {
     Ok(Part {
         tree: Some(Node::Relative(Text::new(alloc, name)?)),
@@ -37,7 +39,7 @@ pub fn relative_name(alloc: Global, name: &str) -> Result<Part, AllocError>
 /// A tree that is kept.
 fn kept(node: Node, height: u16, relative: bool) -> Part
     requires counted { height ≡ tree_height (view node) }
-    requires bounded { height ≤ 513 }
+    requires bounded { height ≤ MAX_HEIGHT + 1 }
     ensures { see result ≡ record { tree = Some (view node); relative = relative } }
 {
     Part {
@@ -53,178 +55,28 @@ fn tall(relative: bool) -> Part
 {
     Part {
         tree: None,
-        height: 513,
+        height: MAX_HEIGHT + 1,
         relative,
     }
 }
 
-/// `!a`.
-pub fn negated(alloc: Global, a: Part) -> Result<Part, AllocError>
-    ensures { IfOk result (λ p. see p ≡ seen_not 512 (see a)) }
+/// The node, kept where it fits.
+#[tactic(auto, using(crate::proofs::Drafts::seen_same))]
+pub fn build_node(alloc: Global, draft: Draft) -> Result<Part, AllocError>
+    ensures { IfOk result (λ p. see p ≡ seen_draft draft) }
 {
-    let height = a.height + 1;
-    let relative = a.relative;
-    let first_tree = a.tree;
-    match first_tree {
-        None => Ok(tall(relative)),
-        Some(inside) => {
-            if height > 512 {
-                return Ok(tall(relative));
-            }
-            Ok(Part {
-                tree: Some(Node::Not(Box::new(alloc, inside)?)),
-                height,
-                relative,
-            })
-        }
+    let height = draft.height();
+    let relative = draft.has_relative();
+    if height > MAX_HEIGHT {
+        return Ok(tall(relative));
     }
-}
-
-/// `a.name`.
-pub fn member(alloc: Global, a: Part, name: &str) -> Result<Part, AllocError>
-    ensures { IfOk result (λ p. see p ≡ seen_member 512 (see a) name.now) }
-{
-    let height = a.height + 1;
-    let relative = a.relative;
-    let first_tree = a.tree;
-    match first_tree {
-        None => Ok(tall(relative)),
-        Some(subject) => {
-            if height > 512 {
-                return Ok(tall(relative));
-            }
-            let name = Text::new(alloc, name)?;
-            Ok(Part {
-                tree: Some(Node::Member(Box::new(alloc, subject)?, name)),
-                height,
-                relative,
-            })
-        }
-    }
-}
-
-/// `a[b]`: a filter where a relative name of `b` belongs to the bracket, else an index.
-pub fn bracketed(alloc: Global, a: Part, b: Part) -> Result<Part, AllocError>
-    ensures { IfOk result (λ p. see p ≡ seen_bracket 512 (see a) (see b)) }
-{
-    let height = a.height.max(b.height) + 1;
-    let relative = a.relative;
-    let filters = b.relative;
-    let first_tree = a.tree;
-    let second_tree = b.tree;
-    match first_tree {
-        None => Ok(tall(relative)),
-        Some(subject) => match second_tree {
-            None => Ok(tall(relative)),
-            Some(inside) => {
-                if height > 512 {
-                    return Ok(tall(relative));
-                }
-                let subject = Box::new(alloc, subject)?;
-                let inside = Box::new(alloc, inside)?;
-                Ok(Part {
-                    tree: Some(if filters {
-                        Node::Filter(subject, inside)
-                    } else {
-                        Node::Index(subject, inside)
-                    }),
-                    height,
-                    relative,
-                })
-            }
-        },
-    }
-}
-
-/// Two trees with an operator between them.
-pub fn binary(alloc: Global, sign: BinarySign, a: Part, b: Part) -> Result<Part, AllocError>
-    ensures { IfOk result (λ p. see p ≡ seen_binary 512 sign (see a) (see b)) }
-{
-    let height = a.height.max(b.height) + 1;
-    let relative = a.relative || b.relative;
-    let first_tree = a.tree;
-    let second_tree = b.tree;
-    match first_tree {
-        None => Ok(tall(relative)),
-        Some(left) => match second_tree {
-            None => Ok(tall(relative)),
-            Some(right) => {
-                if height > 512 {
-                    return Ok(tall(relative));
-                }
-                Ok(Part {
-                    tree: Some(Node::Binary(sign, Box::new(alloc, left)?, Box::new(alloc, right)?)),
-                    height,
-                    relative,
-                })
-            }
-        },
-    }
-}
-
-/// `a ?: c`.
-pub fn or_else(alloc: Global, a: Part, c: Part) -> Result<Part, AllocError>
-    ensures { IfOk result (λ p. see p ≡ seen_or_else 512 (see a) (see c)) }
-{
-    let height = a.height.max(c.height) + 1;
-    let relative = a.relative || c.relative;
-    let first_tree = a.tree;
-    let third_tree = c.tree;
-    match first_tree {
-        None => Ok(tall(relative)),
-        Some(first) => match third_tree {
-            None => Ok(tall(relative)),
-            Some(second) => {
-                if height > 512 {
-                    return Ok(tall(relative));
-                }
-                Ok(Part {
-                    tree: Some(Node::OrElse(Box::new(alloc, first)?, Box::new(alloc, second)?)),
-                    height,
-                    relative,
-                })
-            }
-        },
-    }
-}
-
-/// `a ? b : c`.
-pub fn choose(alloc: Global, a: Part, b: Part, c: Part) -> Result<Part, AllocError>
-    ensures { IfOk result (λ p. see p ≡ seen_choose 512 (see a) (see b) (see c)) }
-{
-    let height = a.height.max(b.height.max(c.height)) + 1;
-    let relative = a.relative || (b.relative || c.relative);
-    let first_tree = a.tree;
-    let second_tree = b.tree;
-    let third_tree = c.tree;
-    match first_tree {
-        None => Ok(tall(relative)),
-        Some(first) => match second_tree {
-            None => Ok(tall(relative)),
-            Some(second) => match third_tree {
-                None => Ok(tall(relative)),
-                Some(third) => {
-                    if height > 512 {
-                        return Ok(tall(relative));
-                    }
-                    Ok(Part {
-                        tree: Some(Node::Choose(
-                            Box::new(alloc, first)?,
-                            Box::new(alloc, second)?,
-                            Box::new(alloc, third)?,
-                        )),
-                        height,
-                        relative,
-                    })
-                }
-            },
-        },
-    }
+    let node = draft.into_node(alloc)?;
+    Ok(kept(node, height, relative))
 }
 
 /// No items.
 pub fn no_items(alloc: Global) -> Parts
-    ensures { see_list result ≡ cap 512 (Items no_trees) }
+    ensures { see_list result ≡ cap MAX_HEIGHT (Items no_trees) }
 {
     Parts {
         trees: Some(Vec::new(alloc)),
@@ -245,7 +97,7 @@ fn pushed(mut trees: Vec<Node>, tree: Node) -> Result<Vec<Node>, AllocError>
 /// A list that is kept.
 fn kept_list(trees: Vec<Node>, height: u16, relative: bool) -> Parts
     requires counted { height ≡ suc (most (views trees.items)) }
-    requires bounded { height ≤ 513 }
+    requires bounded { height ≤ MAX_HEIGHT + 1 }
     ensures { see_list result ≡ record { tree = Some (Items (views trees.items)); relative = relative } }
 {
     Parts {
@@ -259,9 +111,9 @@ fn kept_list(trees: Vec<Node>, height: u16, relative: bool) -> Parts
 #[tactic(auto, using(crate::proofs::Views::item_tall, crate::proofs::Views::item_fits, crate::proofs::Views::item_height))]
 fn joined(trees: Vec<Node>, tree: Node, height: u16, relative: bool) -> Result<Parts, AllocError>
     requires { height ≡ max (suc (most (views trees.items))) (suc (tree_height (view tree))) }
-    ensures { IfOk result (λ p. see_list p ≡ record { tree = fit 512 (Items (add (views trees.items) (view tree))); relative = relative }) }
+    ensures { IfOk result (λ p. see_list p ≡ record { tree = fit MAX_HEIGHT (Items (add (views trees.items) (view tree))); relative = relative }) }
 {
-    if height > 512 {
+    if height > MAX_HEIGHT {
         return Ok(tall_list(relative));
     }
     let trees = pushed(trees, tree)?;
@@ -270,7 +122,7 @@ fn joined(trees: Vec<Node>, tree: Node, height: u16, relative: bool) -> Result<P
 
 /// One more item.
 pub fn with_item(a: Parts, b: Part) -> Result<Parts, AllocError>
-    ensures { IfOk result (λ p. see_list p ≡ seen_item 512 (see_list a) (see b)) }
+    ensures { IfOk result (λ p. see_list p ≡ seen_item MAX_HEIGHT (see_list a) (see b)) }
 {
     let height = a.height.max(b.height + 1);
     let relative = a.relative || b.relative;
@@ -291,7 +143,7 @@ fn tall_list(relative: bool) -> Parts
 {
     Parts {
         trees: None,
-        height: 513,
+        height: MAX_HEIGHT + 1,
         relative,
     }
 }
@@ -310,41 +162,9 @@ pub fn list(a: Parts) -> Part
     }
 }
 
-/// The node of a transform.
-#[tactic(auto, using(crate::proofs::Views::view_transform))]
-fn transform_node(subject: Box<Node>, name: Text, args: Vec<Node>) -> Node
-    ensures { view result ≡ Transform (view subject.value) name (views args.items) }
-{
-    Node::Transform(subject, name, args)
-}
-
-/// A transform with its arguments.
-pub fn transformed(alloc: Global, a: Part, name: &str, b: Parts) -> Result<Part, AllocError>
-    ensures { IfOk result (λ p. see p ≡ seen_args 512 (see a) name.now (see_list b)) }
-{
-    let height = b.height.max(a.height + 1);
-    let relative = a.relative || b.relative;
-    let first_tree = a.tree;
-    let second_tree = b.trees;
-    match first_tree {
-        None => Ok(tall(relative)),
-        Some(subject) => match second_tree {
-            None => Ok(tall(relative)),
-            Some(args) => {
-                if height > 512 {
-                    return Ok(tall(relative));
-                }
-                let name = Text::new(alloc, name)?;
-                let subject = Box::new(alloc, subject)?;
-                Ok(kept(transform_node(subject, name, args), height, relative))
-            }
-        },
-    }
-}
-
 /// No members.
 pub fn no_pairs(alloc: Global) -> PairParts
-    ensures { see_members result ≡ cap 512 (Members no_pair) }
+    ensures { see_members result ≡ cap MAX_HEIGHT (Members no_pair) }
 {
     PairParts {
         pairs: Some(Vec::new(alloc)),
@@ -359,7 +179,7 @@ fn tall_members(relative: bool) -> PairParts
 {
     PairParts {
         pairs: None,
-        height: 513,
+        height: MAX_HEIGHT + 1,
         relative,
     }
 }
@@ -382,7 +202,7 @@ fn pushed_pair(
 /// Members that are kept.
 fn kept_members(pairs: Vec<(Text, Node)>, height: u16, relative: bool) -> PairParts
     requires counted { height ≡ suc (most_of_pairs (view_pairs pairs.items)) }
-    requires bounded { height ≤ 513 }
+    requires bounded { height ≤ MAX_HEIGHT + 1 }
     ensures { see_members result ≡ record { tree = Some (Members (view_pairs pairs.items)); relative = relative } }
 {
     PairParts {
@@ -403,9 +223,9 @@ fn joined_pair(
     relative: bool,
 ) -> Result<PairParts, AllocError>
     requires { height ≡ max (suc (most_of_pairs (view_pairs pairs.items))) (suc (tree_height (view tree))) }
-    ensures { IfOk result (λ p. see_members p ≡ record { tree = fit 512 (Members (add_pair (view_pairs pairs.items) key.now (view tree))); relative = relative }) }
+    ensures { IfOk result (λ p. see_members p ≡ record { tree = fit MAX_HEIGHT (Members (add_pair (view_pairs pairs.items) key.now (view tree))); relative = relative }) }
 {
-    if height > 512 {
+    if height > MAX_HEIGHT {
         return Ok(tall_members(relative));
     }
     let pairs = pushed_pair(alloc, pairs, key, tree)?;
@@ -414,7 +234,7 @@ fn joined_pair(
 
 /// One more member.
 pub fn with_pair(alloc: Global, a: PairParts, key: &str, b: Part) -> Result<PairParts, AllocError>
-    ensures { IfOk result (λ p. see_members p ≡ seen_pair 512 (see_members a) key.now (see b)) }
+    ensures { IfOk result (λ p. see_members p ≡ seen_pair MAX_HEIGHT (see_members a) key.now (see b)) }
 {
     let height = a.height.max(b.height + 1);
     let relative = a.relative || b.relative;

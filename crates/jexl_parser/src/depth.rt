@@ -1,5 +1,5 @@
 // Whether tokens nest too deep.
-ghost use Rattle.std.specs.Prelude.{◌≡◌, ◌<◌};
+ghost use Rattle.std.specs.Prelude.{◌≡◌, ◌≤◌};
 ghost use Rattle.jexl_parser.specs.Depth.{count_bracket};
 ghost use Rattle.jexl_parser.specs.Counting.{deep_from, over, count_bang, count_question};
 ghost use Rattle.jexl_parser.specs.Kinds.{kinds_of};
@@ -7,9 +7,12 @@ ghost use Rattle.jexl_parser.specs.Kinds.{kinds_of};
 use crate::front::{first_of, is_sign};
 use jexl_lexer::{Sign, Token, TokenKind};
 
+/// The most brackets that are open after a token, `!` that stand one after another, and `?`.
+pub const MAX_DEPTH: usize = 64;
+
 /// The open brackets after the token.
 fn bracket_count(nested: usize, kind: &TokenKind) -> usize
-    requires { nested < 1000 }
+    requires { nested ≤ MAX_DEPTH }
     ensures { result ≡ count_bracket nested kind.now }
 {
     match kind {
@@ -25,7 +28,7 @@ fn bracket_count(nested: usize, kind: &TokenKind) -> usize
 
 /// The `!` that stand one after another up to the token.
 fn bang_count(bangs: usize, kind: &TokenKind) -> usize
-    requires { bangs < 1000 }
+    requires { bangs ≤ MAX_DEPTH }
     ensures { result ≡ count_bang bangs kind.now }
 {
     if is_sign(kind, Sign::Bang) {
@@ -37,7 +40,7 @@ fn bang_count(bangs: usize, kind: &TokenKind) -> usize
 
 /// The `?` up to the token.
 fn question_count(questions: usize, kind: &TokenKind) -> usize
-    requires { questions < 1000 }
+    requires { questions ≤ MAX_DEPTH }
     ensures { result ≡ count_question questions kind.now }
 {
     if is_sign(kind, Sign::Question) {
@@ -47,21 +50,21 @@ fn question_count(questions: usize, kind: &TokenKind) -> usize
     }
 }
 
-/// Whether a count is above 64.
+/// Whether a count is above `MAX_DEPTH`.
 fn is_over(nested: usize, bangs: usize, questions: usize) -> bool
     ensures { result ≡ over nested bangs questions }
 {
-    if nested > 64 {
+    if nested > MAX_DEPTH {
         true
-    } else if bangs > 64 {
+    } else if bangs > MAX_DEPTH {
         true
     } else {
-        questions > 64
+        questions > MAX_DEPTH
     }
 }
 
-/// Whether more than 64 brackets are open after some token, more than 64 `!` stand one after another,
-/// or there are more than 64 `?`.
+/// Whether more than `MAX_DEPTH` brackets are open after some token, more than `MAX_DEPTH` `!` stand
+/// one after another, or there are more than `MAX_DEPTH` `?`.
 pub fn is_too_deep(tokens: &[Token]) -> bool
     ensures { result ≡ deep_from 0 0 0 (kinds_of tokens.now) }
 {

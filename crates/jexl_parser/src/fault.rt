@@ -8,14 +8,14 @@ use thiserror::Error;
 /// Why tokens have no tree, in the order in which it is asked.
 #[derive(Debug, Drop, Error)]
 pub enum ParseFault {
-    /// More than 64 brackets are open after some token, more than 64 `!` stand one after another,
-    /// or there are more than 64 `?`.
+    /// More than `MAX_DEPTH` brackets are open after some token, more than `MAX_DEPTH` `!` stand
+    /// one after another, or there are more than `MAX_DEPTH` `?`.
     #[error("TooDeep")]
     TooDeep,
     /// The grammar has no tree for the tokens.
     #[error("Unexpected")]
     Unexpected,
-    /// The tree has more than 512 nodes on a path.
+    /// The tree has more than `MAX_HEIGHT` nodes on a path.
     #[error("TooTall")]
     TooTall,
     /// Memory is wanting.

@@ -12,31 +12,31 @@ use jexl_lexer::{Sign, Token, TokenKind};
 /// What a name stands for: the four words that are no plain names, and all others.
 #[derive(Clone, Copy, Debug, PartialEq, Eq)]
 pub enum Word {
-    PlainWord,
-    InWord,
-    TrueWord,
-    FalseWord,
-    NullWord,
+    Plain,
+    In,
+    True,
+    False,
+    Null,
 }
 
 /// What a sign after a postfix begins.
 #[derive(Clone, Copy, Debug, PartialEq, Eq)]
 pub enum Suffix {
-    MemberSuffix,
-    BracketSuffix,
-    TransformSuffix,
-    NoSuffix,
+    Member,
+    Bracket,
+    Transform,
+    None,
 }
 
 /// What a sign at the front of a primary begins.
 #[derive(Clone, Copy, Debug, PartialEq, Eq)]
 pub enum Opening {
-    MinusOpening,
-    DotOpening,
-    RoundOpening,
-    SquareOpening,
-    BraceOpening,
-    NoOpening,
+    Minus,
+    Dot,
+    Round,
+    Square,
+    Brace,
+    None,
 }
 
 /// What the name stands for.
@@ -44,15 +44,15 @@ pub fn word_at(name: &str) -> Word
     ensures { result ≡ word_of name.now }
 {
     if name == "in" {
-        Word::InWord
+        Word::In
     } else if name == "true" {
-        Word::TrueWord
+        Word::True
     } else if name == "false" {
-        Word::FalseWord
+        Word::False
     } else if name == "null" {
-        Word::NullWord
+        Word::Null
     } else {
-        Word::PlainWord
+        Word::Plain
     }
 }
 
@@ -121,7 +121,7 @@ pub fn plain_name(tokens: &[Token]) -> Option<(&str, &[Token])>
             TokenKind::Number(_) => None,
             TokenKind::Quoted(_) => None,
             TokenKind::Name(name) => match word_at(name.as_str()) {
-                Word::PlainWord => Some((name.as_str(), rest)),
+                Word::Plain => Some((name.as_str(), rest)),
                 _ => None,
             },
             TokenKind::Sign(_) => None,
@@ -176,7 +176,7 @@ fn operator_sign(kind: &TokenKind) -> Option<BinarySign>
         TokenKind::Number(_) => None,
         TokenKind::Quoted(_) => None,
         TokenKind::Name(name) => match word_at(name.as_str()) {
-            Word::InWord => Some(BinarySign::Inside),
+            Word::In => Some(BinarySign::Inside),
             _ => None,
         },
         TokenKind::Sign(sign) => match sign {
@@ -244,10 +244,10 @@ pub fn suffix_at(kind: &TokenKind) -> Suffix
     ensures { result ≡ suffix_of kind.now }
 {
     match kind {
-        TokenKind::Sign(Sign::Dot) => Suffix::MemberSuffix,
-        TokenKind::Sign(Sign::LeftSquare) => Suffix::BracketSuffix,
-        TokenKind::Sign(Sign::Bar) => Suffix::TransformSuffix,
-        _ => Suffix::NoSuffix,
+        TokenKind::Sign(Sign::Dot) => Suffix::Member,
+        TokenKind::Sign(Sign::LeftSquare) => Suffix::Bracket,
+        TokenKind::Sign(Sign::Bar) => Suffix::Transform,
+        _ => Suffix::None,
     }
 }
 
@@ -256,11 +256,11 @@ pub fn opening_at(sign: Sign) -> Opening
     ensures { result ≡ opening_of sign }
 {
     match sign {
-        Sign::Minus => Opening::MinusOpening,
-        Sign::Dot => Opening::DotOpening,
-        Sign::LeftRound => Opening::RoundOpening,
-        Sign::LeftSquare => Opening::SquareOpening,
-        Sign::LeftBrace => Opening::BraceOpening,
-        _ => Opening::NoOpening,
+        Sign::Minus => Opening::Minus,
+        Sign::Dot => Opening::Dot,
+        Sign::LeftRound => Opening::Round,
+        Sign::LeftSquare => Opening::Square,
+        Sign::LeftBrace => Opening::Brace,
+        _ => Opening::None,
     }
 }

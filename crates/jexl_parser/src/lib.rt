@@ -6,6 +6,7 @@
 
 mod build;
 mod depth;
+mod draft;
 mod expression;
 mod fault;
 mod front;
@@ -16,8 +17,9 @@ mod parser;
 mod parsing;
 mod part;
 
+pub use depth::MAX_DEPTH;
 pub use expression::Expr;
 pub use fault::ParseFault;
 pub use laws::{and_or_from_the_left, one_tree};
-pub use node::{BinarySign, Literal, Node};
+pub use node::{BinarySign, Literal, MAX_HEIGHT, Node};
 pub use parsing::parse;

@@ -1,6 +1,9 @@
 // The nodes of trees. Parts stand in the order of the text, and parentheses make no node.
 use sequences::Text;
 
+/// The most nodes on a path of a tree.
+pub const MAX_HEIGHT: u16 = 512;
+
 /// A constant. A number with `-` before it is one constant.
 #[derive(Drop)]
 pub enum Literal {

@@ -1,5 +1,6 @@
 // Trees from tokens, by climbing precedences.
 ghost use Rattle.std.specs.Prelude.{◌≤◌, ◌<◌, length, IfOk};
+ghost use Rattle.jexl_parser.specs.declared.node.TheConstants.{MAX_HEIGHT};
 ghost use Rattle.jexl_parser.specs.Tree.{Members, no_pair};
 ghost use Rattle.jexl_parser.specs.Seen.{cap};
 ghost use Rattle.jexl_parser.specs.Reading.{read_of, AnExpr, Climb, AUnary, APostfix, APrimary, UpTo, SomeExprs, ToBrace, APair, MorePairs};
@@ -8,9 +9,9 @@ ghost use Rattle.jexl_parser.specs.Kept.{see, see_list, see_members};
 ghost use Rattle.jexl_parser.specs.Kinds.{kinds_of};
 
 use crate::build::{
-    binary, bracketed, choose, leaf, list, member, no_items, no_pairs, object, or_else,
-    relative_name, transformed, with_item, with_pair,
+    build_node, leaf, list, no_items, no_pairs, object, relative_name, with_item, with_pair,
 };
+use crate::draft::Draft;
 use crate::fault::ParseFault;
 use crate::front::{
     Opening, Suffix, Word, after_sign, first_of, key, level, name, number, opening_at, operator,
@@ -27,7 +28,7 @@ use std::alloc::Global;
 #[cycle(parser)]
 #[tactic(auto, using(crate::proofs::Agree::read_step))]
 pub fn expr(alloc: Global, tokens: &[Token]) -> Result<(Part, &[Token]), ParseFault>
-    ensures read { Gives (λ x. (see x.0, kinds_of x.1.now)) result (read_of 512 AnExpr (kinds_of tokens.now)) }
+    ensures read { Gives (λ x. (see x.0, kinds_of x.1.now)) result (read_of MAX_HEIGHT AnExpr (kinds_of tokens.now)) }
     ensures short { IfOk result (λ x. length x.1.now ≤ length tokens.now) }
 {
     let (first, rest) = climb(alloc, tokens, 1)?;
@@ -36,7 +37,7 @@ pub fn expr(alloc: Global, tokens: &[Token]) -> Result<(Part, &[Token]), ParseFa
         Some(rest) => match after_sign(rest, Sign::Colon) {
             Some(rest) => {
                 let (third, rest) = expr(alloc, rest)?;
-                Ok((or_else(alloc, first, third)?, rest))
+                Ok((build_node(alloc, Draft::OrElse(first, third))?, rest))
             }
             None => {
                 let (second, rest) = expr(alloc, rest)?;
@@ -44,7 +45,8 @@ pub fn expr(alloc: Global, tokens: &[Token]) -> Result<(Part, &[Token]), ParseFa
                     None => Err(ParseFault::Unexpected),
                     Some(rest) => {
                         let (third, rest) = expr(alloc, rest)?;
-                        Ok((choose(alloc, first, second, third)?, rest))
+                        let choice = Draft::Choose(first, second, third);
+                        Ok((build_node(alloc, choice)?, rest))
                     }
                 }
             }
@@ -56,13 +58,13 @@ pub fn expr(alloc: Global, tokens: &[Token]) -> Result<(Part, &[Token]), ParseFa
 #[cycle(parser)]
 #[tactic(auto, using(crate::proofs::Agree::read_step))]
 fn climb(alloc: Global, tokens: &[Token], lowest: u8) -> Result<(Part, &[Token]), ParseFault>
-    ensures read { Gives (λ x. (see x.0, kinds_of x.1.now)) result (read_of 512 (Climb lowest) (kinds_of tokens.now)) }
+    ensures read { Gives (λ x. (see x.0, kinds_of x.1.now)) result (read_of MAX_HEIGHT (Climb lowest) (kinds_of tokens.now)) }
     ensures short { IfOk result (λ x. length x.1.now ≤ length tokens.now) }
 {
     let (mut left, mut rest) = unary(alloc, tokens)?;
     while let Some((sign, next)) = operator(rest, lowest) {
         let (right, after) = climb(alloc, next, level(sign) + 1)?;
-        left = binary(alloc, sign, left, right)?;
+        left = build_node(alloc, Draft::Binary(sign, left, right))?;
         rest = after;
     }
     Ok((left, rest))
@@ -72,7 +74,7 @@ fn climb(alloc: Global, tokens: &[Token], lowest: u8) -> Result<(Part, &[Token])
 #[cycle(parser)]
 #[tactic(auto, using(crate::proofs::Agree::read_step))]
 fn unary(alloc: Global, tokens: &[Token]) -> Result<(Part, &[Token]), ParseFault>
-    ensures read { Gives (λ x. (see x.0, kinds_of x.1.now)) result (read_of 512 AUnary (kinds_of tokens.now)) }
+    ensures read { Gives (λ x. (see x.0, kinds_of x.1.now)) result (read_of MAX_HEIGHT AUnary (kinds_of tokens.now)) }
     ensures short { IfOk result (λ x. length x.1.now ≤ length tokens.now) }
 {
     let (bangs, rest) = bangs_at(tokens);
@@ -84,40 +86,44 @@ fn unary(alloc: Global, tokens: &[Token]) -> Result<(Part, &[Token]), ParseFault
 #[cycle(parser)]
 #[tactic(auto, using(crate::proofs::Agree::read_step))]
 fn postfix(alloc: Global, tokens: &[Token]) -> Result<(Part, &[Token]), ParseFault>
-    ensures read { Gives (λ x. (see x.0, kinds_of x.1.now)) result (read_of 512 APostfix (kinds_of tokens.now)) }
+    ensures read { Gives (λ x. (see x.0, kinds_of x.1.now)) result (read_of MAX_HEIGHT APostfix (kinds_of tokens.now)) }
     ensures short { IfOk result (λ x. length x.1.now ≤ length tokens.now) }
 {
     let (mut subject, mut rest) = primary(alloc, tokens)?;
     while let Some((first, after)) = first_of(rest) {
         match suffix_at(first) {
-            Suffix::NoSuffix => break,
-            Suffix::MemberSuffix => match name(after) {
+            Suffix::None => break,
+            Suffix::Member => match name(after) {
                 None => return Err(ParseFault::Unexpected),
                 Some((name, after)) => {
-                    subject = member(alloc, subject, name)?;
+                    let name = Text::new(alloc, name)?;
+                    subject = build_node(alloc, Draft::Member(subject, name))?;
                     rest = after;
                 }
             },
-            Suffix::BracketSuffix => {
+            Suffix::Bracket => {
                 let (inside, after) = expr(alloc, after)?;
                 match after_sign(after, Sign::RightSquare) {
                     None => return Err(ParseFault::Unexpected),
                     Some(after) => {
-                        subject = bracketed(alloc, subject, inside)?;
+                        subject = build_node(alloc, Draft::Bracket(subject, inside))?;
                         rest = after;
                     }
                 }
             }
-            Suffix::TransformSuffix => match plain_name(after) {
+            Suffix::Transform => match plain_name(after) {
                 None => return Err(ParseFault::Unexpected),
                 Some((name, after)) => match after_sign(after, Sign::LeftRound) {
                     None => {
-                        subject = transformed(alloc, subject, name, no_items(alloc))?;
+                        let name = Text::new(alloc, name)?;
+                        let args = no_items(alloc);
+                        subject = build_node(alloc, Draft::Transform(subject, name, args))?;
                         rest = after;
                     }
                     Some(after) => {
                         let (args, after) = up_to(alloc, after, Sign::RightRound)?;
-                        subject = transformed(alloc, subject, name, args)?;
+                        let name = Text::new(alloc, name)?;
+                        subject = build_node(alloc, Draft::Transform(subject, name, args))?;
                         rest = after;
                     }
                 },
@@ -131,7 +137,7 @@ fn postfix(alloc: Global, tokens: &[Token]) -> Result<(Part, &[Token]), ParseFau
 #[cycle(parser)]
 #[tactic(auto, using(crate::proofs::Agree::read_step))]
 fn primary(alloc: Global, tokens: &[Token]) -> Result<(Part, &[Token]), ParseFault>
-    ensures read { Gives (λ x. (see x.0, kinds_of x.1.now)) result (read_of 512 APrimary (kinds_of tokens.now)) }
+    ensures read { Gives (λ x. (see x.0, kinds_of x.1.now)) result (read_of MAX_HEIGHT APrimary (kinds_of tokens.now)) }
     ensures short { IfOk result (λ x. length x.1.now ≤ length tokens.now) }
 {
     match first_of(tokens) {
@@ -145,39 +151,39 @@ fn primary(alloc: Global, tokens: &[Token]) -> Result<(Part, &[Token]), ParseFau
                 Ok((leaf(Node::Literal(Literal::Text(text))), rest))
             }
             TokenKind::Name(name) => match word_at(name.as_str()) {
-                Word::PlainWord => {
+                Word::Plain => {
                     let text = Text::new(alloc, name.as_str())?;
                     Ok((leaf(Node::Name(text)), rest))
                 }
-                Word::InWord => Err(ParseFault::Unexpected),
-                Word::TrueWord => Ok((leaf(Node::Literal(Literal::Truth(true))), rest)),
-                Word::FalseWord => Ok((leaf(Node::Literal(Literal::Truth(false))), rest)),
-                Word::NullWord => Ok((leaf(Node::Literal(Literal::Null)), rest)),
+                Word::In => Err(ParseFault::Unexpected),
+                Word::True => Ok((leaf(Node::Literal(Literal::Truth(true))), rest)),
+                Word::False => Ok((leaf(Node::Literal(Literal::Truth(false))), rest)),
+                Word::Null => Ok((leaf(Node::Literal(Literal::Null)), rest)),
             },
             TokenKind::Sign(sign) => match opening_at(*sign) {
-                Opening::NoOpening => Err(ParseFault::Unexpected),
-                Opening::MinusOpening => match number(rest) {
+                Opening::None => Err(ParseFault::Unexpected),
+                Opening::Minus => match number(rest) {
                     None => Err(ParseFault::Unexpected),
                     Some((number, rest)) => {
                         Ok((leaf(Node::Literal(Literal::Whole(-number))), rest))
                     }
                 },
-                Opening::DotOpening => match name(rest) {
+                Opening::Dot => match name(rest) {
                     None => Err(ParseFault::Unexpected),
                     Some((name, rest)) => Ok((relative_name(alloc, name)?, rest)),
                 },
-                Opening::RoundOpening => {
+                Opening::Round => {
                     let (inside, rest) = expr(alloc, rest)?;
                     match after_sign(rest, Sign::RightRound) {
                         None => Err(ParseFault::Unexpected),
                         Some(rest) => Ok((inside, rest)),
                     }
                 }
-                Opening::SquareOpening => {
+                Opening::Square => {
                     let (items, rest) = up_to(alloc, rest, Sign::RightSquare)?;
                     Ok((list(items), rest))
                 }
-                Opening::BraceOpening => {
+                Opening::Brace => {
                     let (members, rest) = to_brace(alloc, rest)?;
                     Ok((object(members), rest))
                 }
@@ -190,7 +196,7 @@ fn primary(alloc: Global, tokens: &[Token]) -> Result<(Part, &[Token]), ParseFau
 #[cycle(parser)]
 #[tactic(auto, using(crate::proofs::Agree::read_step))]
 fn up_to(alloc: Global, tokens: &[Token], close: Sign) -> Result<(Parts, &[Token]), ParseFault>
-    ensures read { Gives (λ x. (see_list x.0, kinds_of x.1.now)) result (read_of 512 (UpTo close) (kinds_of tokens.now)) }
+    ensures read { Gives (λ x. (see_list x.0, kinds_of x.1.now)) result (read_of MAX_HEIGHT (UpTo close) (kinds_of tokens.now)) }
     ensures short { IfOk result (λ x. length x.1.now ≤ length tokens.now) }
 {
     match after_sign(tokens, close) {
@@ -209,7 +215,7 @@ fn up_to(alloc: Global, tokens: &[Token], close: Sign) -> Result<(Parts, &[Token
 #[cycle(parser)]
 #[tactic(auto, using(crate::proofs::Agree::read_step))]
 fn some_exprs(alloc: Global, tokens: &[Token]) -> Result<(Parts, &[Token]), ParseFault>
-    ensures read { Gives (λ x. (see_list x.0, kinds_of x.1.now)) result (read_of 512 SomeExprs (kinds_of tokens.now)) }
+    ensures read { Gives (λ x. (see_list x.0, kinds_of x.1.now)) result (read_of MAX_HEIGHT SomeExprs (kinds_of tokens.now)) }
     ensures short { IfOk result (λ x. length x.1.now ≤ length tokens.now) }
 {
     let (first, mut rest) = expr(alloc, tokens)?;
@@ -226,7 +232,7 @@ fn some_exprs(alloc: Global, tokens: &[Token]) -> Result<(Parts, &[Token]), Pars
 #[cycle(parser)]
 #[tactic(auto, using(crate::proofs::Agree::read_step))]
 fn to_brace(alloc: Global, tokens: &[Token]) -> Result<(PairParts, &[Token]), ParseFault>
-    ensures read { Gives (λ x. (see_members x.0, kinds_of x.1.now)) result (read_of 512 ToBrace (kinds_of tokens.now)) }
+    ensures read { Gives (λ x. (see_members x.0, kinds_of x.1.now)) result (read_of MAX_HEIGHT ToBrace (kinds_of tokens.now)) }
     ensures short { IfOk result (λ x. length x.1.now ≤ length tokens.now) }
 {
     match after_sign(tokens, Sign::RightBrace) {
@@ -245,7 +251,7 @@ fn to_brace(alloc: Global, tokens: &[Token]) -> Result<(PairParts, &[Token]), Pa
 #[cycle(parser)]
 #[tactic(auto, using(crate::proofs::Agree::read_step))]
 fn some_pairs(alloc: Global, tokens: &[Token]) -> Result<(PairParts, &[Token]), ParseFault>
-    ensures read { Gives (λ x. (see_members x.0, kinds_of x.1.now)) result (read_of 512 (APair (cap 512 (Members no_pair))) (kinds_of tokens.now)) }
+    ensures read { Gives (λ x. (see_members x.0, kinds_of x.1.now)) result (read_of MAX_HEIGHT (APair (cap MAX_HEIGHT (Members no_pair))) (kinds_of tokens.now)) }
     ensures short { IfOk result (λ x. length x.1.now ≤ length tokens.now) }
 {
     let (mut pairs, mut rest) = one_pair(alloc, no_pairs(alloc), tokens)?;
@@ -265,7 +271,7 @@ fn one_pair(
     pairs: PairParts,
     tokens: &[Token],
 ) -> Result<(PairParts, &[Token]), ParseFault>
-    ensures read { Goes (λ x. read_of 512 (MorePairs (see_members x.0)) (kinds_of x.1.now)) result (read_of 512 (APair (see_members pairs)) (kinds_of tokens.now)) }
+    ensures read { Goes (λ x. read_of MAX_HEIGHT (MorePairs (see_members x.0)) (kinds_of x.1.now)) result (read_of MAX_HEIGHT (APair (see_members pairs)) (kinds_of tokens.now)) }
     ensures short { IfOk result (λ x. length x.1.now < length tokens.now) }
 {
     match key(tokens) {

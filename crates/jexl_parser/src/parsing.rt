@@ -16,7 +16,7 @@ use std::alloc::Global;
 
 /// The expression that the tokens spell, or the first of these faults, each exactly where it says:
 /// TooDeep, by the counts of brackets, `!` and `?` alone; Unexpected, where the grammar has no tree
-/// for the tokens; TooTall, where the tree has more than 512 nodes on a path.
+/// for the tokens; TooTall, where the tree has more than `MAX_HEIGHT` nodes on a path.
 pub fn parse(alloc: Global, tokens: &[Token]) -> Result<Expr, ParseFault>
     ensures { Parses (kinds_of tokens.now) result }
 {

@@ -1,6 +1,7 @@
 // What is kept of a tree while it is parsed: the tree itself only while no path in it has more than
-// 512 nodes. So a tree that is too tall is never built, however many tokens are still to be read.
-ghost use Rattle.std.specs.Prelude.{◌≡◌, ◌≤◌, option_map};
+// `MAX_HEIGHT` nodes. So a tree that is too tall is never built, however many tokens are still to be read.
+ghost use Rattle.std.specs.Prelude.{◌≡◌, ◌≤◌, ◌+◌, option_map};
+ghost use Rattle.jexl_parser.specs.declared.node.TheConstants.{MAX_HEIGHT};
 ghost use Rattle.jexl_parser.specs.View.{view, views, view_pairs};
 ghost use Rattle.jexl_parser.specs.Heights.{height_of, list_height_of, members_height_of};
 
@@ -14,7 +15,7 @@ pub struct Part {
     pub height: u16,
     pub relative: bool,
     ghost counted: { height ≡ height_of (option_map view tree) },
-    ghost bounded: { height ≤ 513 },
+    ghost bounded: { height ≤ MAX_HEIGHT + 1 },
 }
 
 /// The same of a list of trees. Its height is that of the list's node.
@@ -24,7 +25,7 @@ pub struct Parts {
     pub height: u16,
     pub relative: bool,
     ghost counted: { height ≡ list_height_of (option_map (λ v. views v.items) trees) },
-    ghost bounded: { height ≤ 513 },
+    ghost bounded: { height ≤ MAX_HEIGHT + 1 },
 }
 
 /// The same of a list of members.
@@ -34,5 +35,5 @@ pub struct PairParts {
     pub height: u16,
     pub relative: bool,
     ghost counted: { height ≡ members_height_of (option_map (λ v. view_pairs v.items) pairs) },
-    ghost bounded: { height ≤ 513 },
+    ghost bounded: { height ≤ MAX_HEIGHT + 1 },
 }

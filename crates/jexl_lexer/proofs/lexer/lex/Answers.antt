@@ -1,4 +1,5 @@
 use Rattle.std.proofs.Common.{rules, ◌≡◌, ◌<◌, length, arith}
+use Rattle.jexl_lexer.specs.declared.lexer.TheConstants.{MAX_TOKENS}
 use Rattle.jexl_lexer.proofs.LexLoop.{turn, one_more, not_past, stops_blank, blanks_short, finish}
 use Rattle.jexl_lexer.proofs.SpanLaws.{spans_rise, read_from, blanks_outside}
 use Rattle.jexl_lexer.proofs.lexer.lex.Goals as goal
@@ -8,7 +9,7 @@ overflow_sub-end c = omega (arith, c.loop-rest.invariant.short, not_past c.loop-
 
 pub loop-rest-preserved : goal.loop-rest-preserved
 loop-rest-preserved c =
-    let few : length c.loop-rest.tokens < 4096 = omega (arith, c.loop-rest.invariant.few, c.len.ensures, c.if-len-eq4096.false) in
+    let few : length c.loop-rest.tokens < MAX_TOKENS = omega (arith, c.loop-rest.invariant.few, c.len.ensures, c.if-len-eq-MAX_TOKENS.false) in
     let l = not_past c.loop-rest.rest.now c.in-Ok.after.now c.in-Ok.kind c.in-Ok.ensures in
     let b = blanks_short c.in-Ok.after.now c.after_blanks-rest-in-Ok.result.now c.after_blanks-rest-in-Ok.ensures in
     let pushed = c.in_ok-push-in-Ok.ensures.ok in

@@ -2,6 +2,7 @@
 use denote.Shadow.{shadow}
 use denote.Text.{Utf8}
 use Rattle.std.proofs.Common.{◌≤◌, length}
+use Rattle.jexl_lexer.specs.declared.lexer.TheConstants.{MAX_TOKENS}
 use Rattle.jexl_lexer.specs.Lexing.{is_blank, Stops}
 use Rattle.jexl_lexer.proofs.LexLoop.{Reaches}
 use Rattle.jexl_lexer.proofs.lexer.lex.Given as goal
@@ -11,7 +12,7 @@ invariant-loop-rest l = record {
   text : shadow (Utf8 l.rest);
   reach : Reaches l.text l.rest l.tokens;
   stop : Stops is_blank l.rest;
-  few : length l.tokens ≤ 4096;
+  few : length l.tokens ≤ MAX_TOKENS;
   short : length l.rest ≤ length l.text;
 }
 

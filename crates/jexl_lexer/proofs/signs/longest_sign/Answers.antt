@@ -1,8 +1,6 @@
-use Rattle.std.proofs.Common.{◌∙◌, sym}
-use Rattle.jexl_lexer.specs.Scanning.{first_sign, all_signs}
-use Rattle.jexl_lexer.proofs.SignSteps.{sign_here}
+use Rattle.jexl_lexer.proofs.SignAt.{sign_single}
 use Rattle.jexl_lexer.proofs.signs.longest_sign.Goals as goal
 
-pub returns-then-starts_with_sign : goal.returns-then-starts_with_sign
-returns-then-starts_with_sign c =
-    c.sign_and_rest.ensures ∙ sign_here (first_sign all_signs c.args.text.now) c.loop-sign.signs.now c.in-Some.more.now c.in-Some.sign c.args.text.now c.loop-sign.invariant.same c.in-Some.ensures.found (sym c.if-starts_with_sign.true ∙ c.starts_with_sign.ensures)
+pub returns-in-Some-single_sign : goal.returns-in-Some-single_sign
+returns-in-Some-single_sign c =
+    sign_single c.args.text.now c.in-Some.rest.now c.in-Some.first c.in-Some-single_sign.sign c.in-Some.ensures.found c.in-None-double_sign_at.ensures c.in-Some-single_sign.ensures

@@ -1,4 +1,5 @@
 use Rattle.std.proofs.Common.{◌≡◌, ◌≤◌, ◌<◌, ◌+◌, ◌*◌, length}
+use Rattle.jexl_parser.specs.declared.node.TheConstants.{MAX_HEIGHT}
 use Rattle.jexl_parser.specs.Tree.{Members, no_pair}
 use Rattle.jexl_parser.specs.Seen.{cap}
 use Rattle.jexl_parser.specs.Reading.{read_of, Climb, Loop, APostfix, Suffixes, SomeExprs, MoreExprs, APair, MorePairs}
@@ -38,7 +39,7 @@ decreases-primary l = 8 * length l.tokens.now + 1
 
 abbrev pub invariant-climb-loop-sign : goal.invariant-climb-loop-sign
 invariant-climb-loop-sign l = record {
-  same : read_of 512 (Climb l.lowest) (kinds_of l.tokens) ≡ read_of 512 (Loop l.lowest (see l.left)) (kinds_of l.rest);
+  same : read_of MAX_HEIGHT (Climb l.lowest) (kinds_of l.tokens) ≡ read_of MAX_HEIGHT (Loop l.lowest (see l.left)) (kinds_of l.rest);
   short : length l.rest ≤ length l.tokens;
 }
 
@@ -47,7 +48,7 @@ decreases-climb-loop-sign l = length l.rest
 
 abbrev pub invariant-postfix-loop-first : goal.invariant-postfix-loop-first
 invariant-postfix-loop-first l = record {
-  same : read_of 512 APostfix (kinds_of l.tokens) ≡ read_of 512 (Suffixes (see l.subject)) (kinds_of l.rest);
+  same : read_of MAX_HEIGHT APostfix (kinds_of l.tokens) ≡ read_of MAX_HEIGHT (Suffixes (see l.subject)) (kinds_of l.rest);
   short : length l.rest ≤ length l.tokens;
 }
 
@@ -56,7 +57,7 @@ decreases-postfix-loop-first l = length l.rest
 
 abbrev pub invariant-some_exprs-loop-next : goal.invariant-some_exprs-loop-next
 invariant-some_exprs-loop-next l = record {
-  same : read_of 512 SomeExprs (kinds_of l.tokens) ≡ read_of 512 (MoreExprs (see_list l.items)) (kinds_of l.rest);
+  same : read_of MAX_HEIGHT SomeExprs (kinds_of l.tokens) ≡ read_of MAX_HEIGHT (MoreExprs (see_list l.items)) (kinds_of l.rest);
   short : length l.rest ≤ length l.tokens;
 }
 
@@ -65,7 +66,7 @@ decreases-some_exprs-loop-next l = length l.rest
 
 abbrev pub invariant-some_pairs-loop-next : goal.invariant-some_pairs-loop-next
 invariant-some_pairs-loop-next l = record {
-  same : read_of 512 (APair (cap 512 (Members no_pair))) (kinds_of l.tokens) ≡ read_of 512 (MorePairs (see_members l.pairs)) (kinds_of l.rest);
+  same : read_of MAX_HEIGHT (APair (cap MAX_HEIGHT (Members no_pair))) (kinds_of l.tokens) ≡ read_of MAX_HEIGHT (MorePairs (see_members l.pairs)) (kinds_of l.rest);
   short : length l.rest < length l.tokens;
 }
 
