@@ -1,20 +1,21 @@
 -- Layers are in a total order, in which only a layer's own slug ties; and a list in it that has no ties is in it strictly.
 use Rattle.std.proofs.Common.{◌≡◌, ℕ, ◌+◌, ◌<◌, Bool, false, List, [], ◌∷◌, length, get_or, map, refl, sym, ap, ◌∙◌, subst, arith, true≢false, Ordering, Less, Equal, Greater, is_lt, is_eq, int_cmp, IsSorted, IsPermutation}
-use Rattle.std.specs.Cmp.{IsTotalOrder, bool_cmp_total}
+use Rattle.std.specs.Cmp.{IsTotalOrder}
 use Rattle.std.specs.Cmp.Lexicographic.{options_total}
 use Rattle.std.specs.List.{IsDistinct}
 use Rattle.std.specs.List.Sorted.{IsStrictlySortedBy, IsSortedBy}
-use Rattle.std.specs.Ordering.{ordering_then, ordering_reverse, eq_by_cmp, bool_cmp, flip_args, on, then_cmp}
+use Rattle.std.specs.Ordering.{ordering_then, ordering_reverse, eq_by_cmp, flip_args, on, then_cmp}
 use Rattle.std.specs.Option.{option_cmp}
 use Rattle.std.proofs.lemmas.List.{get_or-map, length-map}
-use Rattle.std.proofs.lemmas.Cmp.{then_total, on_total, back_total, int_cmp_total, nat_list_cmp_total}
+use Rattle.std.proofs.lemmas.Cmp.{then_total, on_total, back_total, int_cmp_total, nat_cmp_total, nat_list_cmp_total}
 use Rattle.std.proofs.lemmas.Map.Keys.{IsDistinct-IsPermutation, IsDistinct-from_sorted, apart_from_distinct, sorted_from_all_adjacent}
+use Rattle.recipe_reader.specs.Kinds.{kind_place}
 use Rattle.recipe_reader.specs.Payloads.{slug_cmp}
-use Rattle.feature_serving.specs.Layers.{Layer, layer_cmp}
+use Rattle.feature_serving.specs.Layers.{Layer, kind_cmp, layer_cmp}
 use Rattle.feature_serving.proofs.Members.{same_in_order}
 
 pub layer_cmp_total : IsTotalOrder layer_cmp
-layer_cmp_total = then_total (then_total (on_total (λ (l : Layer). l.rollout) (back_total bool_cmp_total)) (on_total (λ (l : Layer). l.published) (options_total int_cmp_total))) (on_total (λ (l : Layer). l.slug) nat_list_cmp_total)
+layer_cmp_total = then_total (then_total (on_total (λ (l : Layer). l.kind) (back_total (on_total kind_place nat_cmp_total))) (on_total (λ (l : Layer). l.published_at) (options_total int_cmp_total))) (on_total (λ (l : Layer). l.slug) nat_list_cmp_total)
 
 then_tied : (o q : Ordering) → ordering_then o q ≡ Equal → q ≡ Equal
 then_tied Less q h = absurd (cc)
@@ -22,7 +23,7 @@ then_tied Equal q h = h
 then_tied Greater q h = absurd (cc)
 
 pub tied_slug : (l m : Layer) → layer_cmp l m ≡ Equal → slug_cmp l.slug m.slug ≡ Equal
-tied_slug l m h = then_tied (then_cmp (on (λ (l : Layer). l.rollout) (flip_args bool_cmp)) (on (λ (l : Layer). l.published) (option_cmp int_cmp)) l m) (slug_cmp l.slug m.slug) h
+tied_slug l m h = then_tied (then_cmp (on (λ (l : Layer). l.kind) (flip_args kind_cmp)) (on (λ (l : Layer). l.published_at) (option_cmp int_cmp)) l m) (slug_cmp l.slug m.slug) h
 
 -- what isn't before another and doesn't tie with it is behind it
 pub behind : {X : Type 0} {R : X → X → Ordering} → IsTotalOrder R → (x y : X) → is_lt (R x y) ≡ false → is_eq (R x y) ≡ false → R y x ≡ Less

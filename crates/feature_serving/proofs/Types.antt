@@ -2,7 +2,8 @@
 use Rattle.std.proofs.Common.{◌≡◌, ℕ, Bool, true, false, List, [], ◌∷◌, Option, Some, None, refl, sym, ap, ◌∙◌, subst, IfSome}
 use Rattle.std.specs.Prelude.{All, find, option_map, option_and_then, bytes_eq, if◌then◌else◌}
 use Rattle.fml_types.specs.Named.{found}
-use Rattle.fml_types.specs.Sound.{IsSoundManifest, AreSoundEntries, AreSoundFields}
+use Rattle.fml_types.specs.Sound.{IsSoundManifest, HasSoundTypes, AreSoundEntries, AreSoundFields}
+use Rattle.fml_types.proofs.SoundTypes.{sound_types}
 use Rattle.fml_value.specs.Typed.{TypedValue}
 use Rattle.fml_merge.specs.Features.{default_of, overlay_feature, IsOfFeature}
 use Rattle.fml_merge.proofs.Variables.{default_typed, overlay_typed}
@@ -96,17 +97,21 @@ module _ (m : Manifest) (f : FeatureDefinition) (keeps : (v : TypedValue) (x : J
 
 -- ---- the served value
 
-defined : (m : Manifest) (s : State) (name : List ℕ) (v : TypedValue) (o : Option FeatureDefinition) → found name m.features ≡ o → served m s name ≡ Some v → IsSoundManifest m → All HasSoundValues s.live → HasFeatureType m name v
+defined : (m : Manifest) (s : State) (name : List ℕ) (v : TypedValue) (o : Option FeatureDefinition) → found name m.features ≡ o → served m s name ≡ Some v → HasSoundTypes m → All (λ f. AreSoundEntries f.1.defaults) m.features → All HasSoundValues s.live → HasFeatureType m name v
 unfolding served
-defined m s name v None is e sound all = absurd (let none : Some v ≡ None = sym e ∙ ap (option_map (served_of m s name)) is in cc)
-defined m s name v (Some f) is e sound all =
+defined m s name v None is e sound defaults all = absurd (let none : Some v ≡ None = sym e ∙ ap (option_map (served_of m s name)) is in cc)
+defined m s name v (Some f) is e sound defaults all =
     let fields = found_all (λ (f : FeatureDefinition). AreSoundFields m.types f.variables) name m.features f sound.variables is in
-    let entries = found_all (λ (f : FeatureDefinition). AreSoundEntries f.defaults) name m.features f sound.defaults is in
+    let entries = found_all (λ (f : FeatureDefinition). AreSoundEntries f.defaults) name m.features f defaults is in
     record {
       feature = f;
       defined = is;
-      typed = typed_served m f (overlay_typed m f sound fields) s name v (default_typed m f sound fields entries) all is e;
+      typed = typed_served m f (overlay_typed m f sound.types sound.grounded fields) s name v (default_typed m f sound.types sound.grounded fields entries) all is e;
     }
 
+pub typed_by_types : (m : Manifest) (s : State) (name : List ℕ) (v : TypedValue) → HasSoundTypes m → All (λ f. AreSoundEntries f.1.defaults) m.features → All HasSoundValues s.live → served m s name ≡ Some v → HasFeatureType m name v
+typed_by_types m s name v sound defaults all e = defined m s name v (found name m.features) refl e sound defaults all
+
+-- in particular where the whole manifest is sound
 pub served_typed : (m : Manifest) (s : State) (name : List ℕ) (v : TypedValue) → IsSoundManifest m → All HasSoundValues s.live → served m s name ≡ Some v → HasFeatureType m name v
-served_typed m s name v sound all e = defined m s name v (found name m.features) refl e sound all
+served_typed m s name v sound all e = typed_by_types m s name v (sound_types m sound) sound.defaults all e

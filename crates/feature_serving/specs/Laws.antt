@@ -6,7 +6,7 @@ use Rattle.json_tree.specs.Tree.{json_of}
 use Rattle.recipe_reader.specs.declared.recipe.Branch.{Branch}
 use Rattle.recipe_reader.specs.declared.recipe.FeatureValue.{FeatureValue}
 use Rattle.recipe_reader.specs.declared.recipe.Recipe.{Recipe}
-use Rattle.fml_types.specs.Sound.{IsSoundManifest}
+use Rattle.fml_types.specs.Sound.{AreSoundEntries, HasSoundTypes}
 use Rattle.fml_types.specs.declared.manifest.Manifest.{Manifest}
 use Rattle.fml_value.specs.Typed.{TypedValue}
 use Rattle.enrol_states.specs.Order.{Rise}
@@ -31,6 +31,6 @@ IsOneOrder = (s : State) (feature : List ℕ) (ls : List Layer) → Rise (slugs_
 abbrev pub HasSoundValues : Recipe → Type 0
 HasSoundValues r = All (λ (b : Branch). All (λ (v : FeatureValue). IsSound (json_of v.value)) b.features) r.branches
 
--- what is served has the type of its feature, where the manifest is sound and so is what the live recipes set
+-- what is served has the type of its feature, where the manifest's types are sound, and so are its defaults and what the live recipes set
 abbrev pub HaveTypes : Type 0
-HaveTypes = (m : Manifest) (s : State) (name : List ℕ) (v : TypedValue) → IsSoundManifest m → All HasSoundValues s.live → served m s name ≡ Some v → HasFeatureType m name v
+HaveTypes = (m : Manifest) (s : State) (name : List ℕ) (v : TypedValue) → HasSoundTypes m → All (λ f. AreSoundEntries f.1.defaults) m.features → All HasSoundValues s.live → served m s name ≡ Some v → HasFeatureType m name v

@@ -5,4 +5,4 @@ use Rattle.feature_serving.specs.declared.layers.Layer as lent
 
 -- a layer without its addresses
 abbrev pub view : lent.Layer → Layer
-view l = record { rollout = l.rollout; published = l.published; slug = l.slug.now; value = json_of l.value.now }
+view l = record { kind = l.kind; published_at = l.published_at; slug = l.slug.now; value = json_of l.value.now }

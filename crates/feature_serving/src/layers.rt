@@ -2,23 +2,22 @@
 ghost use Rattle.std.specs.Prelude.{◌≡◌, find, map, IfOk, option_map, option_and_then, bytes_eq};
 ghost use Rattle.enrol_states.specs.Order.{Rise};
 ghost use Rattle.enrol_states.specs.State.{slugs_of};
-ghost use Rattle.feature_serving.specs.Layers.{branch_with, set_by, published_at, layer_in, layer_of, laid_by_rows, layer_cmp, layers};
+ghost use Rattle.feature_serving.specs.Layers.{branch_with, set_by, layer_in, layer_of, laid_by_rows, layer_cmp, layers};
 ghost use Rattle.feature_serving.specs.Lent.{view};
 
 use enrol_states::{Row, State, Status};
 use json_tree::Tree;
-use plain_text::read_moment;
-use recipe_reader::{Branch, Recipe, Recipes};
+use recipe_reader::{Branch, Kind, Recipe, Recipes};
 use std::alloc::{AllocError, Global};
 use std::cmp::Ordering;
 
 /// What an enrolment lays over a feature.
 #[derive(Drop)]
 pub(crate) struct Layer<'a> {
-    /// Whether the recipe is a rollout and no experiment.
-    rollout: bool,
+    /// What the recipe is.
+    kind: Kind,
     /// When the recipe was published, in seconds since 1970 began.
-    published: Option<i64>,
+    published_at: Option<i64>,
     /// The recipe's slug.
     slug: &'a str,
     /// What the branch sets of the feature.
@@ -31,8 +30,8 @@ impl<'a> Layer<'a> {
     fn rank(&self, other: &Layer) -> Ordering
         ensures { result ≡ layer_cmp (view self.now) (view other.now) }
     {
-        let kind = other.rollout.cmp(&self.rollout);
-        let moment = self.published.cmp(&other.published);
+        let kind = other.kind.cmp(&self.kind);
+        let moment = self.published_at.cmp(&other.published_at);
         let slug = self.slug.cmp(other.slug);
         kind.then(moment).then(slug)
     }
@@ -88,8 +87,8 @@ fn layer_in<'a>(feature: &str, slug: &'a str, recipe: &'a Recipe, branch: &str) 
 {
     let value = set_by(feature, branch_with(branch, recipe)?)?;
     Some(Layer {
-        rollout: recipe.rollout,
-        published: published_at(recipe),
+        kind: recipe.kind(),
+        published_at: recipe.published_at(),
         slug,
         value,
     })
@@ -110,14 +109,4 @@ fn set_by<'a>(feature: &str, branch: &'a Branch) -> Option<&'a Tree>
     let features = branch.features.as_slice();
     let set = features.iter().find(|set| set.feature.as_str() == feature)?;
     Some(&set.value)
-}
-
-/// When the recipe was published, where its text is a moment.
-fn published_at(recipe: &Recipe) -> Option<i64>
-    ensures { result ≡ published_at recipe.now }
-{
-    match &recipe.published {
-        Some(text) => read_moment(text.as_str().as_bytes()),
-        None => None,
-    }
 }

@@ -2,7 +2,7 @@
 ghost use Rattle.std.specs.Prelude.{◌≡◌, map, IfOk};
 ghost use Rattle.enrol_states.specs.Order.{Rise};
 ghost use Rattle.enrol_states.specs.State.{slugs_of};
-ghost use Rattle.fml_types.specs.Sound.{IsSoundManifest, IsSoundTable, AreSoundFields};
+ghost use Rattle.fml_types.specs.Sound.{IsSoundTable, IsGrounded, AreSoundFields, HasSoundTypes};
 ghost use Rattle.fml_value.specs.TypedOf.{typed_of};
 ghost use Rattle.fml_merge.specs.Features.{IsOfFeature};
 ghost use Rattle.feature_serving.specs.Lent.{view};
@@ -45,7 +45,7 @@ pub fn served(
     state: &State,
     feature: &str,
 ) -> Result<Value, ServeFault>
-    requires sound { IsSoundManifest manifest.now }
+    requires sound { HasSoundTypes manifest.now }
     requires rows { Rise (slugs_of state.now.rows) }
     ensures answer { GivesServed result (served manifest.now state.now feature.now) }
     ensures has_type { IfOk result (λ v. HasFeatureType manifest.now feature.now (typed_of v)) }
@@ -68,7 +68,7 @@ fn lay(
     layers: &[Layer],
 ) -> Result<Value, AllocError>
     ensures value { IfOk result (λ v. typed_of v ≡ layers_laid manifest.now feature.now (typed_of value) (map view layers.now)) }
-    ensures typed { IfOk result (λ v. IsSoundManifest manifest.now → AreSoundFields manifest.now.types feature.now.variables → IsOfFeature manifest.now feature.now (typed_of value) → IsOfFeature manifest.now feature.now (typed_of v)) }
+    ensures typed { IfOk result (λ v. IsSoundTable manifest.now.types → IsGrounded manifest.now.types → AreSoundFields manifest.now.types feature.now.variables → IsOfFeature manifest.now feature.now (typed_of value) → IsOfFeature manifest.now feature.now (typed_of v)) }
 {
     for layer in layers {
         value = overlay_feature(alloc, manifest, feature, value, layer.value)?;

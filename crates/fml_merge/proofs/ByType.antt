@@ -18,6 +18,7 @@ use Rattle.fml_merge.specs.Laws.{ValuesHaveTypes, FeaturesHaveTypes, ZerosByType
 use Rattle.fml_merge.specs.Overlay.{held, laid, items_laid, members_laid, pairs_in, fields_of}
 use Rattle.fml_merge.specs.Zero.{zero_named, object_zero, zero_of, overlay}
 use Rattle.fml_merge.proofs.Levels.{zeros_typed, low_objects}
+use Rattle.fml_merge.proofs.Stable.{zero_over}
 use Rattle.fml_merge.proofs.Typing.{over_typed, sound_scope}
 use Rattle.fml_merge.proofs.Variables.{default_typed, overlay_typed}
 
@@ -29,7 +30,7 @@ values_typed types t table grounded sound =
     )
 
 pub features_typed : FeaturesHaveTypes
-features_typed m f whole fields = (λ entries. default_typed m f whole fields entries, λ base x typed sound. overlay_typed m f whole fields base x typed sound)
+features_typed m f table grounded fields = (λ entries. default_typed m f table grounded fields entries, λ base x typed sound. overlay_typed m f table grounded fields base x typed sound)
 
 pub zeros_are : (types : TypeTable) → ZerosByType types
 zeros_are types = record {
@@ -42,6 +43,7 @@ zeros_are types = record {
   of_list = λ t. refl;
   of_map = λ k t. refl;
   of_enum = λ n e is. ap (λ (o : Maybe EnumDefinition). zero_named o (object_zero types 32 n)) is;
+  of_object = λ n o grounded none there. zero_over types n o (low_objects types grounded) none there;
 }
 
 odd_untaken : (types : TypeTable) (t : Shape) → takes types t json.odd ≡ true → ⊥

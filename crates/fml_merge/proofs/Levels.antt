@@ -1,6 +1,5 @@
 -- The zeros of a grounded table have their types.
-use Rattle.std.proofs.Common.{◌≡◌, ℕ, zero, suc, ◌+◌, ◌<◌, ◌≤◌, Bool, true, false, List as Seq, [], ◌∷◌, length, map as over, get_or, Option as Maybe, Some, None, option_map, Ok, is_some, FitsSigned, w64, pos, rules, refl, sym, ap, ◌∙◌, subst, arith}
-use Rattle.std.proofs.lemmas.List.{length-map}
+use Rattle.std.proofs.Common.{◌≡◌, ℕ, zero, suc, ◌+◌, ◌<◌, ◌≤◌, Bool, true, false, List as Seq, [], ◌∷◌, length, map as over, Option as Maybe, Some, None, Ok, is_some, FitsSigned, w64, pos, rules, refl, sym, ap, ◌∙◌, subst, arith}
 use Rattle.std.proofs.lemmas.Str.{IsUtf8-nil}
 use Rattle.std.specs.Cmp.Lexicographic.{bytes_decides}
 use Rattle.std.specs.Prelude.{nat_lt, ◌&&◌, ◌||◌, bytes_eq, option_and_then, if◌then◌else◌}
@@ -9,9 +8,8 @@ use Rattle.json_tree.specs.Json.{Json, IsSound}
 use Rattle.json_tree.specs.Tree.{json_of}
 use Rattle.json_tree.specs.declared.tree.Tree.{Tree}
 use Rattle.fml_types.specs.Graph.{mention, is_named, is_list, is_map, is_empty, is_empty_json, has_no_items, has_no_members, need_of, part_of, graph_of}
-use Rattle.fml_types.specs.Ground.{parts_at, greatest, at, reached_all, value_of_need, needed, height_up_to, first_above, endless, too_large, verdict, grounding}
+use Rattle.fml_types.specs.Ground.{greatest, at, reached_all, value_of_need, needed, height_up_to, first_above, endless, too_large, verdict, grounding}
 use Rattle.fml_types.specs.Named.{found, has_name, place}
-use Rattle.fml_types.specs.Reach.{Mentions}
 use Rattle.fml_types.specs.Shape as shape
 use Rattle.fml_types.specs.Shape.{Shape}
 use Rattle.fml_types.specs.Shapes.{shape_of}
@@ -22,8 +20,7 @@ use Rattle.fml_types.specs.declared.manifest.EnumDefinition.{EnumDefinition}
 use Rattle.fml_types.specs.declared.manifest.Field.{Field}
 use Rattle.fml_types.specs.declared.manifest.ObjectDefinition.{ObjectDefinition}
 use Rattle.fml_types.specs.declared.manifest.TypeTable.{TypeTable}
-use Rattle.fml_types.proofs.Places.{found_none, place_within}
-use Rattle.fml_types.proofs.Reaching.{mentions_now, mentions_later, base_le, reached_all_closed}
+use Rattle.fml_types.proofs.Reaching.{base_le}
 use Rattle.fml_value.proofs.OneValue.{all_found}
 use Rattle.fml_value.specs.HasType.{HasType, AreFields}
 use Rattle.fml_value.specs.Kinds.{is_variant_of}
@@ -32,51 +29,13 @@ use Rattle.fml_value.specs.Typed as typed
 use Rattle.fml_value.specs.Typed.{TypedValue, entries_of}
 use Rattle.fml_merge.specs.Overlay.{fields_of, pairs_in, overlay_with}
 use Rattle.fml_merge.specs.Zero.{least, zero_named, zero_within, object_zero, with_default, initial, HasZeros}
+use Rattle.fml_merge.proofs.Needs.{mentioned, field_within, low_parts, at_place, at_le, first_greatest}
 use Rattle.fml_merge.proofs.Typing.{IsScope, over_typed, sound_fields, sound_field, sound_scope, to_object, entries_kept}
-
--- ---- the graph of a table
-
-module _ (objects : Seq (Seq ℕ × ObjectDefinition)) where
-  -- where the object stands that a type mentions
-  abbrev mentioned : Shape → Maybe ℕ
-  mentioned t = option_and_then (λ n. place n objects) (mention t)
-
-  parts_found : (os : Seq (Seq ℕ × ObjectDefinition)) (n : Seq ℕ) (o : ObjectDefinition) (i : ℕ) → place n os ≡ Some i → found n os ≡ Some o → get_or (over (λ (q : Seq ℕ × ObjectDefinition). over (part_of objects) q.1.fields) os) i [] ≡ over (part_of objects) o.fields
-  parts_found [] n o i here is = absurd cc
-  parts_found (p ∷ ps) n o i here is = one (bytes_eq p.0 n) (place n ps) refl i here is (λ j e d. parts_found ps n o j e d)
-    where
-      one : (b : Bool) (q : Maybe ℕ) → place n ps ≡ q → (i : ℕ) → (if b then Some 0 else option_map suc q) ≡ Some i → (if b then Some p.1 else found n ps) ≡ Some o
-          → ((j : ℕ) → place n ps ≡ Some j → found n ps ≡ Some o → get_or (over (λ (r : Seq ℕ × ObjectDefinition). over (part_of objects) r.1.fields) ps) j [] ≡ over (part_of objects) o.fields)
-          → get_or (over (part_of objects) p.1.fields ∷ over (λ (r : Seq ℕ × ObjectDefinition). over (part_of objects) r.1.fields) ps) i [] ≡ over (part_of objects) o.fields
-      one true q e zero here is rest = let same : p.1 ≡ o = cc in ap (λ (d : ObjectDefinition). over (part_of objects) d.fields) same
-      one true q e (suc i) here is rest = absurd cc
-      one false None e i here is rest = absurd cc
-      one false (Some j) e zero here is rest = absurd cc
-      one false (Some j) e (suc i) here is rest = let same : j ≡ i = cc in rest i (e ∙ ap (λ m. Some m) same) is
-
-  field_mentions : (fs : Seq (Seq ℕ × Field)) (name : Seq ℕ) (f : Field) (j : ℕ) → found name fs ≡ Some f → mentioned (shape_of f.field_type) ≡ Some j → Mentions (over (part_of objects) fs) j
-  unfolding part_of
-  field_mentions [] name f j is e = absurd cc
-  field_mentions (p ∷ ps) name f j is e = one (bytes_eq p.0 name) is (λ d. field_mentions ps name f j d e)
-    where
-      one : (b : Bool) → (if b then Some p.1 else found name ps) ≡ Some f → (found name ps ≡ Some f → Mentions (over (part_of objects) ps) j) → Mentions (over (part_of objects) (p ∷ ps)) j
-      one true here rest = let same : p.1 ≡ f = cc in mentions_now (part_of objects p) (over (part_of objects) ps) j (ap (λ (g : Field). mentioned (shape_of g.field_type)) same ∙ e)
-      one false here rest = mentions_later (part_of objects p) (over (part_of objects) ps) j (rest here)
 
 -- ---- small facts
 
 zero_fits : FitsSigned w64 (pos 0)
 zero_fits = search rules
-
-is_less : (i n : ℕ) → i < n → nat_lt i n ≡ true
-is_less i n h = grind arith
-
-at_le : (v r : ℕ → ℕ) → ((i : ℕ) → v i ≤ r i) → (m : Maybe ℕ) → at v m ≤ at r m
-at_le v r low None = omega arith
-at_le v r low (Some i) = low i
-
-first_greatest : (f : Part → ℕ) (p : Part) (ps : Seq Part) (k : ℕ) → greatest f (p ∷ ps) ≤ k → (f p ≤ k) × (greatest f ps ≤ k)
-first_greatest f p ps k h = (omega arith, omega arith)
 
 least_there : {T : Type 0} (vs : Seq (Seq ℕ × T)) → 0 < length vs → is_some (found (least vs) vs) ≡ true
 least_there [] h = absurd (omega arith)
@@ -98,25 +57,12 @@ module _ (types : TypeTable) (table : IsSoundTable types) where
   abbrev Within : (ℕ → ℕ) → ℕ → Shape → Type 0
   Within v k t = IsSoundType types t × (at (reached_all graph v) (mentioned types.objects t) ≤ k)
 
-  target_within : (v : ℕ → ℕ) (k i : ℕ) (o : ObjectDefinition) (n name : Seq ℕ) (f : Field) → place n types.objects ≡ Some i → found n types.objects ≡ Some o → found name o.fields ≡ Some f → reached_all graph v i ≤ k
-      → (m : Maybe ℕ) → mentioned types.objects (shape_of f.field_type) ≡ m → at (reached_all graph v) m ≤ k
-  target_within v k i o n name f here is there low None e = omega arith
-  target_within v k i o n name f here is there low (Some j) e =
-      let mention = subst (λ ps. Mentions ps j) (sym (parts_found types.objects types.objects n o i here is)) (field_mentions types.objects o.fields name f j there e) in
-      let up = reached_all_closed graph v i j mention in
-      omega (arith, up, low)
-
-  field_within : (v : ℕ → ℕ) (k : ℕ) (o : ObjectDefinition) (n name : Seq ℕ) (f : Field) → found n types.objects ≡ Some o → found name o.fields ≡ Some f → (q : Maybe ℕ) → place n types.objects ≡ q → at (reached_all graph v) q ≤ k
-      → at (reached_all graph v) (mentioned types.objects (shape_of f.field_type)) ≤ k
-  field_within v k o n name f is there None e low = absurd (let none = found_none n types.objects e in cc)
-  field_within v k o n name f is there (Some i) e low = target_within v k i o n name f e is there low (mentioned types.objects (shape_of f.field_type)) refl
-
   within_scope : (v : ℕ → ℕ) (k : ℕ) → IsScope types (Within v k)
   within_scope v k = record {
     inner = λ t p. ((sound_scope types table).inner t p.0, p.1);
     items = λ t p. ((sound_scope types table).items t p.0, p.1);
     entries = λ key t p. ((sound_scope types table).entries key t p.0, p.1);
-    fields = λ n o name f p is there. (sound_field types o.fields name f (sound_fields types table n o is) there, field_within v k o n name f is there (place n types.objects) refl p.1);
+    fields = λ n o name f p is there. (sound_field types o.fields name f (sound_fields types table n o is) there, field_within types v k o n name f is there (place n types.objects) refl p.1);
   }
 
   -- ---- zeros that need no object
@@ -240,19 +186,6 @@ module _ (types : TypeTable) (table : IsSoundTable types) where
       absurd (let absent : (has_name n types.enums || has_name n types.objects) ≡ false = ap (λ b. b || has_name n types.objects) (not_named n types.enums none) ∙ not_named n types.objects is in
       let unknown = ap (where_unknown n) (sym absent) ∙ sound.known in cc)
 
-  -- the height of an object that is there, at the next level
-  low_parts : (k : ℕ) (n : Seq ℕ) (o : ObjectDefinition) → found n types.objects ≡ Some o → (q : Maybe ℕ) → place n types.objects ≡ q → at (height_up_to graph (suc k)) q ≤ k
-      → suc (greatest (needed (height_up_to graph k) (reached_all graph (height_up_to graph k))) (over (part_of types.objects) o.fields)) ≤ k
-  low_parts k n o is None e low = absurd (let none = found_none n types.objects e in cc)
-  low_parts k n o is (Some i) e low =
-      let within = place_within n types.objects i e in
-      let count : length graph ≡ length types.objects = length-map types.objects _ in
-      let here = parts_found types.objects types.objects n o i e is in
-      let less : nat_lt i (length graph) ≡ true = is_less i (length graph) (omega (arith, within, count)) in
-      let high : height_up_to graph (suc k) i ≡ suc (greatest (needed (height_up_to graph k) (reached_all graph (height_up_to graph k))) (over (part_of types.objects) o.fields)) =
-      ap (λ b. if b then suc (greatest (needed (height_up_to graph k) (reached_all graph (height_up_to graph k))) (parts_at graph i)) else 0) less ∙ ap (λ ps. suc (greatest (needed (height_up_to graph k) (reached_all graph (height_up_to graph k))) ps)) here in
-      omega (arith, high, low)
-
   pub zero_typed : (k : ℕ) (t : Shape) → IsSoundType types t → at (height_up_to graph (suc k)) (mentioned types.objects t) ≤ k → HasType types t (zero_within types k t)
   zero_typed k shape.boolean sound low = simple_zero k shape.boolean refl
   zero_typed k shape.int sound low = simple_zero k shape.int refl
@@ -266,7 +199,7 @@ module _ (types : TypeTable) (table : IsSoundTable types) where
     where
       bottom : (e : Maybe EnumDefinition) → found n types.enums ≡ e → HasType types (shape.named n) (zero_named e (object_zero types zero n))
       bottom (Some e) is = variant_zero n e (object_zero types zero n) is
-      bottom None is = let o = known_object n sound is (found n types.objects) refl in absurd (let high = low_parts zero n o.0 o.1 (place n types.objects) refl low in omega (arith, high))
+      bottom None is = let o = known_object n sound is (found n types.objects) refl in absurd (let high = low_parts types zero n o.0 o.1 (place n types.objects) refl low in omega (arith, high))
   zero_typed (suc k) (shape.named n) sound low = one (found n types.enums) refl (zero_typed k)
     where
       one : (e : Maybe EnumDefinition) → found n types.enums ≡ e → ((u : Shape) → IsSoundType types u → at (height_up_to graph (suc k)) (mentioned types.objects u) ≤ k → HasType types u (zero_within types k u))
@@ -274,15 +207,11 @@ module _ (types : TypeTable) (table : IsSoundTable types) where
       one (Some e) is below = variant_zero n e (object_zero types (suc k) n) is
       one None is below =
           let o = known_object n sound is (found n types.objects) refl in
-          let low_o = low_parts (suc k) n o.0 o.1 (place n types.objects) refl low in
+          let low_o = low_parts types (suc k) n o.0 o.1 (place n types.objects) refl low in
           let fs = o.0.fields in
           let done = initial_typed k (height_up_to graph (suc k)) below fs (sound_fields types table n o.0 o.1) (omega (arith, low_o)) in
           to_object types (found n types.enums) (found n types.objects) (λ gs. AreFields types gs (entries_of (initial (zero_within types k) types (fields_of (found n types.objects))))) o.0 is o.1
           (subst (λ (d : Maybe ObjectDefinition). AreFields types fs (entries_of (initial (zero_within types k) types (fields_of d)))) (sym o.1) done)
-
-  at_place : ((i : ℕ) → i < length types.objects → height_up_to graph 33 i ≤ 32) → (n : Seq ℕ) (q : Maybe ℕ) → place n types.objects ≡ q → at (height_up_to graph 33) q ≤ 32
-  at_place low n None e = omega arith
-  at_place low n (Some i) e = low i (place_within n types.objects i e)
 
   -- the zeros of a grounded table
   pub zeros_typed : ((i : ℕ) → i < length types.objects → height_up_to graph 33 i ≤ 32) → HasZeros types
@@ -290,7 +219,7 @@ module _ (types : TypeTable) (table : IsSoundTable types) where
     where
       all_low : (m : Maybe (Seq ℕ)) → at (height_up_to graph 33) (option_and_then (λ n. place n types.objects) m) ≤ 32
       all_low None = omega arith
-      all_low (Some n) = at_place low n (place n types.objects) refl
+      all_low (Some n) = at_place types low n (place n types.objects) refl
 
 -- ---- what grounded says
 

@@ -6,6 +6,9 @@ pub mod Firsts
 pub mod Typing
 pub mod Results
 pub mod Fields
+pub mod Needs
 pub mod Levels
+pub mod Agreement
+pub mod Stable
 pub mod Variables
 pub mod ByType

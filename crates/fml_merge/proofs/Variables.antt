@@ -6,7 +6,7 @@ use Rattle.json_tree.specs.Json.{Json, IsSound}
 use Rattle.json_tree.specs.Tree.{json_of}
 use Rattle.json_tree.specs.declared.tree.Tree.{Tree}
 use Rattle.fml_types.specs.Shapes.{shape_of}
-use Rattle.fml_types.specs.Sound.{IsSoundManifest, IsSoundTable, IsSoundType, IsSoundDefault, AreSoundEntries, AreSoundFields}
+use Rattle.fml_types.specs.Sound.{IsSoundTable, IsSoundType, IsGrounded, IsSoundDefault, AreSoundEntries, AreSoundFields}
 use Rattle.fml_types.specs.declared.manifest.DefaultEntry.{DefaultEntry}
 use Rattle.fml_types.specs.declared.manifest.FeatureDefinition.{FeatureDefinition}
 use Rattle.fml_types.specs.declared.manifest.Field.{Field}
@@ -31,14 +31,14 @@ variables_typed types table zeros (f ∷ fs) sound =
     one s None d = zeros (shape_of f.1.field_type) s
     one s (Some tree) d = over_typed types (zero_of types) (IsSoundType types) (sound_scope types table) zeros (shape_of f.1.field_type) (zero_of types (shape_of f.1.field_type)) (json_of tree) s (zeros (shape_of f.1.field_type) s) d
 
--- ---- a sound manifest's feature
+-- ---- a feature over sound types
 
-module _ (m : Manifest) (f : FeatureDefinition) (whole : IsSoundManifest m) (fields : AreSoundFields m.types f.variables) where
+module _ (m : Manifest) (f : FeatureDefinition) (table : IsSoundTable m.types) (grounded : IsGrounded m.types) (fields : AreSoundFields m.types f.variables) where
   zeros : HasZeros m.types
-  zeros = zeros_typed m.types whole.types (low_objects m.types whole.grounded)
+  zeros = zeros_typed m.types table (low_objects m.types grounded)
 
   object_over : (v : TypedValue) (ms : json.Members) → IsOfFeature m f v → json.AreSoundMembers ms → IsOfFeature m f (overlay_feature m f v (json.object ms))
-  object_over (object es) ms h sound = fields_typed m.types (zero_of m.types) (IsSoundType m.types) (sound_scope m.types whole.types) zeros f.variables es ms (λ name g is. sound_field m.types f.variables name g fields is) h sound
+  object_over (object es) ms h sound = fields_typed m.types (zero_of m.types) (IsSoundType m.types) (sound_scope m.types table) zeros f.variables es ms (λ name g is. sound_field m.types f.variables name g fields is) h sound
   object_over v ms h sound = absurd h
 
   pub overlay_typed : (v : TypedValue) (x : Json) → IsOfFeature m f v → IsSound x → IsOfFeature m f (overlay_feature m f v x)
@@ -53,4 +53,4 @@ module _ (m : Manifest) (f : FeatureDefinition) (whole : IsSoundManifest m) (fie
       entries_typed (if is_for m.channel e.channels then overlay_feature m f v (json_of e.value) else v) es one (λ j d less. sound (suc j) d (omega arith))
 
   pub default_typed : AreSoundEntries f.defaults → IsOfFeature m f (default_of m f)
-  default_typed sound = entries_typed _ f.defaults (variables_typed m.types whole.types zeros f.variables fields) sound
+  default_typed sound = entries_typed _ f.defaults (variables_typed m.types table zeros f.variables fields) sound

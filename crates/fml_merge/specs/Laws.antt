@@ -5,7 +5,7 @@ use Rattle.json_tree.specs.Json.{Json, IsSound}
 use Rattle.fml_types.specs.Named.{found}
 use Rattle.fml_types.specs.Shape as shape
 use Rattle.fml_types.specs.Shape.{Shape}
-use Rattle.fml_types.specs.Sound.{IsSoundTable, IsSoundType, IsGrounded, IsSoundManifest, AreSoundFields, AreSoundEntries}
+use Rattle.fml_types.specs.Sound.{IsSoundTable, IsSoundType, IsGrounded, AreSoundFields, AreSoundEntries}
 use Rattle.fml_types.specs.declared.manifest.EnumDefinition.{EnumDefinition}
 use Rattle.fml_types.specs.declared.manifest.FeatureDefinition.{FeatureDefinition}
 use Rattle.fml_types.specs.declared.manifest.Manifest.{Manifest}
@@ -18,7 +18,7 @@ use Rattle.fml_value.specs.Takes.{takes}
 use Rattle.fml_value.specs.Typed.{TypedValue, truth, whole, text, absent, present, list, map, variant, object, no_items, no_entries, entries_of}
 use Rattle.fml_merge.specs.Features.{IsOfFeature, default_of, overlay_feature}
 use Rattle.fml_merge.specs.Overlay.{held, items_laid, members_laid, pairs_in}
-use Rattle.fml_merge.specs.Zero.{least, zero_of, overlay}
+use Rattle.fml_merge.specs.Zero.{least, initial, zero_of, overlay}
 
 -- over sound types that are grounded, the zero of a type has the type, and what is laid over a value of the type has it
 abbrev pub ValuesHaveTypes : Type 0
@@ -27,10 +27,10 @@ ValuesHaveTypes = (types : TypeTable) (t : Shape) → IsSoundTable types → IsG
 
 -- so has the default of a feature, and what is laid over a value of it
 abbrev pub FeaturesHaveTypes : Type 0
-FeaturesHaveTypes = (m : Manifest) (f : FeatureDefinition) → IsSoundManifest m → AreSoundFields m.types f.variables
+FeaturesHaveTypes = (m : Manifest) (f : FeatureDefinition) → IsSoundTable m.types → IsGrounded m.types → AreSoundFields m.types f.variables
     → (AreSoundEntries f.defaults → IsOfFeature m f (default_of m f)) × ((base : TypedValue) (x : Json) → IsOfFeature m f base → IsSound x → IsOfFeature m f (overlay_feature m f base x))
 
--- the zero of each kind of type but objects
+-- the zero of each kind of type: of an object, each field's default laid over the zero of its type
 pub record ZerosByType (types : TypeTable) : Type 0 where
   pub of_boolean : zero_of types shape.boolean ≡ truth false
   pub of_int : zero_of types shape.int ≡ whole (pos 0)
@@ -41,6 +41,7 @@ pub record ZerosByType (types : TypeTable) : Type 0 where
   pub of_list : (t : Shape) → zero_of types (shape.list t) ≡ list no_items
   pub of_map : (k : _) (t : Shape) → zero_of types (shape.map k t) ≡ map no_entries
   pub of_enum : (n : Seq ℕ) (e : EnumDefinition) → found n types.enums ≡ Some e → zero_of types (shape.named n) ≡ variant (least e.variants)
+  pub of_object : (n : Seq ℕ) (o : ObjectDefinition) → IsGrounded types → found n types.enums ≡ None → found n types.objects ≡ Some o → zero_of types (shape.named n) ≡ object (entries_of (initial (zero_of types) types o.fields))
 
 -- a tree laid over a value of each kind of type
 pub record LayingByType (types : TypeTable) : Type 0 where

@@ -1,7 +1,7 @@
 // Defaults of features, and trees laid over values of features.
 ghost use Rattle.std.specs.Prelude.{◌≡◌, [], ◌∷◌, IfOk, bytes_eq};
 ghost use Rattle.std.specs.List.{list_any};
-ghost use Rattle.fml_types.specs.Sound.{IsSoundManifest, AreSoundFields};
+ghost use Rattle.fml_types.specs.Sound.{IsSoundTable, IsGrounded, AreSoundFields};
 ghost use Rattle.fml_value.specs.TypedOf.{typed_of};
 ghost use Rattle.json_tree.specs.Tree.{json_of};
 ghost use Rattle.fml_merge.specs.Features as features;
@@ -26,7 +26,7 @@ pub fn default_of(
     feature: &FeatureDefinition,
 ) -> Result<Value, AllocError>
     ensures value { IfOk result (λ v. typed_of v ≡ features.default_of manifest.now feature.now) }
-    ensures typed { IfOk result (λ v. IsSoundManifest manifest.now → AreSoundFields manifest.now.types feature.now.variables → IsOfFeature manifest.now feature.now (typed_of v)) }
+    ensures typed { IfOk result (λ v. IsSoundTable manifest.now.types → IsGrounded manifest.now.types → AreSoundFields manifest.now.types feature.now.variables → IsOfFeature manifest.now feature.now (typed_of v)) }
 {
     let mut value = Value::Object(initial(alloc, &manifest.types, MAX_LEVELS, &feature.variables)?);
     let entries = feature.defaults.as_slice();
@@ -48,7 +48,7 @@ pub fn overlay_feature(
     patch: &Tree,
 ) -> Result<Value, AllocError>
     ensures value { IfOk result (λ v. typed_of v ≡ features.overlay_feature manifest.now feature.now (typed_of base) (json_of patch.now)) }
-    ensures typed { IfOk result (λ v. IsSoundManifest manifest.now → AreSoundFields manifest.now.types feature.now.variables → IsOfFeature manifest.now feature.now (typed_of base) → IsOfFeature manifest.now feature.now (typed_of v)) }
+    ensures typed { IfOk result (λ v. IsSoundTable manifest.now.types → IsGrounded manifest.now.types → AreSoundFields manifest.now.types feature.now.variables → IsOfFeature manifest.now feature.now (typed_of base) → IsOfFeature manifest.now feature.now (typed_of v)) }
 {
     patch.keeps();
     match patch {
@@ -77,7 +77,7 @@ fn lay_entry(
     entry: &DefaultEntry,
 ) -> Result<Value, AllocError>
     ensures value { IfOk result (λ v. typed_of v ≡ features.entries_laid manifest.now feature.now (typed_of base) (entry.now ∷ [])) }
-    ensures typed { IfOk result (λ v. IsSoundManifest manifest.now → AreSoundFields manifest.now.types feature.now.variables → IsOfFeature manifest.now feature.now (typed_of base) → IsOfFeature manifest.now feature.now (typed_of v)) }
+    ensures typed { IfOk result (λ v. IsSoundTable manifest.now.types → IsGrounded manifest.now.types → AreSoundFields manifest.now.types feature.now.variables → IsOfFeature manifest.now feature.now (typed_of base) → IsOfFeature manifest.now feature.now (typed_of v)) }
 {
     if is_for(entry, manifest.channel.as_str()) {
         overlay_feature(alloc, manifest, feature, base, &entry.value)

@@ -9,7 +9,8 @@ pub fn values_have_types()
     ensures of_features { FeaturesHaveTypes }
 {}
 
-/// The zero of each kind of type but objects. It takes no memory.
+/// The zero of each kind of type; of an object, over a grounded table, each field's default laid over
+/// the zero of its type. It takes no memory.
 pub fn zeros_by_type()
     ensures { (types : TypeTable) → ZerosByType types }
 {}

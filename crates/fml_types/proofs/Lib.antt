@@ -14,3 +14,5 @@ pub mod Reaching
 pub mod Mentioned
 pub mod Raising
 pub mod Needing
+pub mod Weighing
+pub mod SoundTypes

@@ -1,7 +1,7 @@
 -- Objects are higher than those that they need.
-use Rattle.std.proofs.Common.{◌≡◌, ℕ, zero, suc, ◌+◌, ◌<◌, ◌≤◌, List, [], ◌∷◌, length, get_or, Option, Some, inl, inr, refl, sym, ap, ◌∙◌, subst, arith, lt-ltb}
+use Rattle.std.proofs.Common.{◌≡◌, ℕ, zero, suc, ◌<◌, ◌≤◌, List, [], ◌∷◌, length, get_or, Option, inl, inr, refl, ap, subst, arith, lt-ltb}
 use Rattle.std.proofs.lemmas.Bool.{cases_lt}
-use Rattle.std.specs.Prelude.{◌⊎◌, min, nat_lt, if◌then◌else◌}
+use Rattle.std.specs.Prelude.{min, if◌then◌else◌}
 use Rattle.fml_types.specs.Ground.{parts_at, greatest, at, needed, value_of_need, reached_all, next_heights, height_up_to}
 use Rattle.fml_types.specs.Laws.{ReachesIn, FieldNeeds, SomeNeeds, NeedsIn, one_more, AreOneMore, AreHigher, AreEndless}
 use Rattle.fml_types.specs.declared.graph.Need.{Need}
@@ -30,7 +30,7 @@ reach_le : (g : List (List Part)) (v : ℕ → ℕ) (n i j : ℕ) → ReachesIn 
 reach_le g v zero i j same = subst (λ k. v k ≤ reached_all g v i) same (base_le g v (length g) i)
 reach_le g v (suc n) i j way = omega (arith, reach_le g v n way.0 j way.2, reached_all_closed g v i way.0 way.1)
 
-field_le : (g : List (List Part)) (v : ℕ → ℕ) (mentioned : Option ℕ) (need : Need) (j : ℕ) → FieldNeeds g mentioned need j → v j ≤ value_of_need v (reached_all g v) mentioned need
+pub field_le : (g : List (List Part)) (v : ℕ → ℕ) (mentioned : Option ℕ) (need : Need) (j : ℕ) → FieldNeeds g mentioned need j → v j ≤ value_of_need v (reached_all g v) mentioned need
 field_le g v mentioned Nothing j needs = absurd needs
 field_le g v mentioned Mentioned j needs = let here : at v mentioned ≡ v j = ap (at v) needs in omega (arith, here)
 field_le g v mentioned Reached j needs =

@@ -37,7 +37,7 @@ need_same g h v w k same o Nothing low = refl
 need_same g h v w k same o Mentioned low = at_same h v w k same o low
 need_same g h v w k same o Reached low = at_same (reached_all g h) (reached_all g v) (reached_all g w) k (reached_same g h v w k same (length g)) o low
 
-shares_same : (g : List (List Part)) (h v w : ℕ → ℕ) (k : ℕ) → ((i : ℕ) → h i ≤ k → v i ≡ w i) → (ps : List Part) → greatest (needed h (reached_all g h)) ps ≤ k → sum_by (share v (reached_all g v)) ps ≡ sum_by (share w (reached_all g w)) ps
+pub shares_same : (g : List (List Part)) (h v w : ℕ → ℕ) (k : ℕ) → ((i : ℕ) → h i ≤ k → v i ≡ w i) → (ps : List Part) → greatest (needed h (reached_all g h)) ps ≤ k → sum_by (share v (reached_all g v)) ps ≡ sum_by (share w (reached_all g w)) ps
 shares_same g h v w k same [] low = refl
 shares_same g h v w k same (p ∷ ps) low =
     let one = need_same g h v w k same p.mentions p.need (omega (arith, low)) in

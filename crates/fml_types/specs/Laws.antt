@@ -1,10 +1,13 @@
--- Laws of heights.
-use Rattle.std.specs.Prelude.{◌≡◌, ◌<◌, ◌≤◌, ◌⊎◌, ℕ, zero, suc, List, [], ◌∷◌, length, Option, Some}
-use Rattle.fml_types.specs.Ground.{parts_at, greatest, needed, reached_all, height_up_to}
+-- Laws of heights and weights.
+use Rattle.std.specs.Prelude.{◌≡◌, ◌<◌, ◌≤◌, ◌⊎◌, ◌+◌, ℕ, zero, suc, List, [], ◌∷◌, length, Option, Some}
+use Rattle.std.specs.List.{sum_by}
+use Rattle.fml_types.specs.Graph.{graph_of}
+use Rattle.fml_types.specs.Ground.{parts_at, greatest, needed, reached_all, height_up_to, share, weight_up_to}
 use Rattle.fml_types.specs.Reach.{Mentions}
 use Rattle.fml_types.specs.declared.graph.Need.{Need}
 use Rattle.fml_types.specs.declared.graph.Need.TheVariants.{Nothing, Mentioned, Reached}
 use Rattle.fml_types.specs.declared.graph.Part.{Part}
+use Rattle.fml_types.specs.declared.manifest.ObjectDefinition.{ObjectDefinition}
 
 -- an object reaches itself, and what each that it mentions reaches; here in so many steps
 abbrev pub ReachesIn : List (List Part) → ℕ → ℕ → ℕ → Type 0
@@ -42,3 +45,21 @@ AreHigher = (g : List (List Part)) (i j : ℕ) → SomeNeeds g (parts_at g i) j 
 -- an object on a cycle of needs is too high
 abbrev pub AreEndless : Type 0
 AreEndless = (g : List (List Part)) (n i : ℕ) → NeedsIn g n i i → 32 < height_up_to g 33 i
+
+-- ---- weights
+
+-- 2 and a share of each field, which counts the greatest weight of those that the field needs
+abbrev pub two_and_shares : List (List Part) → (ℕ → ℕ) → ℕ → ℕ
+two_and_shares g weights i = 2 + sum_by (share weights (reached_all g weights)) (parts_at g i)
+
+-- this is the weight of an object that isn't too high
+abbrev pub AreOfShares : Type 0
+AreOfShares = (g : List (List Part)) (i : ℕ) → i < length g → height_up_to g 33 i ≤ 32 → weight_up_to g 32 i ≡ two_and_shares g (weight_up_to g 32) i
+
+-- such an object is heavier than each that it needs
+abbrev pub AreHeavier : Type 0
+AreHeavier = (objects : List (List ℕ × ObjectDefinition)) (i j : ℕ) → let g = graph_of objects in SomeNeeds g (parts_at g i) j → height_up_to g 33 i ≤ 32 → weight_up_to g 32 j < weight_up_to g 32 i
+
+-- where an object stands on a cycle of needs, no weights are so of each object
+abbrev pub HaveNone : Type 0
+HaveNone = (objects : List (List ℕ × ObjectDefinition)) (n i : ℕ) (weights : ℕ → ℕ) → let g = graph_of objects in NeedsIn g n i i → ((j : ℕ) → j < length g → weights j ≡ two_and_shares g weights j) → ⊥

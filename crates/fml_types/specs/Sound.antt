@@ -77,3 +77,9 @@ pub record IsSoundManifest (m : Manifest) : Type 0 where
   pub names : All (λ f. IsTrue (is_name f.0)) m.features
   pub variables : All (λ f. AreSoundFields m.types f.1.variables) m.features
   pub defaults : All (λ f. AreSoundEntries f.1.defaults) m.features
+
+-- the types of a table and of the features over it are sound, and no object is too high or too heavy
+pub record HasSoundTypes (m : Manifest) : Type 0 where
+  pub types : IsSoundTable m.types
+  pub grounded : IsGrounded m.types
+  pub variables : All (λ f. AreSoundFields m.types f.1.variables) m.features

@@ -17,7 +17,7 @@ mod weights;
 pub use by_name::ByName;
 pub use field_type::{FieldType, InnerType, Key};
 pub use grounding::{GroundFault, Ungrounded, grounded};
-pub use laws::needs_of_objects;
+pub use laws::{needs_of_objects, weights_of_objects};
 pub use manifest::{
     DefaultEntry, EnumDefinition, FeatureDefinition, Field, Manifest, ObjectDefinition, TypeTable,
     coenrolling_features,

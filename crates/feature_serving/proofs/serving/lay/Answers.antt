@@ -13,5 +13,5 @@ loop-layer-preserved c =
     let laid = λ (w : TypedValue) (l : Layer). overlay_feature c.args.manifest.now c.args.feature.now w l.value in (
       c.in_ok-value.ensures.value ∙ ap (λ (w : TypedValue). laid w (view c.layer-item.result)) c.loop-layer.invariant.0
           ∙ sym (folded_more view laid (typed_of c.args.value) c.args.layers.now c.loop-layer.layer-index c.layer-item.result c.loop-layer-test.true c.layer-item.is),
-      λ whole sound base. c.in_ok-value.ensures.typed whole sound (c.loop-layer.invariant.1 whole sound base),
+      λ table grounded sound base. c.in_ok-value.ensures.typed table grounded sound (c.loop-layer.invariant.1 table grounded sound base),
     )

@@ -22,9 +22,10 @@ returns-clause-answer c =
 pub returns-clause-has_type : goal.returns-clause-has_type
 returns-clause-has_type c =
     let m = c.args.manifest.now in let name = c.args.feature.now in let f = c.in-Some.definition.now in
-    let sound = found_all (λ (f : FeatureDefinition). AreSoundFields m.types f.variables) name m.features f c.requires.sound.variables (sym c.in-Some.ensures) in
+    let types = c.requires.sound in
+    let sound = found_all (λ (f : FeatureDefinition). AreSoundFields m.types f.variables) name m.features f types.variables (sym c.in-Some.ensures) in
     record {
       feature = f;
       defined = sym c.in-Some.ensures;
-      typed = c.in_ok-value-2.ensures.typed c.requires.sound sound (c.in_ok-value.ensures.typed c.requires.sound sound);
+      typed = c.in_ok-value-2.ensures.typed types.types types.grounded sound (c.in_ok-value.ensures.typed types.types types.grounded sound);
     }

@@ -26,7 +26,7 @@ loop-entry-preserved c =
     record {
       same = c.in_ok-value.ensures.value ∙ ap (λ v. entries_laid m f v (e ∷ [])) c.loop-entry.invariant.same ∙ sym (laid_join m f start (take i entries) (e ∷ []))
           ∙ ap (λ n. entries_laid m f start (take i entries ++ n ∷ [])) c.entry-item.is ∙ sym (ap (entries_laid m f start) (take_more entries i e c.loop-entry-test.true));
-      typed = λ whole sound. c.in_ok-value.ensures.typed whole sound (c.loop-entry.invariant.typed whole sound);
+      typed = λ table grounded sound. c.in_ok-value.ensures.typed table grounded sound (c.loop-entry.invariant.typed table grounded sound);
     }
 
 pub loop-entry-init : goal.loop-entry-init
@@ -35,6 +35,6 @@ loop-entry-init c =
     let f = c.args.feature.now in
     record {
       same = ap (λ es. object (entries_of es)) c.in_ok-initial.ensures;
-      typed = λ whole sound. subst (λ es. AreFields m.types f.variables (entries_of es)) (sym c.in_ok-initial.ensures)
-          (variables_typed m.types whole.types (zeros_typed m.types whole.types (low_objects m.types whole.grounded)) f.variables sound);
+      typed = λ table grounded sound. subst (λ es. AreFields m.types f.variables (entries_of es)) (sym c.in_ok-initial.ensures)
+          (variables_typed m.types table (zeros_typed m.types table (low_objects m.types grounded)) f.variables sound);
     }

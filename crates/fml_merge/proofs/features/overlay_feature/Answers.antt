@@ -12,10 +12,10 @@ use Rattle.fml_merge.proofs.Variables.{overlay_typed}
 use Rattle.fml_merge.proofs.features.overlay_feature.Goals as goal
 
 pub returns-in_ok-lay_members-in-Object-clause-typed : goal.returns-in_ok-lay_members-in-Object-clause-typed
-returns-in_ok-lay_members-in-Object-clause-typed c = λ manifest sound base.
+returns-in_ok-lay_members-in-Object-clause-typed c = λ table grounded sound base.
     let m = c.args.manifest.now in
     let f = c.args.feature.now in
     let ms = members_of c.in-Object.members in
     let members = subst (λ u. IsSound (json_of u)) c.in-Object.is c.keeps.ensures.sound in
     let whole = c.in_ok-lay_members-in-Object.ensures ∙ ap (λ es. members_laid (zero_of m.types) m.types (type_of_field f.variables) es ms) c.entries_in-base.ensures in
-    subst (λ es. AreFields m.types f.variables (entries_of es)) (sym whole) (overlay_typed m f manifest sound (typed_of c.args.base) (json.object ms) base members)
+    subst (λ es. AreFields m.types f.variables (entries_of es)) (sym whole) (overlay_typed m f table grounded sound (typed_of c.args.base) (json.object ms) base members)
