@@ -4,4 +4,7 @@ pub mod SoundValues
 pub mod ReadModules
 pub mod Linked
 pub mod Maps
+pub mod MetNames
+pub mod Listing
+pub mod FileLists
 pub mod SoundManifests

@@ -18,11 +18,11 @@ use Rattle.fml_types.specs.declared.manifest.DefaultEntry.{DefaultEntry}
 use Rattle.fml_types.specs.declared.manifest.Field.{Field}
 use Rattle.fml_reader.specs.Outcome.{◌>>=◌, needed, under}
 use Rattle.fml_reader.specs.Trees.{tree_from}
-use Rattle.fml_reader.specs.Values.{object_in, imports_of, truth_in, value_in, is_key}
-use Rattle.fml_reader.specs.Walks.{each_item, each_member, keyed, required, optional}
-use Rattle.fml_reader.specs.Fields.{type_in, default_in, field_of, fields_of, variant_of, variants_of, enum_of, enums_of, object_of, objects_of}
-use Rattle.fml_reader.specs.Features.{texts_of, names_of, listed_of, in_order, both, entry_of, entries_of, feature_of, features_of}
-use Rattle.fml_reader.specs.Modules.{either, types_in, in_types, module_of}
+use Rattle.fml_reader.specs.Values.{object_in, imports_of, text_in, truth_in, value_in, is_key}
+use Rattle.fml_reader.specs.Walks.{each_item, each_member, members_in, keyed, there, required, optional, either, in_types}
+use Rattle.fml_reader.specs.Fields.{type_in, field_of, fields_of, variant_of, some_there, enum_of, enums_of, object_of, objects_of}
+use Rattle.fml_reader.specs.Features.{texts_of, names_in, in_order, both, entry_of, entries_of, feature_of, features_of}
+use Rattle.fml_reader.specs.Modules.{types_in, definitions_of, module_of}
 use Rattle.fml_reader.specs.declared.fault.ModuleRefusal.{ModuleRefusal}
 use Rattle.fml_reader.specs.declared.module.Module.{Module}
 use Rattle.fml_link.specs.Sound.{IsReadField, AreReadFields, HaveVariants, HaveReadFields, IsReadModule}
@@ -84,7 +84,7 @@ value_sound x t sound h =
     let read = keyed_ok (nat_le (length (text_of x)) 65536) (Ok (tree_from x)) t h in
     subst IsSound (sym (of_tree x) ∙ ap json_of (same_ok (tree_from x) t read.1)) sound
 
-default_sound : (x : Json) (d : Option Tree) → IsSound x → default_in x ≡ Ok d → IsSoundDefault d
+default_sound : (x : Json) (d : Option Tree) → IsSound x → there value_in x ≡ Ok d → IsSoundDefault d
 default_sound x d sound h =
     let a = ok_of (value_in x) (λ t. Ok (Some t)) d h in
     subst IsSoundDefault (same_ok (Some a.0) d a.2) (value_sound x a.0 sound a.1)
@@ -106,46 +106,34 @@ unfolding field_of
 field_read x f sound h =
     let a = ok_of (object_in x) _ f h in
     let b = ok_of (required (codes "type") type_in (get (codes "type") x)) _ f a.2 in
-    let c = ok_of (optional (codes "default") default_in None (get (codes "default") x)) _ f b.2 in
+    let c = ok_of (optional (codes "default") (there value_in) None (get (codes "default") x)) _ f b.2 in
     let read = required_ok (codes "type") type_in (get (codes "type") x) b.0 (get_sound (codes "type") x sound) b.1 in
     let same : record { field_type = b.0; default = c.0 } ≡ f = same_ok _ f c.2 in
     subst IsReadField same (record {
       options = type_single read.0 b.0 read.2;
-      default = optional_ok IsSoundDefault (codes "default") default_in None (get (codes "default") x) c.0 tt default_sound (get_sound (codes "default") x sound) c.1;
+      default = optional_ok IsSoundDefault (codes "default") (there value_in) None (get (codes "default") x) c.0 tt default_sound (get_sound (codes "default") x sound) c.1;
     })
 
 fields_read : (x : Json) (fs : List (List ℕ × Field)) → IsSound x → fields_of x ≡ Ok fs → AreReadFields fs
-unfolding fields_of
 fields_read (object ms) fs sound h = members_ok (λ (f : List ℕ × Field). IsReadField f.1) is_key field_of (λ k x f taken within read. field_read x f within read) ms fs sound h
 fields_read x fs sound h = absurd cc
 
 -- ---- enums and objects
 
-some_variants : (ms : Members) (vs : List (List ℕ × Unit {0})) → variants_of (object ms) ≡ Ok vs → 0 < length vs
-unfolding variants_of
-some_variants no_members vs h = absurd cc
-some_variants (member k x ms) vs h =
-    let first = ok_of (under k (keyed (is_key k) (variant_of x))) (λ a. each_member is_key variant_of ms >>= λ as'. Ok ((k, a) ∷ as')) vs h in
-    let others = ok_of (each_member is_key variant_of ms) (λ as'. Ok ((k, first.0) ∷ as')) vs first.2 in
-    let same : (k, first.0) ∷ others.0 ≡ vs = cc in
-    subst (λ l. 0 < length l) same (omega arith)
-
-variants_there : (x : Json) (vs : List (List ℕ × Unit {0})) → variants_of x ≡ Ok vs → 0 < length vs
-unfolding variants_of
-variants_there (object ms) vs h = some_variants ms vs h
-variants_there x vs h = absurd cc
+some_variants : (vs : List (List ℕ × Unit {0})) (u : Unit {0}) → under (codes "variants") (some_there vs) ≡ Ok u → 0 < length vs
+some_variants [] u h = absurd cc
+some_variants (v ∷ vs) u h = omega arith
 
 enum_variants : (x : Json) (e : EnumDefinition) → IsSound x → enum_of x ≡ Ok e → 0 < length e.variants
 unfolding enum_of
 enum_variants x e sound h =
     let a = ok_of (object_in x) _ e h in
-    let b = ok_of (required (codes "variants") variants_of (get (codes "variants") x)) _ e a.2 in
-    let read = required_ok (codes "variants") variants_of (get (codes "variants") x) b.0 (get_sound (codes "variants") x sound) b.1 in
+    let b = ok_of (required (codes "variants") (members_in is_key variant_of) (get (codes "variants") x)) _ e a.2 in
+    let c = ok_of (under (codes "variants") (some_there b.0)) _ e b.2 in
     let same : b.0 ≡ e.variants = cc in
-    subst (λ l. 0 < length l) same (variants_there read.0 b.0 read.2)
+    subst (λ l. 0 < length l) same (some_variants b.0 c.0 c.1)
 
 enums_variants : (x : Json) (es : List (List ℕ × EnumDefinition)) → IsSound x → enums_of x ≡ Ok es → HaveVariants es
-unfolding enums_of
 enums_variants (object ms) es sound h = members_ok (λ (e : List ℕ × EnumDefinition). 0 < length e.1.variants) is_name enum_of (λ k x e taken within read. enum_variants x e within read) ms es sound h
 enums_variants x es sound h = absurd cc
 
@@ -159,7 +147,6 @@ object_read x o sound h =
     subst AreReadFields same (fields_read read.0 b.0 read.1 read.2)
 
 objects_read : (x : Json) (os : List (List ℕ × ObjectDefinition)) → IsSound x → objects_of x ≡ Ok os → HaveReadFields os
-unfolding objects_of
 objects_read (object ms) os sound h = members_ok (λ (o : List ℕ × ObjectDefinition). AreReadFields o.1.fields) is_name object_of (λ k x o taken within read. object_read x o within read) ms os sound h
 objects_read x os sound h = absurd cc
 
@@ -169,15 +156,14 @@ entry_sound : (x : Json) (e : DefaultEntry) → IsSound x → entry_of x ≡ Ok 
 unfolding entry_of
 entry_sound x e sound h =
     let a = ok_of (object_in x) _ e h in
-    let b = ok_of (optional (codes "channel") names_of None (get (codes "channel") x)) _ e a.2 in
-    let c = ok_of (optional (codes "channels") listed_of None (get (codes "channels") x)) _ e b.2 in
+    let b = ok_of (optional (codes "channel") (there text_in) None (get (codes "channel") x)) _ e a.2 in
+    let c = ok_of (optional (codes "channels") (there texts_of) None (get (codes "channels") x)) _ e b.2 in
     let d = ok_of (required (codes "value") value_in (get (codes "value") x)) _ e c.2 in
     let read = required_ok (codes "value") value_in (get (codes "value") x) d.0 (get_sound (codes "value") x sound) d.1 in
-    let same : record { channels = option_map (in_order []) (both b.0 c.0); value = d.0 } ≡ e = same_ok _ e d.2 in
+    let same : record { channels = option_map (in_order []) (both (option_map names_in b.0) c.0); value = d.0 } ≡ e = same_ok _ e d.2 in
     subst (λ (e : DefaultEntry). IsSound (json_of e.value)) same (value_sound read.0 d.0 read.1 read.2)
 
 entries_sound : (x : Json) (es : List DefaultEntry) → IsSound x → entries_of x ≡ Ok es → AreSoundEntries es
-unfolding entries_of
 entries_sound (list xs) es sound h = items_ok (λ (e : DefaultEntry). IsSound (json_of e.value)) entry_of entry_sound 0 xs es sound h
 entries_sound x es sound h = absurd cc
 
@@ -202,7 +188,7 @@ IsReadFeature : List ℕ × FeatureDefinition → Type 0
 IsReadFeature f = IsTrue (is_name f.0) × IsReadDefinition f.1
 
 features_read : (x : Json) (fs : List (List ℕ × FeatureDefinition)) → IsSound x → features_of x ≡ Ok fs → All IsReadFeature fs
-unfolding features_of IsReadFeature
+unfolding IsReadFeature
 features_read (object ms) fs sound h = members_ok IsReadFeature is_name feature_of (λ k x f taken within read. (taken, feature_read x f within read)) ms fs sound h
 features_read x fs sound h = absurd cc
 
@@ -216,12 +202,12 @@ types_sound (Some x) t sound h =
 -- ---- the module
 
 pub module_read : (x : Json) (m : Module) → IsSound x → module_of x ≡ Ok m → IsReadModule m
-unfolding module_of IsReadFeature IsReadDefinition
+unfolding module_of definitions_of IsReadFeature IsReadDefinition
 module_read x m sound h =
     let a = ok_of (object_in x) _ m h in
     let b = ok_of (optional (codes "channels") texts_of [] (get (codes "channels") x)) _ m a.2 in
     let c = ok_of (either (codes "includes") (codes "include") texts_of [] x) _ m b.2 in
-    let d = ok_of (either (codes "imports") (codes "import") imports_of tt x) _ m c.2 in
+    let d = ok_of (either (codes "imports") (codes "import") imports_of (record {}) x) _ m c.2 in
     let e = ok_of (optional (codes "enums") enums_of [] (get (codes "enums") x)) _ m d.2 in
     let t = ok_of (types_in (get (codes "types") x)) _ m e.2 in
     let te = ok_of (in_types (codes "enums") enums_of [] t.0) _ m t.2 in

@@ -1,4 +1,4 @@
--- The files of a manifest: the list that starts with the root, and to which each file, in the list's order, adds those of its includes that aren't in it.
+-- The files of a manifest: the list that starts with the root, and to which each file in turn adds those of its includes that aren't in it yet, in their order.
 use Rattle.std.specs.Prelude.{ℕ, zero, suc, nat_lt, nat_le, Bool, List as Seq, [], ◌∷◌, ◌++◌, length, slice_get, Option, None, Some, Result, Ok, Err, bytes_eq, if◌then◌else◌}
 use Rattle.std.specs.List.{list_any}
 use Rattle.json_tree.specs.Json.{Json, depth}
@@ -44,26 +44,41 @@ file_module name file = do
 abbrev pub is_among : Seq ℕ → Seq (Seq ℕ) → Bool
 is_among name names = list_any (λ n. bytes_eq n name) names
 
--- the names, and after them the include where it isn't there yet
+-- an include is added, unless it is in the list already
 abbrev pub with_include : Seq (Seq ℕ) → Seq ℕ → Result (Seq (Seq ℕ)) LinkRefusal
 with_include names include = if is_among include names then Ok names else if nat_lt (length names) max_files then Ok (names ++ include ∷ []) else Err refusals.TooManyFiles
 
 abbrev pub with_includes : Seq (Seq ℕ) → Seq (Seq ℕ) → Result (Seq (Seq ℕ)) LinkRefusal
 with_includes names includes = each with_include names includes
 
--- one more file of the list, where there is one, and then the rest
-abbrev pub with_file : (Seq (Seq ℕ) → Seq Module → Result (Seq Module) LinkRefusal) → (Seq ℕ → Option (Seq ℕ)) → Seq (Seq ℕ) → Seq Module → Option (Seq ℕ) → Result (Seq Module) LinkRefusal
-with_file rest file names modules None = Ok modules
-with_file rest file names modules (Some name) = do
+-- a file, where there is one, adds its includes
+abbrev pub with_file : (Seq ℕ → Option (Seq ℕ)) → Seq (Seq ℕ) → Option (Seq ℕ) → Result (Seq (Seq ℕ)) LinkRefusal
+with_file file names None = Ok names
+with_file file names (Some name) = do
   m ← file_module name (file name)
-  longer ← with_includes names m.includes
-  rest longer (modules ++ m ∷ [])
+  with_includes names m.includes
 
--- what all files of a list say, of which the first files have been read and at most so many have not
-unfoldable pub listed : (Seq ℕ → Option (Seq ℕ)) → ℕ → Seq (Seq ℕ) → Seq Module → Result (Seq Module) LinkRefusal
-listed file zero names modules = Ok modules
-listed file (suc n) names modules = with_file (listed file n) file names modules (slice_get names (length modules))
+-- the list after so many of its files have added their includes
+unfoldable pub names_after : (Seq ℕ → Option (Seq ℕ)) → Seq ℕ → ℕ → Result (Seq (Seq ℕ)) LinkRefusal
+names_after file root zero = Ok (root ∷ [])
+names_after file root (suc n) = do
+  names ← names_after file root n
+  with_file file names (slice_get names n)
+
+-- the whole list: it has at most 64 files, so each of them is among the first 64
+abbrev pub names_of : (Seq ℕ → Option (Seq ℕ)) → Seq ℕ → Result (Seq (Seq ℕ)) LinkRefusal
+names_of file root = names_after file root max_files
+
+-- what each of these files says
+abbrev pub read_each : (Seq ℕ → Option (Seq ℕ)) → Seq (Seq ℕ) → Result (Seq Module) LinkRefusal
+read_each file [] = Ok []
+read_each file (name ∷ names) = do
+  m ← file_module name (file name)
+  ms ← read_each file names
+  Ok (m ∷ ms)
 
 -- what the files of a root say, in order
 abbrev pub modules_of : (Seq ℕ → Option (Seq ℕ)) → Seq ℕ → Result (Seq Module) LinkRefusal
-modules_of file root = listed file max_files (root ∷ []) []
+modules_of file root = do
+  names ← names_of file root
+  read_each file names

@@ -1,5 +1,7 @@
 pub mod Outcome
 pub mod Files
+pub mod Names
 pub mod Sound
 pub mod Tables
 pub mod Linking
+pub mod Laws

@@ -4,22 +4,20 @@ ghost use Rattle.json_tree.specs.Bytes.{tree_of};
 ghost use Rattle.json_tree.specs.Tree.{json_of};
 ghost use Rattle.host_model.specs.Causes.{Rose};
 ghost use Rattle.fml_reader.specs.Modules.{module_of};
-ghost use Rattle.fml_link.specs.Files.{shallow_tree, in_file, file_tree, file_module, with_include, with_includes, modules_of};
-ghost use Rattle.fml_link.specs.Outcome.{Gives, GivesTree, Leaves};
+ghost use Rattle.fml_link.specs.Files.{shallow_tree, in_file, file_tree, file_module, modules_of};
+ghost use Rattle.fml_link.specs.Outcome.{Gives, GivesTree};
 ghost use Rattle.fml_link.specs.Sound.{IsReadModule};
 
 use crate::fault::{LinkFault, LinkRefusal};
+use crate::names::{FileNames, MAX_FILES};
 use fml_reader::{Module, ModuleFault, ModuleRefusal, read_module};
 use host_model::{Shelf, ShelfAnswer};
 use json_tree::{Tree, TreeFault, read};
 use sequences::{Sequence, Text};
 use std::alloc::Global;
 
-/// The most files of a manifest.
-const MAX_FILES: usize = 64;
-
 /// What the files of a root say. They are read in the order in which their names are met.
-#[tactic(auto, using(crate::proofs::Linked::listed_turn, crate::proofs::Linked::listed_fails, crate::proofs::Linked::listed_full, crate::proofs::Linked::listed_none, crate::proofs::Linked::listed_end, crate::proofs::Alls::all_nil, crate::proofs::Alls::all_push))]
+#[tactic(auto, using(crate::proofs::Listing::listed_fails, crate::proofs::Listing::listed_full))]
 pub(crate) fn modules_of<F: Shelf>(
     alloc: Global,
     shelf: &mut F,
@@ -31,46 +29,19 @@ pub(crate) fn modules_of<F: Shelf>(
     ensures cause { IsErrOf result LinkFault.ShelfFault → Rose (F.faults shelf.old) (F.faults shelf.new) }
     ensures faults { F.faults shelf.old ≤ F.faults shelf.new }
 {
-    let mut names = Sequence::new(alloc);
-    names.push(Text::new(alloc, root)?)?;
+    let mut names = FileNames::of_root(alloc, root)?;
     let mut modules = Sequence::new(alloc);
     for place in 0..MAX_FILES {
         match names.get(place) {
             Some(name) => {
                 let file = file_module(alloc, shelf, name)?;
-                add_includes(&mut names, file.includes.as_slice())?;
+                names.add_includes(file.includes.as_slice())?;
                 modules.push(file)?;
             }
             None => return Ok(modules),
         }
     }
     Ok(modules)
-}
-
-/// Adds those of the includes to the names that aren't there yet.
-#[tactic(auto, using(crate::proofs::Linked::slice_fails, crate::proofs::Linked::slice_turn))]
-fn add_includes(names: &mut Sequence<Text>, includes: &[Text]) -> Result<(), LinkFault>
-    ensures leaves { Leaves names.new result (with_includes names.old includes.now) }
-    ensures not_shelf { ¬ IsErrOf result LinkFault.ShelfFault }
-{
-    for include in includes {
-        add_include(names, include)?;
-    }
-    Ok(())
-}
-
-fn add_include(names: &mut Sequence<Text>, include: &Text) -> Result<(), LinkFault>
-    ensures leaves { Leaves names.new result (with_include names.old include.now) }
-    ensures not_shelf { ¬ IsErrOf result LinkFault.ShelfFault }
-{
-    if names.as_slice().contains(include) {
-        return Ok(());
-    }
-    if names.len() >= MAX_FILES {
-        return Err(LinkFault::Refused(LinkRefusal::TooManyFiles));
-    }
-    names.push(include.clone()?)?;
-    Ok(())
 }
 
 /// What the file of this name says.

@@ -6,9 +6,12 @@
 mod checks;
 mod fault;
 mod files;
+mod laws;
 mod linking;
+mod names;
 mod tables;
 
 pub use fault::{LinkFault, LinkRefusal};
+pub use laws::list_of_files;
 pub use linking::link;
 pub use sequences::Text;

@@ -1,6 +1,5 @@
 -- A tree is the tree of its value.
 use Rattle.std.proofs.Common.{◌≡◌, ℕ, List as Seq, [], ◌∷◌, refl, ap}
-use Rattle.json_tree.specs.Json as json
 use Rattle.json_tree.specs.Json.{Json, items_of, members_of}
 use Rattle.json_tree.specs.Tree.{json_of}
 use Rattle.json_tree.specs.declared.tree.Tree.{Tree}

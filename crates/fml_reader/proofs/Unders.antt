@@ -1,5 +1,5 @@
 -- What a call returned of what was read before.
-use Rattle.std.proofs.Common.{◌≡◌, ℕ, List, Result, Ok, Err, sym, ap, ◌∙◌}
+use Rattle.std.proofs.Common.{◌≡◌, ℕ, List, Result, Ok, Err, ap, ◌∙◌}
 use Rattle.fml_reader.specs.declared.fault.ModuleFault.{ModuleFault}
 use Rattle.fml_reader.specs.declared.fault.ModuleFault.TheVariants as faults
 use Rattle.fml_reader.specs.declared.fault.ModuleRefusal.{ModuleRefusal}

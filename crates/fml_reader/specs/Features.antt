@@ -1,23 +1,22 @@
 -- Features and the entries of their defaults.
-use Rattle.std.specs.Prelude.{ℕ, ◌==◌, ◌&&◌, Bool, true, false, List as Seq, [], ◌∷◌, ◌++◌, Option, Some, None, option_map, Result, Ok, codes}
+use Rattle.std.specs.Prelude.{ℕ, ◌==◌, Bool, false, List as Seq, [], ◌∷◌, ◌++◌, Option, Some, None, option_map, Result, Ok, codes}
 use Rattle.std.specs.List.{slice_split}
 use Rattle.std.specs.BTreeSet.{insert_key}
 use Rattle.std.specs.Cmp.Lexicographic.{slice_cmp}
 use Rattle.std.specs.Ordering.{nat_cmp}
-use Rattle.json_tree.specs.Json.{Json, list, object, get}
+use Rattle.json_tree.specs.Json.{Json, get}
 use Rattle.plain_text.specs.Names.{is_name}
 use Rattle.fml_types.specs.TypeTexts.{without_front, without_end}
 use Rattle.fml_types.specs.declared.manifest.DefaultEntry.{DefaultEntry}
 use Rattle.fml_types.specs.declared.manifest.FeatureDefinition.{FeatureDefinition}
-use Rattle.fml_reader.specs.Outcome.{◌>>=◌, bad}
+use Rattle.fml_reader.specs.Outcome.{◌>>=◌}
 use Rattle.fml_reader.specs.Values.{object_in, text_in, truth_in, value_in}
 use Rattle.fml_reader.specs.Fields.{fields_of}
-use Rattle.fml_reader.specs.Walks.{each_item, each_member, required, optional}
+use Rattle.fml_reader.specs.Walks.{items_in, members_in, there, required, optional}
 use Rattle.fml_reader.specs.declared.fault.ModuleRefusal.{ModuleRefusal}
 
-unfoldable pub texts_of : Json → Result (Seq (Seq ℕ)) ModuleRefusal
-texts_of (list xs) = each_item text_in 0 xs
-texts_of x = bad
+abbrev pub texts_of : Json → Result (Seq (Seq ℕ)) ModuleRefusal
+texts_of = items_in text_in
 
 -- a comma
 abbrev pub is_comma : ℕ → Bool
@@ -36,16 +35,6 @@ kept_names (piece ∷ pieces) = kept_name (without_front (without_end piece)) ++
 abbrev pub names_in : Seq ℕ → Seq (Seq ℕ)
 names_in s = kept_names (slice_split is_comma s)
 
-abbrev pub names_of : Json → Result (Option (Seq (Seq ℕ))) ModuleRefusal
-names_of x = do
-  s ← text_in x
-  Ok (Some (names_in s))
-
-abbrev pub listed_of : Json → Result (Option (Seq (Seq ℕ))) ModuleRefusal
-listed_of x = do
-  names ← texts_of x
-  Ok (Some names)
-
 -- the names that are held in order, and these at their places, each once
 abbrev pub in_order : Seq (Seq ℕ) → Seq (Seq ℕ) → Seq (Seq ℕ)
 in_order held [] = held
@@ -60,14 +49,13 @@ both (Some names) (Some listed) = Some (names ++ listed)
 unfoldable pub entry_of : Json → Result DefaultEntry ModuleRefusal
 entry_of x = do
   o ← object_in x
-  names ← optional (codes "channel") names_of None (get (codes "channel") x)
-  listed ← optional (codes "channels") listed_of None (get (codes "channels") x)
+  divided ← optional (codes "channel") (there text_in) None (get (codes "channel") x)
+  listed ← optional (codes "channels") (there texts_of) None (get (codes "channels") x)
   value ← required (codes "value") value_in (get (codes "value") x)
-  Ok (record { channels = option_map (in_order []) (both names listed); value = value })
+  Ok (record { channels = option_map (in_order []) (both (option_map names_in divided) listed); value = value })
 
-unfoldable pub entries_of : Json → Result (Seq DefaultEntry) ModuleRefusal
-entries_of (list xs) = each_item entry_of 0 xs
-entries_of x = bad
+abbrev pub entries_of : Json → Result (Seq DefaultEntry) ModuleRefusal
+entries_of = items_in entry_of
 
 unfoldable pub feature_of : Json → Result FeatureDefinition ModuleRefusal
 feature_of x = do
@@ -77,6 +65,5 @@ feature_of x = do
   allows ← optional (codes "allow-coenrollment") truth_in false (get (codes "allow-coenrollment") x)
   Ok (record { variables = variables; defaults = defaults; allows_coenrollment = allows })
 
-unfoldable pub features_of : Json → Result (Seq (Seq ℕ × FeatureDefinition)) ModuleRefusal
-features_of (object ms) = each_member is_name feature_of ms
-features_of x = bad
+abbrev pub features_of : Json → Result (Seq (Seq ℕ × FeatureDefinition)) ModuleRefusal
+features_of = members_in is_name feature_of

@@ -7,6 +7,7 @@ use Rattle.fml_reader.specs.Trees.{tree_from}
 use Rattle.fml_reader.specs.Outcome.{bad}
 use Rattle.fml_reader.specs.declared.fault.ModuleRefusal.{ModuleRefusal}
 use Rattle.fml_reader.specs.declared.fault.ModuleRefusal.TheVariants as refusals
+use Rattle.fml_reader.specs.declared.values.NoImports.{NoImports}
 
 abbrev pub text_in : Json → Result (Seq ℕ) ModuleRefusal
 text_in (text s) = Ok s
@@ -20,9 +21,9 @@ abbrev pub object_in : Json → Result (Unit {0}) ModuleRefusal
 object_in (object ms) = Ok tt
 object_in x = bad
 
--- nothing may be imported
-abbrev pub imports_of : Json → Result (Unit {0}) ModuleRefusal
-imports_of (list no_items) = Ok tt
+-- a list, by which nothing may be imported
+abbrev pub imports_of : Json → Result NoImports ModuleRefusal
+imports_of (list no_items) = Ok (record {})
 imports_of (list (item x xs)) = Err refusals.ImportsUnbuilt
 imports_of x = bad
 

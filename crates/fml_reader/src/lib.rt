@@ -10,6 +10,7 @@ mod fields;
 mod module;
 mod names;
 mod values;
+mod walks;
 
 pub use fault::{ModuleFault, ModuleRefusal};
 pub use module::{Module, read_module};

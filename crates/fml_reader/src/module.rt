@@ -1,18 +1,13 @@
 // One file of a manifest.
-ghost use Rattle.std.specs.Prelude.{◌≡◌, [], codes, Some, option_map};
-ghost use Rattle.json_tree.specs.Json.{get};
+ghost use Rattle.std.specs.Prelude.{◌≡◌, codes, Some, option_map};
 ghost use Rattle.json_tree.specs.Tree.{json_of};
-ghost use Rattle.fml_reader.specs.Features.{texts_of, features_of};
-ghost use Rattle.fml_reader.specs.Fields.{enums_of, objects_of};
-ghost use Rattle.fml_reader.specs.Modules.{first_there, either, types_in, in_types, module_of};
+ghost use Rattle.fml_reader.specs.Modules.{types_in, definitions_of, module_of};
 ghost use Rattle.fml_reader.specs.Outcome.{Gives, under};
-ghost use Rattle.fml_reader.specs.Values.{object_in, imports_of};
-ghost use Rattle.fml_reader.specs.Walks.{optional};
+ghost use Rattle.fml_reader.specs.Values.{object_in};
 
 use crate::fault::{ModuleFault, under};
-use crate::features::features_of;
-use crate::fields::{enums_of, objects_of};
-use crate::values::{imports_of, object_in, texts_of};
+use crate::values::{NoImports, object_in};
+use crate::walks::{either, in_types, optional};
 use fml_types::{ByName, EnumDefinition, FeatureDefinition, ObjectDefinition};
 use json_tree::Tree;
 use sequences::{Sequence, Text};
@@ -51,15 +46,28 @@ pub fn read_module(alloc: Global, tree: &Tree) -> Result<Module, ModuleFault>
     ensures { Gives (λ m. m) result (module_of (json_of tree.now)) }
 {
     object_in(alloc, tree)?;
-    let channels = channels_at(alloc, tree.get("channels"))?;
-    let includes = includes_at(alloc, tree.get("includes"), tree.get("include"))?;
-    imports_at(alloc, tree.get("imports"), tree.get("import"))?;
-    let enums = enums_at(alloc, tree.get("enums"))?;
+    let channels = optional(alloc, tree, "channels", Sequence::new(alloc))?;
+    let includes = either(alloc, tree, "includes", "include", Sequence::new(alloc))?;
+    let NoImports = either(alloc, tree, "imports", "import", NoImports)?;
+    definitions(alloc, tree, channels, includes)
+}
+
+/// The enums, objects and features of a file with these channels and includes.
+#[tactic(auto, unfolding(crate::specs::Modules::definitions_of))]
+fn definitions(
+    alloc: Global,
+    tree: &Tree,
+    channels: Sequence<Text>,
+    includes: Sequence<Text>,
+) -> Result<Module, ModuleFault>
+    ensures { Gives (λ m. m) result (definitions_of channels includes (json_of tree.now)) }
+{
+    let enums = optional(alloc, tree, "enums", ByName::new(alloc))?;
     let types = types_in(alloc, tree.get("types"))?;
-    let types_enums = types_enums(alloc, types)?;
-    let objects = objects_at(alloc, tree.get("objects"))?;
-    let types_objects = types_objects(alloc, types)?;
-    let features = features_at(alloc, tree.get("features"))?;
+    let types_enums = in_types(alloc, types, "enums", ByName::new(alloc))?;
+    let objects = optional(alloc, tree, "objects", ByName::new(alloc))?;
+    let types_objects = in_types(alloc, types, "objects", ByName::new(alloc))?;
+    let features = optional(alloc, tree, "features", ByName::new(alloc))?;
     Ok(Module {
         channels,
         includes,
@@ -69,94 +77,6 @@ pub fn read_module(alloc: Global, tree: &Tree) -> Result<Module, ModuleFault>
         types_objects,
         features,
     })
-}
-
-#[tactic(auto, using(crate::proofs::Unders::gives_under))]
-fn channels_at(alloc: Global, tree: Option<&Tree>) -> Result<Sequence<Text>, ModuleFault>
-    ensures { Gives (λ l. l) result (optional (codes "channels") texts_of [] (option_map (λ t. json_of t.now) tree.entry)) }
-{
-    match tree {
-        Some(tree) => under(alloc, "channels", texts_of(alloc, tree)),
-        None => Ok(Sequence::new(alloc)),
-    }
-}
-
-#[tactic(auto, using(crate::proofs::Unders::gives_under))]
-fn single_includes(alloc: Global, tree: Option<&Tree>) -> Result<Sequence<Text>, ModuleFault>
-    ensures { Gives (λ l. l) result (optional (codes "include") texts_of [] (option_map (λ t. json_of t.now) tree.entry)) }
-{
-    match tree {
-        Some(tree) => under(alloc, "include", texts_of(alloc, tree)),
-        None => Ok(Sequence::new(alloc)),
-    }
-}
-
-#[tactic(auto, using(crate::proofs::Unders::gives_under))]
-fn includes_at(
-    alloc: Global,
-    plural: Option<&Tree>,
-    single: Option<&Tree>,
-) -> Result<Sequence<Text>, ModuleFault>
-    ensures { Gives (λ l. l) result (first_there (codes "includes") (codes "include") texts_of [] (option_map (λ t. json_of t.now) plural.entry) (option_map (λ t. json_of t.now) single.entry)) }
-{
-    match plural {
-        Some(tree) => under(alloc, "includes", texts_of(alloc, tree)),
-        None => single_includes(alloc, single),
-    }
-}
-
-#[tactic(auto, using(crate::proofs::Unders::gives_under))]
-fn single_imports(alloc: Global, tree: Option<&Tree>) -> Result<(), ModuleFault>
-    ensures { Gives (λ l. l) result (optional (codes "import") imports_of tt (option_map (λ t. json_of t.now) tree.entry)) }
-{
-    match tree {
-        Some(tree) => under(alloc, "import", imports_of(alloc, tree)),
-        None => Ok(()),
-    }
-}
-
-#[tactic(auto, using(crate::proofs::Unders::gives_under))]
-fn imports_at(
-    alloc: Global,
-    plural: Option<&Tree>,
-    single: Option<&Tree>,
-) -> Result<(), ModuleFault>
-    ensures { Gives (λ l. l) result (first_there (codes "imports") (codes "import") imports_of tt (option_map (λ t. json_of t.now) plural.entry) (option_map (λ t. json_of t.now) single.entry)) }
-{
-    match plural {
-        Some(tree) => under(alloc, "imports", imports_of(alloc, tree)),
-        None => single_imports(alloc, single),
-    }
-}
-
-#[tactic(auto, using(crate::proofs::Unders::gives_under))]
-fn enums_at(alloc: Global, tree: Option<&Tree>) -> Result<ByName<EnumDefinition>, ModuleFault>
-    ensures { Gives (λ l. l) result (optional (codes "enums") enums_of [] (option_map (λ t. json_of t.now) tree.entry)) }
-{
-    match tree {
-        Some(tree) => under(alloc, "enums", enums_of(alloc, tree)),
-        None => Ok(ByName::new(alloc)),
-    }
-}
-
-#[tactic(auto, using(crate::proofs::Unders::gives_under))]
-fn objects_at(alloc: Global, tree: Option<&Tree>) -> Result<ByName<ObjectDefinition>, ModuleFault>
-    ensures { Gives (λ l. l) result (optional (codes "objects") objects_of [] (option_map (λ t. json_of t.now) tree.entry)) }
-{
-    match tree {
-        Some(tree) => under(alloc, "objects", objects_of(alloc, tree)),
-        None => Ok(ByName::new(alloc)),
-    }
-}
-
-#[tactic(auto, using(crate::proofs::Unders::gives_under))]
-fn features_at(alloc: Global, tree: Option<&Tree>) -> Result<ByName<FeatureDefinition>, ModuleFault>
-    ensures { Gives (λ l. l) result (optional (codes "features") features_of [] (option_map (λ t. json_of t.now) tree.entry)) }
-{
-    match tree {
-        Some(tree) => under(alloc, "features", features_of(alloc, tree)),
-        None => Ok(ByName::new(alloc)),
-    }
 }
 
 /// `types`, which is an object where it is there.
@@ -182,27 +102,4 @@ fn checked_types(alloc: Global, types: &Tree) -> Result<(), ModuleFault>
     ensures { Gives (λ u. u) result (under (codes "types") (object_in (json_of types.now))) }
 {
     under(alloc, "types", object_in(alloc, types))
-}
-
-#[tactic(auto, using(crate::proofs::Unders::gives_under))]
-fn types_enums(alloc: Global, types: Option<&Tree>) -> Result<ByName<EnumDefinition>, ModuleFault>
-    ensures { Gives (λ l. l) result (in_types (codes "enums") enums_of [] (option_map (λ t. json_of t.now) types.entry)) }
-{
-    match types {
-        Some(tree) => under(alloc, "types", enums_at(alloc, tree.get("enums"))),
-        None => Ok(ByName::new(alloc)),
-    }
-}
-
-#[tactic(auto, using(crate::proofs::Unders::gives_under))]
-fn types_objects(
-    alloc: Global,
-    types: Option<&Tree>,
-) -> Result<ByName<ObjectDefinition>, ModuleFault>
-    ensures { Gives (λ l. l) result (in_types (codes "objects") objects_of [] (option_map (λ t. json_of t.now) types.entry)) }
-{
-    match types {
-        Some(tree) => under(alloc, "types", objects_at(alloc, tree.get("objects"))),
-        None => Ok(ByName::new(alloc)),
-    }
 }

@@ -1,26 +1,44 @@
-use Rattle.std.proofs.Common.{◌≡◌, ◌+◌, ◌-◌, ◌<◌, [], ◌∷◌, ◌++◌, length, Ok, sym, ap, ◌∙◌, subst, arith}
+use Rattle.std.proofs.Common.{◌≡◌, ◌≤◌, [], ◌∷◌, ◌++◌, length, Ok, refl, sym, ap, ◌∙◌, subst, arith}
 use Rattle.std.specs.Prelude.{All}
 use Rattle.fml_reader.specs.declared.module.Module.{Module}
-use Rattle.fml_link.specs.Files.{listed, modules_of, with_includes}
+use Rattle.fml_link.specs.Files.{with_includes}
 use Rattle.fml_link.specs.Sound.{IsReadModule}
-use Rattle.fml_link.proofs.Alls.{all_push, length_push}
-use Rattle.fml_link.proofs.Linked.{listed_turn}
+use Rattle.fml_link.proofs.Alls.{all_nil, all_push}
+use Rattle.fml_link.proofs.Listing.{includes_within, names_first, names_turn, read_turn, listed_none}
 use Rattle.fml_link.proofs.files.modules_of.Goals as goal
+
+pub loop-place-init : goal.loop-place-init
+loop-place-init g c = record {
+  met = c.in_ok-names.ensures.met;
+  few = subst (λ l. length l ≤ 64) (sym c.in_ok-names.ensures.list) (omega arith);
+  listed = λ tells. names_first (g.F.Shelf.file c.args.shelf.now) c.args.root.now ∙ ap (λ l. Ok l) (sym c.in_ok-names.ensures.list);
+  read = λ tells. ap (λ l. Ok l) (sym c.new-modules.ensures);
+  sound = subst (All IsReadModule) (sym c.new-modules.ensures) (all_nil IsReadModule);
+  files = λ tells other. refl;
+  faults = omega arith;
+}
+
+pub returns-in-None-clause-reads : goal.returns-in-None-clause-reads
+returns-in-None-clause-reads g c = λ tells.
+    listed_none (g.F.Shelf.file c.args.shelf.now) c.args.root.now c.loop-place.place c.loop-place.names.list c.loop-place.modules (omega (arith, c.loop-place-test.true))
+    (c.loop-place.invariant.listed tells) (c.loop-place.invariant.read tells) c.in-None.ensures
 
 pub loop-place-preserved : goal.loop-place-preserved
 loop-place-preserved g c =
     let file = g.F.Shelf.file c.args.shelf.now in
-    let place = c.loop-place.place in
+    let now = g.F.Shelf.file c.loop-place.shelf in
+    let names = c.loop-place.names.list in
+    let longer = c.add_includes.new.self.list in
     let modules = c.loop-place.modules in
+    let name = c.in-Some.name.now in
     let m : Module = c.in_ok-file-in-Some.file in
-    let pushed : c.push-in-Some.new.self ≡ modules ++ m ∷ [] = c.in_ok-push-in-Some.ensures.ok in
-    let below : place < 64 = omega (arith, c.loop-place-test.true) in
-    let more : with_includes c.loop-place.names m.includes ≡ Ok c.add_includes.new.names = ap (with_includes c.loop-place.names) (sym c.as_slice.ensures) ∙ c.in_ok-add_includes-in-Some.ensures.leaves in
+    let pushed : c.push.new.self ≡ modules ++ m ∷ [] = c.in_ok-push-in-Some.ensures.ok in
+    let more : with_includes names m.includes ≡ Ok longer = ap (with_includes names) (sym c.as_slice.ensures) ∙ c.in_ok-add_includes-in-Some.ensures.leaves in
     record {
-      count = ap length pushed ∙ length_push modules m ∙ ap (λ n. n + 1) c.loop-place.invariant.count;
-      listed = λ tells. subst (λ ms. listed file (64 - (place + 1)) c.add_includes.new.names ms ≡ modules_of file c.args.root.now) (sym pushed)
-          (listed_turn file (g.F.Shelf.file c.loop-place.shelf) place c.loop-place.names c.add_includes.new.names modules c.in-Some.name.now m (modules_of file c.args.root.now)
-          below c.loop-place.invariant.count c.in-Some.ensures (c.loop-place.invariant.files tells c.in-Some.name.now) (c.in_ok-file-in-Some.ensures.reads tells) more (c.loop-place.invariant.listed tells));
+      met = c.in_ok-add_includes-in-Some.ensures.met;
+      few = includes_within m.includes names longer c.loop-place.invariant.few more;
+      listed = λ tells. names_turn file now c.args.root.now c.loop-place.place names longer name m (c.loop-place.invariant.listed tells) c.in-Some.ensures (c.loop-place.invariant.files tells name) (c.in_ok-file-in-Some.ensures.reads tells) more;
+      read = λ tells. read_turn file now c.loop-place.place names longer m.includes name modules m c.in-Some.ensures (c.loop-place.invariant.files tells name) (c.in_ok-file-in-Some.ensures.reads tells) more (c.loop-place.invariant.read tells) ∙ ap (λ l. Ok l) (sym pushed);
       sound = subst (All IsReadModule) (sym pushed) (all_push IsReadModule modules m c.loop-place.invariant.sound c.in_ok-file-in-Some.ensures.sound);
       files = λ tells other. c.in_ok-file-in-Some.ensures.files tells other ∙ c.loop-place.invariant.files tells other;
       faults = omega (arith, c.loop-place.invariant.faults, c.in_ok-file-in-Some.ensures.faults);

@@ -1,13 +1,16 @@
-use Rattle.std.proofs.Common.{◌≡◌, ◌≤◌, ℕ, ◌-◌, List, length}
+use Rattle.std.proofs.Common.{◌≡◌, ◌≤◌, ℕ, List, Ok, length, take}
 use Rattle.std.specs.Prelude.{All}
-use Rattle.fml_link.specs.Files.{listed, modules_of}
+use Rattle.fml_link.specs.Files.{names_after, read_each}
+use Rattle.fml_link.specs.Names.{AreMet}
 use Rattle.fml_link.specs.Sound.{IsReadModule}
 use Rattle.fml_link.proofs.files.modules_of.Given as goal
 
 abbrev pub invariant-loop-place : goal.invariant-loop-place
 invariant-loop-place g l = record {
-  count : length l.modules ≡ l.place;
-  listed : g.F.Shelf.tells → listed (g.F.Shelf.file l.fn.shelf) (64 - l.place) l.names l.modules ≡ modules_of (g.F.Shelf.file l.fn.shelf) l.fn.root;
+  met : AreMet l.names;
+  few : length l.names.list ≤ 64;
+  listed : g.F.Shelf.tells → names_after (g.F.Shelf.file l.fn.shelf) l.fn.root l.place ≡ Ok l.names.list;
+  read : g.F.Shelf.tells → read_each (g.F.Shelf.file l.fn.shelf) (take l.place l.names.list) ≡ Ok l.modules;
   sound : All IsReadModule l.modules;
   files : g.F.Shelf.tells → (other : List ℕ) → g.F.Shelf.file l.shelf other ≡ g.F.Shelf.file l.fn.shelf other;
   faults : g.F.Shelf.faults l.fn.shelf ≤ g.F.Shelf.faults l.shelf;
