@@ -2,6 +2,7 @@ pub mod Adding
 pub mod Below
 pub mod Beside
 pub mod Choosing
+pub mod Gates
 pub mod Opening
 pub mod Standing
 pub mod Turning

@@ -16,12 +16,13 @@ use Rattle.pair_store.specs.declared.faults.PairFault.TheVariants.{NoStore, BadS
 use Rattle.pair_store.specs.declared.records.Choice.{Choice}
 use Rattle.pair_store.specs.Choice.{payloads_of, IsAnswer, IsBeside, IsChoice}
 use Rattle.pair_store.specs.Moments.{IsOpening}
-use Rattle.pair_store.specs.Pair.{HasList, HasNoStore, IsBad, IsEarlier}
+use Rattle.pair_store.specs.Pair.{HasList, HasKeptList, HasNoStore, IsBad, IsEarlier}
 use Rattle.pair_store.specs.Repair.{starts_open, repair_cost, shut_first, IsRepaired, MayBeShut, shut_where}
-use Rattle.pair_store.specs.Store.{PairStands}
+use Rattle.pair_store.specs.Store.{PairStands, PairStandsWithGate}
 use Rattle.gate_journal.specs.Costs.{HasCost}
 use Rattle.pair_store.proofs.Beside.{on_of}
 use Rattle.pair_store.proofs.Choosing.{choice_list, list_is_store}
+use Rattle.pair_store.proofs.Gates.{beside_sum, choice_gate}
 use Rattle.pair_store.proofs.Turning.{first_open}
 
 -- the first byte of an open side, and of a closed one
@@ -41,10 +42,6 @@ open_shut generation payloads image side = ap shut_first side.bytes ∙ ap (λ (
 shut_same : (image : List ℕ) → IsShut image → shut_first image ≡ image
 shut_same [] shut = absurd shut
 shut_same (first ∷ rest) shut = ap (λ (b : Bool). (if b then 0 else first) ∷ rest) (not_one first shut)
-
-pub beside_sum : (is_open : Bool) (generation : ℕ) (image : List ℕ) → IsBeside is_open generation image → IsShut image ⊎ IsEarlier generation image
-beside_sum true generation image earlier = inr earlier
-beside_sum false generation image shut = inl shut
 
 beside_starts : (is_open : Bool) (generation : ℕ) (image : List ℕ) → IsBeside is_open generation image → starts_open image ≡ is_open
 beside_starts true generation image earlier = open_starts earlier.before earlier.payloads image earlier.side
@@ -190,6 +187,21 @@ module _ {H : Type 0} (h : Ghosts H) (choice : Choice) (there : Side) (start mid
   choice_pair kept left only = opened_pair h choice.records.side choice.records.journal.generation (payloads_of choice.records) start mid new here same durable
       (subst (λ (s : Side). KeepsAll h (other s) mid new) is_there kept) choice.records.journal choice.records.of_side refl is.read.place is.some choice.is_other_open beside
       (subst (λ (s : Side). h.reads new s ≡ shut_where choice.is_other_open (h.reads mid s)) is_there left) (subst (λ (s : Side). IsDurable h new s) is_there only)
+
+  pub choice_with_gate : KeepsAll h (other there) mid new → PairStands h choice.records.journal new (payloads_of choice.records)
+      → (payloads : List (List ℕ)) → HasKeptList (h.reads start Left) (h.reads start Right) payloads → PairStandsWithGate h choice.records.journal new payloads
+  choice_with_gate kept stands payloads has =
+      let found = choice_gate (h.reads start Left) (h.reads start Right) choice is payloads has in
+      let before : choice.records.journal.place < length (h.reads start choice.records.side) =
+      subst (λ (image : List ℕ). choice.records.journal.place < length image) (on_of (h.reads start) choice.records.side) found.1 in
+      let same_there = reads_here h choice.records.side choice.records.journal.generation (payloads_of choice.records) start mid new here same durable
+      (subst (λ (s : Side). KeepsAll h (other s) mid new) is_there kept) in
+      let after : choice.records.journal.place < length (h.reads new choice.records.side) =
+      subst (λ (image : List ℕ). choice.records.journal.place < length image) (sym same_there) before in
+      record {
+        stands = subst (λ (list : List (List ℕ)). PairStands h choice.records.journal new list) found.0 stands;
+        gate = subst (λ (s : Side). choice.records.journal.place < length (h.reads new s)) choice.records.of_side after;
+      }
 
   pub choice_shut : h.reads new there ≡ shut_where choice.is_other_open (h.reads mid there) → h.reads new (other choice.records.journal.side) ≡ shut_first (h.reads start (other choice.records.journal.side))
   choice_shut left = subst (λ (s : Side). h.reads new (other s) ≡ shut_first (h.reads start (other s))) choice.records.of_side

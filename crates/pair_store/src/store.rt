@@ -6,7 +6,7 @@ ghost use Rattle.host_model.specs.Hosts.{IsDurable, MeetsAll};
 ghost use Rattle.host_model.specs.Sides.{other};
 ghost use Rattle.gate_journal.specs.Costs.{HasCost};
 ghost use Rattle.pair_store.specs.Moments.{HasEither, KeepsEither, StaysBelow, IsOpening};
-ghost use Rattle.pair_store.specs.Pair.{generation_after, HasList, HasNoStore, IsBad};
+ghost use Rattle.pair_store.specs.Pair.{HasKeptList, generation_after, HasList, HasNoStore, IsBad};
 ghost use Rattle.pair_store.specs.Repair.{repair_cost, shut_first};
 ghost use Rattle.pair_store.specs.Store.{PairStands, PairStandsWithGate, IsClosedOn, HasFailed};
 
@@ -96,6 +96,8 @@ impl PairStore {
     ) -> Result<(PairStore, Sequence<Sequence<u8>>), PairFault>
         ensures list { H.tells → IfOk result (λ found. HasList (H.reads host.old Side.Left) (H.reads host.old Side.Right) found.1) }
         ensures opened { H.tells → IfOk result (λ found. PairStands H.Host found.0 host.new found.1) }
+        ensures gate { H.tells → IfOk result (λ found. (payloads : List (List ℕ)) → HasKeptList (H.reads host.old Side.Left) (H.reads host.old Side.Right) payloads
+            → PairStandsWithGate H.Host found.0 host.new payloads) }
         ensures opened_where { H.tells → (payloads : List (List ℕ)) → HasList (H.reads host.old Side.Left) (H.reads host.old Side.Right) payloads
             → IsOk result ⊎ HasFailed result }
         ensures no_store { H.tells → IsErrOf result PairFault.NoStore → HasNoStore (H.reads host.old Side.Left) (H.reads host.old Side.Right) }

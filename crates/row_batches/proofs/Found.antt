@@ -220,3 +220,6 @@ no_rows rows none = subst AreRows (sym none) tt
 -- a list that was written over from its front on, to its end
 pub written_whole : {A : Type 0} (len : ℕ) (new items : List A) → len ≡ length items → length new ≡ length items → take len (new ++ drop (length new) items) ≡ new
 written_whole len new items is even = take_at new (drop (length new) items) len (even ∙ sym is)
+
+pub rise_given_batch : (batch : ChangeList) (rows given : List StoreRow) → AreRows rows → given ≡ applied batch rows → AreRows given
+rise_given_batch batch rows given rise is = subst AreRows (sym is) (rise_applied batch rows rise)

@@ -1,11 +1,14 @@
 pub mod Walks
+pub mod Cleared
 pub mod Fields
 pub mod Found
+pub mod Joining
+pub mod Gaps
 pub mod Keeping
 pub mod Merged
 pub mod OneSpelling
 pub mod Ordered
-pub mod Puts
+pub mod RowFields
 pub mod Sizes
 pub mod Texts
 pub mod Turns

@@ -1,20 +1,17 @@
 -- The steps of a walk over changes and the rows that they change.
-use Rattle.std.proofs.Common.{Less, Equal, Greater, ◌≡◌, ◌<◌, ◌+◌, ℕ, List, [], ◌∷◌, ◌++◌, map, length, refl, sym, ap, ◌∙◌, subst, arith, append_assoc}
-use Rattle.std.proofs.lemmas.List.{append-nil, map-append}
+use Rattle.std.proofs.Common.{Less, Equal, Greater, ◌≡◌, ℕ, List, [], ◌∷◌, ◌++◌, map, length, refl, sym, ap, ◌∙◌, subst, arith, append_assoc}
 use Rattle.std.specs.List.Sorted.{IsStrictlySortedBy}
 use Rattle.std.specs.Ordering.{match_ordering}
 use Rattle.row_batches.specs.Batch.{change_text, changes_text}
-use Rattle.row_batches.specs.Batches.{fields}
 use Rattle.row_batches.specs.Merging.{AreInOrder, ComesBefore, IsMerged, IsMerge}
 use Rattle.row_batches.specs.Places.{AreAbove}
-use Rattle.row_batches.specs.Rows.{Rise, AreRows, key_cmp, key_in, key_of, with_row, without_key, after_change, after_changes}
+use Rattle.row_batches.specs.Rows.{key_cmp, key_in, key_of, with_row, without_key, after_change, after_changes}
 use Rattle.row_batches.specs.declared.change.RowChange.{RowChange}
 use Rattle.row_batches.specs.declared.change.RowChange.TheVariants.{Put, Delete}
 use Rattle.row_batches.specs.declared.merging.Merge.{Merge}
 use Rattle.row_batches.specs.declared.merging.Merge.TheVariants as merge
 use Rattle.row_batches.specs.declared.store_row.StoreRow.{StoreRow}
 use Rattle.row_batches.proofs.Ordered.{same_keys, turned_down, above_trans}
-use Rattle.row_batches.proofs.Texts.{changes_text-append}
 use Rattle.row_batches.proofs.Walks.{stays_first}
 
 put_there : (r : StoreRow) (rows : List StoreRow) → AreAbove r.key (map key_of rows) → with_row r rows ≡ r ∷ rows

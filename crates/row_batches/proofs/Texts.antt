@@ -6,7 +6,7 @@ use Rattle.row_batches.specs.Batch.{ChangeList, FitsFields, change_text, changes
 use Rattle.row_batches.specs.BatchParts.{HasNoChange, HasChange}
 use Rattle.row_batches.specs.declared.change.RowChange.{RowChange}
 use Rattle.row_batches.specs.declared.change.RowChange.TheVariants.{Put, Delete}
-use Rattle.row_batches.proofs.Puts.{same_row, same_short}
+use Rattle.row_batches.proofs.RowFields.{same_row, same_short}
 
 pub not_empty : (c : RowChange) (rest : List ℕ) → change_text c ++ rest ≡ [] → ⊥
 not_empty (Put r) rest same = cc

@@ -41,6 +41,10 @@ abbrev pub changes_text : List RowChange → List ℕ
 changes_text [] = []
 changes_text (c ∷ cs) = change_text c ++ changes_text cs
 
+-- a put of each of these rows, in bytes
+abbrev pub puts_text : List StoreRow → List ℕ
+puts_text rows = changes_text (map Put rows)
+
 -- a clear is the byte 0
 abbrev pub clear_text : Bool → List ℕ
 clear_text true = 0 ∷ []

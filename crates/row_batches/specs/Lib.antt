@@ -2,6 +2,7 @@ pub mod Batch
 pub mod BatchParts
 pub mod Batches
 pub mod Between
+pub mod Gap
 pub mod Laws
 pub mod Merging
 pub mod Places

@@ -1,10 +1,13 @@
 // A batch: changes of rows in the order of their keys.
-ghost use Rattle.std.specs.Prelude.{◌≡◌, ◌++◌, ◌∷◌, [], true, false, ◌↔◌, IsTrue, OnOk, OnErr};
-ghost use Rattle.row_batches.specs.Batch.{IsBatch, IsPut, ComesNext, FitsFields};
-ghost use Rattle.row_batches.specs.Rows.{key_cmp, key_in};
+ghost use Rattle.std.specs.Prelude.{◌≡◌, ◌++◌, ◌∷◌, [], true, false, ◌↔◌, map, IsTrue, IfOk, OnOk, OnErr};
+ghost use Rattle.row_batches.specs.declared.change.RowChange.TheVariants.{Put as put_change};
+ghost use Rattle.row_batches.specs.Batch.{IsBatch, IsPut, ComesNext, FitsFields, applied, whole_of};
+ghost use Rattle.row_batches.specs.Batches.{HaveRoom};
+ghost use Rattle.row_batches.specs.Rows.{AreRows, key_cmp, key_in};
 ghost use Rattle.std.specs.declared.cmp.Ordering.TheVariants.{Less};
 
 use crate::change::RowChange;
+use crate::store_row::StoreRow;
 use sequences::Sequence;
 use std::alloc::{AllocError, Global};
 use std::cmp::Ordering;
@@ -48,6 +51,31 @@ impl Batch {
             is_clear: true,
             changes: Sequence::new(alloc),
         }
+    }
+
+    /// The batch of these changes, without a clear. It takes no memory.
+    pub fn of_changes(changes: Sequence<RowChange>) -> Batch
+        requires { IsBatch (record { clear = false; changes = changes }) }
+        ensures { result ≡ record { clear = false; changes = changes } }
+    {
+        Batch {
+            is_clear: false,
+            changes,
+        }
+    }
+
+    /// A clear of all rows and a put of each of these. The one error is want of memory.
+    pub fn whole_of(alloc: Global, rows: Sequence<StoreRow>) -> Result<Batch, AllocError>
+        requires rise { AreRows rows }
+        requires room { HaveRoom rows }
+        ensures batch { IfOk result (λ batch. batch ≡ whole_of rows) }
+        ensures gives { IfOk result (λ batch. applied batch [] ≡ rows) }
+    {
+        let changes = puts_of(alloc, rows)?;
+        Ok(Batch {
+            is_clear: true,
+            changes,
+        })
     }
 
     /// Whether all rows are cleared first. It takes no memory.
@@ -95,6 +123,17 @@ impl Batch {
         self.changes.push(change)?;
         Ok(())
     }
+}
+
+// A put of each of the rows.
+fn puts_of(alloc: Global, rows: Sequence<StoreRow>) -> Result<Sequence<RowChange>, AllocError>
+    ensures { IfOk result (λ changes. changes ≡ map put_change rows) }
+{
+    let mut changes = Sequence::new(alloc);
+    for row in rows.into_vec() {
+        changes.push(RowChange::Put(row))?;
+    }
+    Ok(changes)
 }
 
 // Whether a key is below another.

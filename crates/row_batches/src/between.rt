@@ -1,6 +1,6 @@
 // The batch from one map of rows to the next.
-ghost use Rattle.std.specs.Prelude.{◌≡◌, ◌∷◌, IfOk};
-ghost use Rattle.row_batches.specs.Batch.{applied};
+ghost use Rattle.std.specs.Prelude.{◌≡◌, ◌≤◌, ◌+◌, ◌∷◌, length, IfOk};
+ghost use Rattle.row_batches.specs.Batch.{applied, batch_text, whole_of};
 ghost use Rattle.row_batches.specs.Batches.{HaveRoom};
 ghost use Rattle.row_batches.specs.Between.{between};
 ghost use Rattle.row_batches.specs.Rows.{AreRows, key_cmp};
@@ -27,6 +27,7 @@ pub fn change_between(
     requires new_room { HaveRoom new.now }
     ensures between { IfOk result (λ batch. batch ≡ between old.now new.now) }
     ensures gives { IfOk result (λ batch. applied batch old.now ≡ new.now) }
+    ensures size { IfOk result (λ batch. length (batch_text batch) ≤ length (batch_text (whole_of old.now)) + length (batch_text (whole_of new.now))) }
 {
     let mut batch = Batch::new(alloc);
     let mut olds = old;

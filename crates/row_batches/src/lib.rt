@@ -6,6 +6,7 @@ mod batch;
 mod between;
 mod change;
 mod fault;
+mod gap;
 mod laws;
 mod merging;
 mod parts;

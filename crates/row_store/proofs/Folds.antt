@@ -54,9 +54,13 @@ fold_sound [] before after sound made = subst AreSoundRows made sound
 fold_sound (payload ∷ payloads) before after sound made =
     fold_sound payloads (applied made.0 before) after (record { rise = rise_applied made.0 before sound.rise; fields = room_applied made.0 before made.1.rules sound.fields }) made.2
 
-no_rows : AreSoundRows []
+pub no_rows : AreSoundRows []
 unfolding IsStrictlySortedBy
 no_rows = record { rise = tt; fields = tt }
+
+-- rows that batches make from none are sound
+pub made_sound : (payloads : List (List ℕ)) (rows given : List StoreRow) → Fold payloads [] rows → given ≡ rows → AreSoundRows given
+made_sound payloads rows given made is = subst AreSoundRows (sym is) (fold_sound payloads [] rows no_rows made)
 
 -- the payloads after a commit make the rows with the batch
 pub fold_after : (is_whole : Bool) (store : StoredRows) (payloads : List (List ℕ)) (batch : ChangeList) (payload : List ℕ) → Fold payloads [] store.rows → IsBatch batch → IsWritten is_whole store batch payload

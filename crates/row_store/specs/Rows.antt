@@ -1,5 +1,6 @@
 -- The rows that a pair of images has.
 use Rattle.std.specs.Prelude.{◌≡◌, ℕ, List, []}
+use Rattle.gate_journal.specs.Records.{place_of}
 use Rattle.pair_store.specs.Pair.{HasList, HasKeptList, HasNoStore}
 use Rattle.row_batches.specs.declared.store_row.StoreRow.{StoreRow}
 use Rattle.row_store.specs.Folding.{Fold}
@@ -11,6 +12,10 @@ HasRows l r rows = (payloads : List (List ℕ)) × HasList l r payloads × Fold 
 -- and a byte stands where the next batch begins
 abbrev pub HasKeptRows : List ℕ → List ℕ → List StoreRow → Type 0
 HasKeptRows l r rows = (payloads : List (List ℕ)) × HasKeptList l r payloads × Fold payloads [] rows
+
+-- the next batch of the pair begins at this place
+abbrev pub HasPlace : List ℕ → List ℕ → ℕ → Type 0
+HasPlace l r place = (payloads : List (List ℕ)) × HasList l r payloads × (place ≡ place_of payloads)
 
 -- a pair has the rows of one map at most
 abbrev pub HasOneMap : Type 0

@@ -18,7 +18,7 @@ ghost use Rattle.row_batches.specs.Rows.{AreRows, value_of};
 ghost use Rattle.row_store.specs.Folding.{Fold};
 ghost use Rattle.row_store.specs.Moments.{KeepsEitherRows};
 ghost use Rattle.row_store.specs.Ready.{IsReadyFor, IsWritten, PassesMark, commit_cost, place_after};
-ghost use Rattle.row_store.specs.Rows.{HasRows, IsBad};
+ghost use Rattle.row_store.specs.Rows.{HasRows, HasKeptRows, HasPlace, IsBad};
 ghost use Rattle.row_store.specs.Store.{RowsStand, RowsStandWithGate, KeepsRows, place};
 
 use crate::faults::RowMakeFault;
@@ -34,6 +34,10 @@ use std::alloc::{AllocError, Global};
 use std::marker::Model;
 
 /// A map from keys to values, kept over every crash: rows in the order of their keys, and where the next batch is written.
+///
+/// An opening reads each batch once; a change of it costs a search of an ordered map. A commit takes no memory. Beside
+/// what it writes it costs a binary search for each change, and where a row is new or deleted one walk, which moves the handles of
+/// the rows behind it and copies no key and no value.
 ///
 /// It stands for the disk of the host on which it was opened. Each call on it that takes a host wants this host, with the disk
 /// as the last call left it and synced. After a fault of the disk it is dropped, and the store opened again.
@@ -81,6 +85,9 @@ impl RowStore {
     pub fn open<H: Host>(alloc: Global, host: &mut H) -> Result<RowStore, PairFault>
         ensures rows { H.tells → IfOk result (λ store. HasRows (H.reads host.old Left) (H.reads host.old Right) store.rows) }
         ensures opened { H.tells → IfOk result (λ store. RowsStand H.Host store host.new) }
+        ensures gate { H.tells → IfOk result (λ store. (rows : List StoreRow) → HasKeptRows (H.reads host.old Left) (H.reads host.old Right) rows
+            → RowsStandWithGate H.Host store host.new) }
+        ensures place { H.tells → IfOk result (λ store. HasPlace (H.reads host.old Left) (H.reads host.old Right) (place store)) }
         ensures opened_where { H.tells → (rows : List StoreRow) → HasRows (H.reads host.old Left) (H.reads host.old Right) rows
             → IsOk result ⊎ HasFailed result }
         ensures no_store { H.tells → IsErrOf result PairFault.NoStore → HasNoStore (H.reads host.old Left) (H.reads host.old Right) }
@@ -172,7 +179,7 @@ impl RowStore {
     }
 
     /// Writes a batch that the last `prepare` of this store made ready, and takes it. At `Ok` each image has it. It takes no
-    /// memory. A batch's rows are moved in as `RowMap::apply` says.
+    /// memory. A batch's rows are moved in as `RowMap` says.
     pub fn commit<H: Host>(&mut self, host: &mut H, ready: Ready) -> Result<(), DiskFailed>
         requires ready { IsReadyFor self.old ready }
         requires stands { H.tells → RowsStand H.Host self.old host.old }

@@ -1,5 +1,5 @@
-use Rattle.std.proofs.Common.{Less, Equal, Greater, ◌≡◌, ◌∷◌, List, sym, ◌∙◌, subst}
-use Rattle.row_batches.specs.Rows.{key_cmp, key_in}
+use Rattle.std.proofs.Common.{Less, Equal, Greater, ◌≡◌, sym, ◌∙◌, subst}
+use Rattle.row_batches.specs.Rows.{key_cmp}
 use Rattle.row_batches.specs.declared.change.RowChange.{RowChange}
 use Rattle.row_batches.specs.declared.store_row.StoreRow.{StoreRow}
 use Rattle.row_batches.proofs.Merged.{at_less, at_same, at_same_merge, at_greater, at_no_rows, at_no_changes}

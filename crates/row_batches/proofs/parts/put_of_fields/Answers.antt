@@ -1,7 +1,7 @@
 -- The key is the first field, and the value the second.
 use Rattle.std.proofs.Common.{◌++◌, ◌∙◌, sym, append_assoc, refl}
 use Rattle.row_batches.specs.Batches.{short_field, long_field}
-use Rattle.row_batches.proofs.Puts.{same_short}
+use Rattle.row_batches.proofs.RowFields.{same_short}
 use Rattle.row_batches.proofs.parts.put_of_fields.Goals as goal
 
 pub returns-in_default-long_field : goal.returns-in_default-long_field

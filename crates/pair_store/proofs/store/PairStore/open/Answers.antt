@@ -10,9 +10,9 @@ use Rattle.pair_store.specs.declared.faults.PairFault.TheVariants.{NoStore, BadS
 use Rattle.pair_store.specs.Choice.{payloads_of, IsAnswer, IsChoice}
 use Rattle.pair_store.specs.Pair.{HasList}
 use Rattle.pair_store.specs.Repair.{shut_first}
-use Rattle.pair_store.specs.Store.{PairStands}
+use Rattle.pair_store.specs.Store.{PairStands, PairStandsWithGate}
 use Rattle.pair_store.proofs.Below.{now_met, shut_met, then_below}
-use Rattle.pair_store.proofs.Opening.{refused_no_list, refused_closed, refused_bad, choice_met, choice_pair, choice_shut, choice_cost, choice_is_store, choice_not_bad, answer_list, closed_image, cost_at_err, passed_on, came_from}
+use Rattle.pair_store.proofs.Opening.{refused_no_list, refused_closed, refused_bad, choice_met, choice_pair, choice_with_gate, choice_shut, choice_cost, choice_is_store, choice_not_bad, answer_list, closed_image, cost_at_err, passed_on, came_from}
 use Rattle.pair_store.proofs.store.PairStore.open.Goals as goal
 
 pub returns-in_err-left-clause-below : goal.returns-in_err-left-clause-below
@@ -143,6 +143,22 @@ returns-clause-opened g c tells =
     (subst (λ (payloads : List (List ℕ)). PairStands h choice.records.journal new payloads) (sym c.store_of.ensures.payloads)
     (choice_pair h choice c.other.result old mid new is c.other.ensures (c.in_ok-left.ensures.same tells) (c.in_ok-left.ensures.durable tells)
     (c.shut_side.ensures.rest tells) (c.in_ok-shut_side.ensures.reads tells) (c.in_ok-shut_side.ensures.durable tells (c.in_ok-left.ensures.durable tells c.other.result))))
+
+pub returns-clause-gate : goal.returns-clause-gate
+returns-clause-gate g c tells payloads has =
+    let h = g.H.Host in
+    let old = c.args.host.now in
+    let l = h.reads old Left in
+    let r = h.reads old Right in
+    let choice = c.in_ok-choice.choice in
+    let is : IsChoice l r choice = c.in_ok-choice.ensures.answer l r (c.in_ok-left.ensures.left tells) (c.in_ok-left.ensures.right tells) in
+    let mid = c.found_both.new.host in
+    let new = c.shut_side.new.host in
+    let stands = choice_pair h choice c.other.result old mid new is c.other.ensures (c.in_ok-left.ensures.same tells) (c.in_ok-left.ensures.durable tells)
+    (c.shut_side.ensures.rest tells) (c.in_ok-shut_side.ensures.reads tells) (c.in_ok-shut_side.ensures.durable tells (c.in_ok-left.ensures.durable tells c.other.result)) in
+    subst (λ (store : OpenSide). PairStandsWithGate h store new payloads) (sym c.store_of.ensures.store)
+    (choice_with_gate h choice c.other.result old mid new is c.other.ensures (c.in_ok-left.ensures.same tells) (c.in_ok-left.ensures.durable tells)
+    (c.shut_side.ensures.rest tells) stands payloads has)
 
 pub returns-clause-shut : goal.returns-clause-shut
 returns-clause-shut g c tells =

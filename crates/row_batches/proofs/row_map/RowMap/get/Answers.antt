@@ -10,7 +10,7 @@ returns-in-Ok c =
     let key = c.args.key.now in
     let rows : List StoreRow = c.as_slice-rows.result.now in
     let whole : rows ≡ c.args.self.now.rows = c.as_slice-rows.ensures.value ∙ ap (λ (m : RowsInRoom). m.rows) c.self.view_is in
-    let rise : AreRows rows = subst AreRows (sym c.as_slice-rows.ensures.value) c.self.invariant.rise in
+    let rise : AreRows rows = subst AreRows (sym c.as_slice-rows.ensures.value) c.self.invariant.sound.rise in
     ap Some c.as_slice.ensures ∙ sym (value_there key rows c.in-Ok.place c.index-rows-place.result rise c.in-Ok.ensures.found) ∙ ap (value_of key) whole
 
 pub returns-in-Err : goal.returns-in-Err

@@ -3,6 +3,6 @@ use Rattle.std.specs.List.Sorted.{IsStrictlySortedBy}
 use Rattle.row_batches.specs.RowRoom.{AreSoundRows}
 use Rattle.row_batches.proofs.row_map.RowMap.new.Goals as goal
 
-pub invariant_of-result : goal.invariant_of-result
+pub from_rows-requires : goal.from_rows-requires
 unfolding IsStrictlySortedBy
-invariant_of-result c = subst AreSoundRows (sym c.new.ensures.items) (record { rise = tt; fields = tt })
+from_rows-requires c = subst AreSoundRows (sym c.new.ensures) (record { rise = tt; fields = tt })

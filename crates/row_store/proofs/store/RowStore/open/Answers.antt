@@ -2,6 +2,8 @@ use Rattle.std.proofs.Common.{◌≡◌, Err, inl, inr, ap}
 use Rattle.pair_store.specs.declared.faults.PairFault.TheVariants.{BadStore}
 use Rattle.host_model.specs.declared.side.Side.TheVariants.{Left, Right}
 use Rattle.row_store.proofs.Folds.{failed, failed_too, fault_is, fold_same, not_ok}
+use Rattle.row_store.specs.Store.{StoredRows}
+use Rattle.row_store.proofs.Gates.{kept_gate}
 use Rattle.row_store.proofs.store.RowStore.open.Goals as goal
 
 pub returns-in-Ok-rows_of-clause-bad_store_where : goal.returns-in-Ok-rows_of-clause-bad_store_where
@@ -30,3 +32,13 @@ pub returns-in-Err-clause-bad_store : goal.returns-in-Err-clause-bad_store
 returns-in-Err-clause-bad_store g c tells is =
     let bad = c.in-Err.ensures.bad_store tells (ap Err (fault_is c.in-Err.fault BadStore is)) in
     record { there = bad.open_side; no_rows = λ rows has. bad.no_list has.0 has.1 }
+
+pub returns-in-Ok-rows_of-clause-gate : goal.returns-in-Ok-rows_of-clause-gate
+returns-in-Ok-rows_of-clause-gate g c tells rows kept =
+    let h = g.H.Host in
+    let host = c.args.host.now in
+    let store : StoredRows = record { records = c.in-Ok.pair; rows = c.in-Ok-rows_of.rows.rows; room = c.in-Ok-rows_of.rows.room } in
+    kept_gate h (h.reads host Left) (h.reads host Right) store c.open.new.host c.in-Ok.payloads (c.in-Ok.ensures.list tells) c.in-Ok-rows_of.ensures.rows (c.in-Ok.ensures.gate tells) rows kept
+
+pub returns-in-Ok-rows_of-clause-place : goal.returns-in-Ok-rows_of-clause-place
+returns-in-Ok-rows_of-clause-place g c tells = (c.in-Ok.payloads, c.in-Ok.ensures.list tells, (c.in-Ok.ensures.opened tells).side.place)
