@@ -2,27 +2,22 @@
 use Rattle.std.proofs.Common.{◌≡◌, ◌++◌, ◌∷◌, [], List, ℕ, Option, Some, None, map, Less, refl, sym, subst, ap₂, ◌∙◌}
 use Rattle.std.specs.List.{AllByRecursion}
 use Rattle.std.specs.List.Sorted.{IsStrictlySortedBy}
-use Rattle.std.specs.Option.{is_some}
 use Rattle.recipe_reader.specs.Payloads as payloads
 use Rattle.recipe_reader.specs.Payloads.{slug_cmp, AreInOrder}
 use Rattle.recipe_reader.specs.declared.recipe.Recipe.{Recipe}
 use Rattle.enrol_states.specs.Order.{Rise}
-use Rattle.enrol_states.specs.State.{slugs_of}
 use Rattle.enrol_states.specs.Consistent.{IsConsistent, ArePending}
 use Rattle.enrol_states.specs.declared.state.State.{State}
 use Rattle.enrol_states.proofs.Ordered.{map_itself}
 use Rattle.enrol_states.specs.declared.state.Row.{Row}
-use Rattle.state_codec.specs.Order.{key_of, AreInKeyOrder}
-use Rattle.state_codec.specs.Spelling.{hyphenated, row, key_row, recipe_row, status_row, status_rows, last_rows, pending_recipes, rows_of}
-use Rattle.state_codec.specs.declared.store_row.StoreRow.{StoreRow}
+use Rattle.row_batches.specs.Rows.{key_of, AreRows}
+use Rattle.row_batches.proofs.Joining.{Precede}
+use Rattle.state_codec.specs.Spelling.{hyphenated, row, key_row, recipe_row, status_row, status_rows, last_rows, pending_recipes, rows_behind_recipes, rows_of}
+use Rattle.row_batches.specs.declared.store_row.StoreRow.{StoreRow}
 
 -- the key is below those of all these rows
-abbrev IsBelow : List ℕ → List StoreRow → Type 0
+abbrev pub IsBelow : List ℕ → List StoreRow → Type 0
 IsBelow key rows = AllByRecursion (λ t. slug_cmp key t ≡ Less) (map key_of rows)
-
--- the keys of the first rows are below those of the second
-abbrev AreBelow : List StoreRow → List StoreRow → Type 0
-AreBelow rows behind = AllByRecursion (λ r. IsBelow r.key behind) rows
 
 below_append : (key : List ℕ) (rs ss : List StoreRow) → IsBelow key rs → IsBelow key ss → IsBelow key (rs ++ ss)
 below_append key [] ss r_are s_are = s_are
@@ -32,11 +27,11 @@ below_map : {A : Type 0} (key : List ℕ) (f : A → StoreRow) (xs : List A) →
 below_map key f [] each = tt
 below_map key f (x ∷ xs) each = (each x, below_map key f xs each)
 
-all_below : {A : Type 0} (f : A → StoreRow) (xs : List A) (behind : List StoreRow) → ((x : A) → IsBelow (f x).key behind) → AreBelow (map f xs) behind
+pub all_below : {A : Type 0} (f : A → StoreRow) (xs : List A) (behind : List StoreRow) → ((x : A) → IsBelow (f x).key behind) → Precede (map f xs) behind
 all_below f [] behind each = tt
 all_below f (x ∷ xs) behind each = (each x, all_below f xs behind each)
 
-rise_append : (rs ss : List StoreRow) → AreInKeyOrder rs → AreInKeyOrder ss → AreBelow rs ss → AreInKeyOrder (rs ++ ss)
+rise_append : (rs ss : List StoreRow) → AreRows rs → AreRows ss → Precede rs ss → AreRows (rs ++ ss)
 unfolding IsStrictlySortedBy
 rise_append [] ss r_rise s_rise below = s_rise
 rise_append (r ∷ rs) ss r_rise s_rise below = (below_append r.key rs ss r_rise.0 below.0, rise_append rs ss r_rise.1 s_rise below.1)
@@ -49,7 +44,7 @@ module _ {A : Type 0} (tag : ℕ) (text : A → List ℕ) (f : A → StoreRow) (
   above_section x [] above = tt
   above_section x (y ∷ ys) above = (ap₂ (λ (a b : List ℕ). slug_cmp a b) (keyed x) (keyed y) ∙ same (text x) (text y) ∙ above.0, above_section x ys above.1)
 
-  rise_section : (xs : List A) → Rise (map text xs) → AreInKeyOrder (map f xs)
+  rise_section : (xs : List A) → Rise (map text xs) → AreRows (map f xs)
   unfolding IsStrictlySortedBy
   rise_section [] rise = tt
   rise_section (x ∷ xs) rise = (above_section x xs rise.0, rise_section xs rise.1)
@@ -71,16 +66,16 @@ pending_order (Some rs) are = are.in_order
 
 module _ (s : State) where
   -- behind the lists the sections follow one another
-  abbrev from_statuses : List StoreRow
+  abbrev pub from_statuses : List StoreRow
   from_statuses = status_rows s ++ last_rows s
 
-  abbrev from_opt_outs : List StoreRow
-  from_opt_outs = map (key_row (111 ∷ [])) s.opted_out ++ from_statuses
+  abbrev pub from_opt_outs : List StoreRow
+  from_opt_outs = rows_behind_recipes s
 
-  abbrev from_pending : List StoreRow
+  abbrev pub from_pending : List StoreRow
   from_pending = map (recipe_row (110 ∷ [])) (pending_recipes s.pending) ++ from_opt_outs
 
-  abbrev from_live : List StoreRow
+  abbrev pub from_live : List StoreRow
   from_live = map (recipe_row (108 ∷ [])) s.live ++ from_pending
 
   -- a key that is below those of each letter
@@ -99,52 +94,69 @@ module _ (s : State) where
   below_live : (key : List ℕ) → ((t : List ℕ) → slug_cmp key (108 ∷ t) ≡ Less) → IsBelow key from_pending → IsBelow key from_live
   below_live key l rest = below_append key (map (recipe_row (108 ∷ [])) s.live) from_pending (below_map key (recipe_row (108 ∷ [])) s.live (λ r. l r.slug)) rest
 
-  statuses_rise : IsConsistent s → AreInKeyOrder from_statuses
-  unfolding IsStrictlySortedBy
-  statuses_rise is =
-      let last : AreInKeyOrder (last_rows s) = ((refl, (refl, tt)), ((refl, tt), (tt, tt))) in
-      let rows = rise_append (map status_row s.rows) (last_rows s) (rise_section 114 (λ (w : Row). w.slug) status_row (λ w. refl) (λ a b. refl) s.rows is.row_order) last (all_below status_row s.rows (last_rows s) (λ w. (refl, (refl, (refl, tt))))) in
-      let behind_q : IsBelow (113 ∷ []) (map status_row s.rows ++ last_rows s) = below_append (113 ∷ []) (map status_row s.rows) (last_rows s) (below_map (113 ∷ []) status_row s.rows (λ w. refl)) (refl, (refl, (refl, tt))) in
-      let behind_p : IsBelow (112 ∷ []) (map status_row s.rows ++ last_rows s) = below_append (112 ∷ []) (map status_row s.rows) (last_rows s) (below_map (112 ∷ []) status_row s.rows (λ w. refl)) (refl, (refl, (refl, tt))) in
-      ((refl, behind_p), (behind_q, rows))
-
-  opt_outs_rise : IsConsistent s → AreInKeyOrder from_opt_outs
-  opt_outs_rise is =
-      rise_append (map (key_row (111 ∷ [])) s.opted_out) from_statuses
-      (rise_section 111 (λ (t : List ℕ). t) (key_row (111 ∷ [])) (λ t. refl) (λ a b. refl) s.opted_out (subst Rise (sym (map_itself s.opted_out)) is.opted_out_order))
-      (statuses_rise is)
-      (all_below (key_row (111 ∷ [])) s.opted_out from_statuses (λ t. below_statuses (111 ∷ t) refl refl (λ u. refl) refl refl refl))
-
-  pending_rise : IsConsistent s → AreInKeyOrder from_pending
-  pending_rise is =
-      let rs = pending_recipes s.pending in
-      rise_append (map (recipe_row (110 ∷ [])) rs) from_opt_outs
-      (rise_section 110 (λ (r : Recipe). r.slug) (recipe_row (110 ∷ [])) (λ r. refl) (λ a b. refl) rs (recipes_rise rs (pending_order s.pending is.pending)))
-      (opt_outs_rise is)
-      (all_below (recipe_row (110 ∷ [])) rs from_opt_outs (λ r. below_opt_outs (110 ∷ r.slug) (λ u. refl) (below_statuses (110 ∷ r.slug) refl refl (λ u. refl) refl refl refl)))
-
-  live_rise : IsConsistent s → AreInKeyOrder from_live
-  live_rise is =
-      rise_append (map (recipe_row (108 ∷ [])) s.live) from_pending
-      (rise_section 108 (λ (r : Recipe). r.slug) (recipe_row (108 ∷ [])) (λ r. refl) (λ a b. refl) s.live (recipes_rise s.live is.live.in_order))
-      (pending_rise is)
-      (all_below (recipe_row (108 ∷ [])) s.live from_pending (λ r. below_pending (108 ∷ r.slug) (λ u. refl) (below_opt_outs (108 ∷ r.slug) (λ u. refl) (below_statuses (108 ∷ r.slug) refl refl (λ u. refl) refl refl refl))))
-
-  abbrev from_id : List StoreRow
+  abbrev pub from_id : List StoreRow
   from_id = row (105 ∷ []) (hyphenated s.id) ∷ from_live
 
   below_id : (key : List ℕ) → slug_cmp key (105 ∷ []) ≡ Less → IsBelow key from_live → IsBelow key from_id
   below_id key i rest = (i, rest)
 
-  id_rises : IsConsistent s → AreInKeyOrder from_id
+  -- the keys of a list are below those of the rows behind it
+  pub client_rows_below : (t : List ℕ) → IsBelow (114 ∷ t) (last_rows s)
+  client_rows_below t = (refl, (refl, (refl, tt)))
+
+  pub opt_outs_below : (t : List ℕ) → IsBelow (111 ∷ t) from_statuses
+  opt_outs_below t = below_statuses (111 ∷ t) refl refl (λ u. refl) refl refl refl
+
+  pub pending_below : (t : List ℕ) → IsBelow (110 ∷ t) from_opt_outs
+  pending_below t = below_opt_outs (110 ∷ t) (λ u. refl) (below_statuses (110 ∷ t) refl refl (λ u. refl) refl refl refl)
+
+  pub live_below : (t : List ℕ) → IsBelow (108 ∷ t) from_pending
+  live_below t = below_pending (108 ∷ t) (λ u. refl) (below_opt_outs (108 ∷ t) (λ u. refl) (below_statuses (108 ∷ t) refl refl (λ u. refl) refl refl refl))
+
+  pub features_below : (t : List ℕ) → IsBelow (99 ∷ t) from_id
+  features_below t =
+      below_id (99 ∷ t) refl (below_live (99 ∷ t) (λ u. refl) (below_pending (99 ∷ t) (λ u. refl) (below_opt_outs (99 ∷ t) (λ u. refl) (below_statuses (99 ∷ t) refl refl (λ u. refl) refl refl refl))))
+
+  statuses_rise : IsConsistent s → AreRows from_statuses
+  unfolding IsStrictlySortedBy
+  statuses_rise is =
+      let last : AreRows (last_rows s) = ((refl, (refl, tt)), ((refl, tt), (tt, tt))) in
+      let rows = rise_append (map status_row s.rows) (last_rows s) (rise_section 114 (λ (w : Row). w.slug) status_row (λ w. refl) (λ a b. refl) s.rows is.row_order) last (all_below status_row s.rows (last_rows s) (λ w. client_rows_below w.slug)) in
+      let behind_q : IsBelow (113 ∷ []) (map status_row s.rows ++ last_rows s) = below_append (113 ∷ []) (map status_row s.rows) (last_rows s) (below_map (113 ∷ []) status_row s.rows (λ w. refl)) (refl, (refl, (refl, tt))) in
+      let behind_p : IsBelow (112 ∷ []) (map status_row s.rows ++ last_rows s) = below_append (112 ∷ []) (map status_row s.rows) (last_rows s) (below_map (112 ∷ []) status_row s.rows (λ w. refl)) (refl, (refl, (refl, tt))) in
+      ((refl, behind_p), (behind_q, rows))
+
+  opt_outs_rise : IsConsistent s → AreRows from_opt_outs
+  opt_outs_rise is =
+      rise_append (map (key_row (111 ∷ [])) s.opted_out) from_statuses
+      (rise_section 111 (λ (t : List ℕ). t) (key_row (111 ∷ [])) (λ t. refl) (λ a b. refl) s.opted_out (subst Rise (sym (map_itself s.opted_out)) is.opted_out_order))
+      (statuses_rise is)
+      (all_below (key_row (111 ∷ [])) s.opted_out from_statuses opt_outs_below)
+
+  pending_rise : IsConsistent s → AreRows from_pending
+  pending_rise is =
+      let rs = pending_recipes s.pending in
+      rise_append (map (recipe_row (110 ∷ [])) rs) from_opt_outs
+      (rise_section 110 (λ (r : Recipe). r.slug) (recipe_row (110 ∷ [])) (λ r. refl) (λ a b. refl) rs (recipes_rise rs (pending_order s.pending is.pending)))
+      (opt_outs_rise is)
+      (all_below (recipe_row (110 ∷ [])) rs from_opt_outs (λ r. pending_below r.slug))
+
+  live_rise : IsConsistent s → AreRows from_live
+  live_rise is =
+      rise_append (map (recipe_row (108 ∷ [])) s.live) from_pending
+      (rise_section 108 (λ (r : Recipe). r.slug) (recipe_row (108 ∷ [])) (λ r. refl) (λ a b. refl) s.live (recipes_rise s.live is.live.in_order))
+      (pending_rise is)
+      (all_below (recipe_row (108 ∷ [])) s.live from_pending (λ r. live_below r.slug))
+
+  id_rises : IsConsistent s → AreRows from_id
   unfolding IsStrictlySortedBy
   id_rises is =
       (below_live (105 ∷ []) (λ u. refl) (below_pending (105 ∷ []) (λ u. refl) (below_opt_outs (105 ∷ []) (λ u. refl) (below_statuses (105 ∷ []) refl refl (λ u. refl) refl refl refl))), live_rise is)
 
-  pub rows_rise : IsConsistent s → AreInKeyOrder (rows_of s)
+  pub rows_rise : IsConsistent s → AreRows (rows_of s)
   unfolding rows_of
   rows_rise is =
       rise_append (map (key_row (99 ∷ [])) s.coenrolling) from_id
       (rise_section 99 (λ (t : List ℕ). t) (key_row (99 ∷ [])) (λ t. refl) (λ a b. refl) s.coenrolling (subst Rise (sym (map_itself s.coenrolling)) is.coenrolling_order))
       (id_rises is)
-      (all_below (key_row (99 ∷ [])) s.coenrolling from_id (λ t. below_id (99 ∷ t) refl (below_live (99 ∷ t) (λ u. refl) (below_pending (99 ∷ t) (λ u. refl) (below_opt_outs (99 ∷ t) (λ u. refl) (below_statuses (99 ∷ t) refl refl (λ u. refl) refl refl refl))))))
+      (all_below (key_row (99 ∷ [])) s.coenrolling from_id features_below)

@@ -1,5 +1,3 @@
-pub mod Fields
-pub mod Puts
 pub mod Records
 pub mod Folding
 pub mod ValuesRead
@@ -18,4 +16,7 @@ pub mod Valids
 pub mod RecordTexts
 pub mod Added
 pub mod KeyOrder
+pub mod Items
+pub mod Joined
 pub mod SameRows
+pub mod Changed

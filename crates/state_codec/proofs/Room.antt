@@ -1,4 +1,4 @@
--- The rows of a sound state have room in a batch.
+-- The rows of a state that isn't spelled in 4 GiB have room in a batch.
 use Rattle.std.proofs.Common.{◌<◌, ◌≤◌, ◌^◌, ◌++◌, ◌∷◌, [], List, ℕ, Option, Some, None, map, length, All, IsTrue, arith}
 use Rattle.std.specs.Prelude.{⊤}
 use Rattle.std.proofs.lemmas.List.Elements.{All-head, All-tail}
@@ -9,12 +9,13 @@ use Rattle.enrol_states.specs.Consistent.{IsConsistent, ArePending}
 use Rattle.enrol_states.specs.Statuses.{IsSlug}
 use Rattle.enrol_states.specs.declared.state.State.{State}
 use Rattle.enrol_states.specs.declared.state.Row.{Row}
-use Rattle.state_codec.specs.Batches.{puts, HaveRoom}
+use Rattle.row_batches.specs.Batch.{puts_text}
+use Rattle.row_batches.specs.Batches.{HaveRoom}
 use Rattle.state_codec.specs.Spelling.{key_row, recipe_row, status_row, status_rows, last_rows, pending_recipes, rows_of, spelling}
-use Rattle.state_codec.specs.Sound.{IsSound, max_size}
-use Rattle.state_codec.specs.declared.store_row.StoreRow.{StoreRow}
+use Rattle.state_codec.specs.Sound.{IsSound}
+use Rattle.row_batches.specs.declared.store_row.StoreRow.{StoreRow}
 use Rattle.state_codec.proofs.Names.{slug_short, name_short, recipe_slug}
-use Rattle.state_codec.proofs.Sizes.{length-puts}
+use Rattle.row_batches.proofs.Sizes.{put_size}
 
 abbrev HaveShortKeys : List StoreRow → Type 0
 HaveShortKeys [] = ⊤
@@ -32,7 +33,7 @@ recipes_short : (tag : ℕ) (rs : List Recipe) → AreValid rs → HaveShortKeys
 recipes_short tag [] valid = tt
 recipes_short tag (r ∷ rs) valid = (omega (arith, slug_short r.slug (recipe_slug r valid.0)), recipes_short tag rs valid.1)
 
-pending_valid : (p : Option (List Recipe)) → ArePending p → AreValid (pending_recipes p)
+pub pending_valid : (p : Option (List Recipe)) → ArePending p → AreValid (pending_recipes p)
 pending_valid None are = tt
 pending_valid (Some rs) are = are.valid
 
@@ -50,13 +51,16 @@ keys_short s is =
           (short-append (map (key_row (111 ∷ [])) s.opted_out) _ opted_out (short-append (status_rows s) (last_rows s) statuses last))),
     )
 
-room_of : (rs : List StoreRow) → HaveShortKeys rs → length (puts rs) < 2 ^ 32 → HaveRoom rs
+room_of : (rs : List StoreRow) → HaveShortKeys rs → length (puts_text rs) < 2 ^ 32 → HaveRoom rs
 room_of [] short fits = tt
-room_of (r ∷ rs) short fits = (record { key = omega (arith, short.0); value = omega (arith, length-puts r rs) }, room_of rs short.1 (omega (arith, length-puts r rs)))
+room_of (r ∷ rs) short fits = (record { key = omega (arith, short.0); value = omega (arith, put_size r rs) }, room_of rs short.1 (omega (arith, put_size r rs)))
 
-rows_fit : (s : State) → length (spelling s) ≤ max_size → length (puts (rows_of s)) < 2 ^ 32
+rows_fit : (s : State) → length (spelling s) < 2 ^ 32 → length (puts_text (rows_of s)) < 2 ^ 32
 unfolding spelling
 rows_fit s fits = omega (arith, fits)
 
+pub rows_room : (s : State) → IsConsistent s → length (spelling s) < 2 ^ 32 → HaveRoom (rows_of s)
+rows_room s is fits = room_of (rows_of s) (keys_short s is) (rows_fit s fits)
+
 pub sound_room : (s : State) → IsSound s → HaveRoom (rows_of s)
-sound_room s is = room_of (rows_of s) (keys_short s is.consistent) (rows_fit s is.size)
+sound_room s is = rows_room s is.consistent (omega (arith, is.size))

@@ -3,7 +3,7 @@ use Rattle.std.proofs.Common.{◌≡◌, ◌+◌, ◌<◌, ◌++◌, ◌∷◌, 
 use Rattle.std.specs.Prelude.{bytes_eq}
 use Rattle.std.specs.Cmp.Lexicographic.{bytes_decides}
 use Rattle.std.proofs.lemmas.List.{take_more}
-use Rattle.state_codec.specs.declared.store_row.StoreRow.{StoreRow}
+use Rattle.row_batches.specs.declared.store_row.StoreRow.{StoreRow}
 
 any_default : {A : Type 0} (xs : List A) (i : ℕ) (d e : A) → i < length xs → get_or xs i d ≡ get_or xs i e
 any_default [] i d e within = absurd (omega arith)

@@ -18,7 +18,7 @@ use Rattle.state_codec.specs.Spelling.{row, key_row, recipe_row, status_row, sta
 use Rattle.state_codec.specs.Sound.{AreRecords}
 use Rattle.state_codec.specs.Reading as reading
 use Rattle.state_codec.specs.Reading.{after_tag, value_if, value_under, inserted, inserting}
-use Rattle.state_codec.specs.declared.store_row.StoreRow.{StoreRow}
+use Rattle.row_batches.specs.declared.store_row.StoreRow.{StoreRow}
 
 -- ---- folds
 

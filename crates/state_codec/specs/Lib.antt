@@ -1,11 +1,9 @@
-pub mod Batches
-pub mod BatchParts
 pub mod Statuses
 pub mod Kinds
-pub mod Order
 pub mod Spelling
 pub mod Sound
 pub mod SoundParts
 pub mod Laws
 pub mod Outcome
 pub mod Reading
+pub mod Walking

@@ -27,7 +27,7 @@ use Rattle.state_codec.specs.Outcome.{◌>>=◌, folded, keeping}
 use Rattle.state_codec.specs.declared.state_reading.Lists.{Lists}
 use Rattle.state_codec.specs.declared.state_reading.StateRecipes.{StateRecipes}
 use Rattle.state_codec.specs.declared.state_reading.Last.{Last}
-use Rattle.state_codec.specs.declared.store_row.StoreRow.{StoreRow}
+use Rattle.row_batches.specs.declared.store_row.StoreRow.{StoreRow}
 
 -- ---- values
 

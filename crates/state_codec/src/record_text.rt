@@ -4,15 +4,16 @@ ghost use Rattle.state_codec.specs.Spelling.{recipe_text};
 
 use json::Writer;
 use recipe_reader::{Recipe, write_record};
-use std::alloc::AllocError;
+use std::alloc::{AllocError, Global};
 
-/// The recipe's record as compact JSON, in the memory of the buffer, whose bytes go. The one error
-/// is want of memory.
-pub(crate) fn recipe_text(mut buffer: Vec<u8>, recipe: &Recipe) -> Result<Vec<u8>, AllocError>
+/// The bytes that memory is taken for at first.
+const ROOM: usize = 1_024;
+
+/// The recipe's record as compact JSON. The one error is want of memory.
+pub(crate) fn recipe_text(alloc: Global, recipe: &Recipe) -> Result<Vec<u8>, AllocError>
     ensures { IfOk result (λ text. text.items ≡ recipe_text recipe.now) }
 {
-    buffer.clear();
-    let mut writer = Writer::new(buffer);
+    let mut writer = Writer::new(Vec::with_capacity(alloc, ROOM)?);
     write_record(&mut writer, recipe)?;
     Ok(writer.into_inner())
 }

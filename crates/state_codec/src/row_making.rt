@@ -7,23 +7,36 @@ ghost use Rattle.state_codec.specs.Statuses as statuses;
 use crate::record_text::recipe_text;
 use crate::row_kind::RowKind;
 use crate::status::{number, push_status};
-use crate::store_row::StoreRow;
 use enrol_states::Row;
 use plain_text::Slug;
 use recipe_reader::Recipe;
+use row_batches::StoreRow;
 use sequences::{Sequence, Text};
 use std::alloc::{AllocError, Global};
 use uuid::Uuid;
 
+/// The kind's letter, and what follows it.
+pub(crate) fn key_of(alloc: Global, kind: RowKind, rest: &str) -> Result<Sequence<u8>, AllocError>
+    ensures { IfOk result (λ key. key ≡ letter kind ∷ rest.now) }
+{
+    let rest = rest.as_bytes();
+    let mut key = Vec::with_capacity(alloc, rest.len() + 1)?;
+    key.push(kind.letter())?;
+    key.extend_from_slice(rest)?;
+    Ok(Sequence::from_vec(key))
+}
+
 /// The row whose key is the kind's letter and what follows it.
-fn row_of(alloc: Global, kind: RowKind, rest: &str, value: Vec<u8>) -> Result<StoreRow, AllocError>
+pub(crate) fn row_of(
+    alloc: Global,
+    kind: RowKind,
+    rest: &str,
+    value: Vec<u8>,
+) -> Result<StoreRow, AllocError>
     ensures { IfOk result (λ r. r ≡ row (letter kind ∷ rest.now) value.items) }
 {
-    let mut key = Vec::new(alloc);
-    key.push(kind.letter())?;
-    key.extend_from_slice(rest.as_bytes())?;
     Ok(StoreRow {
-        key: Sequence::from_vec(key),
+        key: key_of(alloc, kind, rest)?,
         value: Sequence::from_vec(value),
     })
 }
@@ -56,7 +69,7 @@ pub(crate) fn recipe_row(
 ) -> Result<StoreRow, AllocError>
     ensures { IfOk result (λ r. r ≡ recipe_row (letter kind ∷ []) recipe.now) }
 {
-    let text = recipe_text(Vec::new(alloc), recipe)?;
+    let text = recipe_text(alloc, recipe)?;
     row_of(alloc, kind, recipe.slug.text(), text)
 }
 

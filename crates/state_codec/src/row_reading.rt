@@ -11,8 +11,8 @@ use crate::rows::rows_of;
 use crate::size::state_size;
 use crate::soundness::is_consistent;
 use crate::state_reading::state_in;
-use crate::store_row::StoreRow;
 use enrol_states::State;
+use row_batches::StoreRow;
 use std::alloc::{AllocError, Global};
 
 /// The most bytes that a state is spelled in.

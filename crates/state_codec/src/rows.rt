@@ -2,17 +2,17 @@
 ghost use Rattle.std.specs.Prelude.{◌≡◌, ◌++◌, ◌∷◌, [], map, codes, IfOk, OnOk};
 ghost use Rattle.enrol_states.specs.Consistent.{IsConsistent};
 ghost use Rattle.state_codec.specs.Kinds.{letter};
-ghost use Rattle.state_codec.specs.Order.{AreInKeyOrder};
+ghost use Rattle.row_batches.specs.Rows.{AreRows};
 ghost use Rattle.state_codec.specs.Spelling.{key_row, recipe_row, status_row, status_rows, last_rows, rows_of, pending_recipes};
 
 use crate::row_kind::RowKind;
 use crate::row_making::{
     feature_row, flag_row, id_row, moment_row, recipe_row, slug_row, status_row, version_row,
 };
-use crate::store_row::StoreRow;
 use enrol_states::{Row, State};
 use plain_text::Slug;
 use recipe_reader::{Recipe, Recipes};
+use row_batches::StoreRow;
 use sequences::{Sequence, Text};
 use std::alloc::{AllocError, Global};
 
@@ -21,7 +21,7 @@ use std::alloc::{AllocError, Global};
 pub fn rows_of(alloc: Global, state: &State) -> Result<Sequence<StoreRow>, AllocError>
     requires { IsConsistent state.now }
     ensures rows { IfOk result (λ rows. rows ≡ rows_of state.now) }
-    ensures order { IfOk result AreInKeyOrder }
+    ensures order { IfOk result AreRows }
 {
     let mut rows = Sequence::new(alloc);
     add_rows(alloc, &mut rows, state)?;

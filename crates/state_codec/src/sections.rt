@@ -6,11 +6,11 @@ ghost use Rattle.state_codec.specs.Reading.{after_tag, slug_row, text_row, recip
 
 use crate::fault::CodecFault;
 use crate::status_reading::status_in;
-use crate::store_row::StoreRow;
 use crate::values::{recipe_in, slug_in, text_in};
 use enrol_states::{MAX_RECIPES, Row};
 use plain_text::Slug;
 use recipe_reader::{Recipe, Recipes};
+use row_batches::StoreRow;
 use sequences::{Sequence, Text};
 use std::alloc::{AllocError, Global};
 

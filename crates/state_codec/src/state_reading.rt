@@ -6,11 +6,11 @@ ghost use Rattle.state_codec.specs.Reading.{id_under, version_under, number_unde
 
 use crate::fault::CodecFault;
 use crate::sections::{client_rows_under, recipes_under, slugs_under, texts_under, value_under};
-use crate::store_row::StoreRow;
 use crate::values::{flag_in, id_in, number_in, text_in};
 use enrol_states::{Row, State};
 use plain_text::Slug;
 use recipe_reader::Recipes;
+use row_batches::StoreRow;
 use sequences::{SharedList, Text};
 use std::alloc::Global;
 use uuid::Uuid;

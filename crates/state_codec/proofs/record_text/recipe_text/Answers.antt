@@ -7,6 +7,6 @@ use Rattle.state_codec.proofs.record_text.recipe_text.Goals as goal
 
 pub returns : goal.returns
 returns c =
-    let before = c.in_ok-write_record.ensures.before ∙ c.new-writer.ensures.before ∙ c.clear.ensures.items in
+    let before = c.in_ok-write_record.ensures.before ∙ c.new-writer.ensures.before ∙ c.in_ok-with_capacity.ensures.items in
     let tokens = c.in_ok-write_record.ensures.tokens ∙ ap (λ ts. ts ++ tokens_of (record_json c.args.recipe.now)) c.new-writer.ensures.tokens in
     c.into_inner.ensures.items ∙ recipe_written c.args.recipe.now _ _ before tokens

@@ -1,7 +1,6 @@
 -- One row more.
-use Rattle.std.proofs.Common.{◌≡◌, List, true, false, arith, refl, sym, ◌∙◌}
-use Rattle.std.proofs.lemmas.List.{take_all}
-use Rattle.state_codec.proofs.SameRows.{same_more, same_at}
+use Rattle.std.proofs.Common.{arith}
+use Rattle.state_codec.proofs.SameRows.{same_more}
 use Rattle.state_codec.proofs.row_reading.are_same.Goals as goal
 
 pub loop-place-preserved : goal.loop-place-preserved

@@ -1,6 +1,6 @@
 -- The rows are in the order of their keys.
 use Rattle.std.proofs.Common.{◌++◌, ◌∙◌, ap, sym, subst}
-use Rattle.state_codec.specs.Order.{AreInKeyOrder}
+use Rattle.row_batches.specs.Rows.{AreRows}
 use Rattle.state_codec.specs.Spelling.{rows_of}
 use Rattle.state_codec.proofs.KeyOrder.{rows_rise}
 use Rattle.state_codec.proofs.rows.rows_of.Goals as goal
@@ -8,4 +8,4 @@ use Rattle.state_codec.proofs.rows.rows_of.Goals as goal
 pub returns-clause-order : goal.returns-clause-order
 returns-clause-order c =
     let s = c.args.state.now in
-    subst AreInKeyOrder (sym (c.in_ok-add_rows.ensures ∙ ap (λ l. l ++ rows_of s) c.new-rows.ensures)) (rows_rise s c.requires)
+    subst AreRows (sym (c.in_ok-add_rows.ensures ∙ ap (λ l. l ++ rows_of s) c.new-rows.ensures)) (rows_rise s c.requires)

@@ -1,0 +1,276 @@
+// The batches of a state's rows: the one that makes them, and the one that changes them to the next state's.
+ghost use Rattle.std.specs.Prelude.{◌≡◌, ◌≤◌, ◌<◌, ◌+◌, ◌^◌, ◌++◌, ◌∷◌, [], All, codes, length, map, IfOk, OnOk};
+ghost use Rattle.recipe_reader.specs.Payloads.{AreValid};
+ghost use Rattle.enrol_states.specs.Consistent.{IsConsistent};
+ghost use Rattle.enrol_states.specs.Statuses.{IsStatus};
+ghost use Rattle.row_batches.specs.Batch.{applied, batch_text, whole_of};
+ghost use Rattle.row_batches.specs.Between.{put_where_differs, changes_between, between};
+ghost use Rattle.state_codec.specs.Kinds.{letter};
+ghost use Rattle.state_codec.specs.Spelling.{key_row, recipe_row, status_row, status_rows, last_rows, pending_recipes, rows_behind_recipes, rows_of, spelling};
+ghost use Rattle.state_codec.specs.Walking.{feature_changes, id_changes};
+
+use crate::row_kind::RowKind;
+use crate::row_making::{flag_row, id_row, moment_row, version_row};
+use crate::rows::rows_of;
+use crate::walking::add_changes;
+use enrol_states::{Row, State};
+use plain_text::Slug;
+use recipe_reader::{Recipe, Recipes};
+use row_batches::{Batch, RowChange, StoreRow};
+use sequences::{Sequence, Text};
+use std::alloc::{AllocError, Global};
+
+/// The batch that makes the state's rows: a clear of all rows, and a put of each. Its bytes are the state's spelling. The one
+/// error is want of memory.
+#[tactic(auto, using(crate::proofs::Room::rows_room), unfolding(crate::specs::Spelling::spelling))]
+pub fn whole_batch(alloc: Global, state: &State) -> Result<Batch, AllocError>
+    requires state { IsConsistent state.now }
+    requires size { length (spelling state.now) < 2 ^ 32 }
+    ensures batch { IfOk result (λ batch. batch ≡ whole_of (rows_of state.now)) }
+    ensures text { IfOk result (λ batch. batch_text batch ≡ spelling state.now) }
+    ensures gives { IfOk result (λ batch. applied batch [] ≡ rows_of state.now) }
+{
+    let rows = rows_of(alloc, state)?;
+    Batch::whole_of(alloc, rows)
+}
+
+/// The batch from the rows of a state to those of the next: a put for each row that is new or differs, a delete for each that
+/// is gone, and nothing else. Its cost is that of comparing the states: a row is made only where it changes. The one error is
+/// want of memory.
+pub fn change_between(alloc: Global, old: &State, new: &State) -> Result<Batch, AllocError>
+    requires old_state { IsConsistent old.now }
+    requires new_state { IsConsistent new.now }
+    requires old_size { length (spelling old.now) < 2 ^ 32 }
+    requires new_size { length (spelling new.now) < 2 ^ 32 }
+    ensures between { IfOk result (λ batch. batch ≡ between (rows_of old.now) (rows_of new.now)) }
+    ensures gives { IfOk result (λ batch. applied batch (rows_of old.now) ≡ rows_of new.now) }
+
+    // The bytes of a clear and of a put of each row that stands after the batch are the spelling of the next state.
+    ensures whole { IfOk result (λ batch. batch_text (whole_of (applied batch (rows_of old.now))) ≡ spelling new.now) }
+    ensures size { IfOk result (λ batch. length (batch_text batch) ≤ length (spelling old.now) + length (spelling new.now)) }
+{
+    let changes = changes_of(alloc, old, new)?;
+    Ok(Batch::of_changes(changes))
+}
+
+/// The batch from the rows of a state to those of the next, as `change_between` gives it, where both have the same recipes:
+/// these aren't looked at. The one error is want of memory.
+pub fn change_beside_recipes(alloc: Global, old: &State, new: &State) -> Result<Batch, AllocError>
+    requires old_state { IsConsistent old.now }
+    requires new_state { IsConsistent new.now }
+    requires old_size { length (spelling old.now) < 2 ^ 32 }
+    requires new_size { length (spelling new.now) < 2 ^ 32 }
+    requires same_live { old.now.live ≡ new.now.live }
+    requires same_pending { old.now.pending ≡ new.now.pending }
+    ensures between { IfOk result (λ batch. batch ≡ between (rows_of old.now) (rows_of new.now)) }
+    ensures gives { IfOk result (λ batch. applied batch (rows_of old.now) ≡ rows_of new.now) }
+
+    // The bytes of a clear and of a put of each row that stands after the batch are the spelling of the next state.
+    ensures whole { IfOk result (λ batch. batch_text (whole_of (applied batch (rows_of old.now))) ≡ spelling new.now) }
+    ensures size { IfOk result (λ batch. length (batch_text batch) ≤ length (spelling old.now) + length (spelling new.now)) }
+{
+    let changes = changes_beside_recipes(alloc, old, new)?;
+    Ok(Batch::of_changes(changes))
+}
+
+// The changes from the rows of a state to those of the next.
+#[tactic(auto, using(crate::proofs::Room::pending_valid))]
+fn changes_of(alloc: Global, old: &State, new: &State) -> Result<Sequence<RowChange>, AllocError>
+    requires old_state { IsConsistent old.now }
+    requires new_state { IsConsistent new.now }
+    ensures { IfOk result (λ changes. changes ≡ changes_between (rows_of old.now) (rows_of new.now)) }
+{
+    let mut changes = Sequence::new(alloc);
+    add_before_recipes(alloc, &mut changes, old, new)?;
+    add_recipes(
+        alloc,
+        &mut changes,
+        RowKind::Live,
+        old.live.as_slice(),
+        new.live.as_slice(),
+    )?;
+    let old_pending = pending_recipes(&old.pending);
+    let new_pending = pending_recipes(&new.pending);
+    add_recipes(
+        alloc,
+        &mut changes,
+        RowKind::Pending,
+        old_pending,
+        new_pending,
+    )?;
+    add_behind_recipes(alloc, &mut changes, old, new)?;
+    Ok(changes)
+}
+
+// The same of states that have the same recipes.
+fn changes_beside_recipes(
+    alloc: Global,
+    old: &State,
+    new: &State,
+) -> Result<Sequence<RowChange>, AllocError>
+    requires old_statuses { All (λ row. IsStatus row.status) old.now.rows }
+    requires new_statuses { All (λ row. IsStatus row.status) new.now.rows }
+    requires same_live { old.now.live ≡ new.now.live }
+    requires same_pending { old.now.pending ≡ new.now.pending }
+    ensures { IfOk result (λ changes. changes ≡ changes_between (rows_of old.now) (rows_of new.now)) }
+{
+    let mut changes = Sequence::new(alloc);
+    add_before_recipes(alloc, &mut changes, old, new)?;
+    add_behind_recipes(alloc, &mut changes, old, new)?;
+    Ok(changes)
+}
+
+// Adds the changes of the rows of the features and of the id.
+fn add_before_recipes(
+    alloc: Global,
+    changes: &mut Sequence<RowChange>,
+    old: &State,
+    new: &State,
+) -> Result<(), AllocError>
+    ensures { OnOk result (changes.new ≡ changes.old ++ (feature_changes old.now new.now ++ id_changes old.now new.now)) }
+{
+    add_features(
+        alloc,
+        changes,
+        old.coenrolling.as_slice(),
+        new.coenrolling.as_slice(),
+    )?;
+    add_row(changes, id_row(alloc, old.id)?, id_row(alloc, new.id)?)
+}
+
+// Adds the changes of the rows behind those of recipes.
+fn add_behind_recipes(
+    alloc: Global,
+    changes: &mut Sequence<RowChange>,
+    old: &State,
+    new: &State,
+) -> Result<(), AllocError>
+    requires old_statuses { All (λ row. IsStatus row.status) old.now.rows }
+    requires new_statuses { All (λ row. IsStatus row.status) new.now.rows }
+    ensures { OnOk result (changes.new ≡ changes.old ++ changes_between (rows_behind_recipes old.now) (rows_behind_recipes new.now)) }
+{
+    add_opt_outs(
+        alloc,
+        changes,
+        old.opted_out.as_slice(),
+        new.opted_out.as_slice(),
+    )?;
+    add_statuses(alloc, changes, old, new)?;
+    add_last(alloc, changes, old, new)
+}
+
+// Adds the changes of the rows of whether the client participates, of whether recipes are pending, and of the statuses.
+fn add_statuses(
+    alloc: Global,
+    changes: &mut Sequence<RowChange>,
+    old: &State,
+    new: &State,
+) -> Result<(), AllocError>
+    requires old_statuses { All (λ row. IsStatus row.status) old.now.rows }
+    requires new_statuses { All (λ row. IsStatus row.status) new.now.rows }
+    ensures { OnOk result (changes.new ≡ changes.old ++ changes_between (status_rows old.now) (status_rows new.now)) }
+{
+    let was_participating = flag_row(alloc, RowKind::Participating, old.participating)?;
+    let participates = flag_row(alloc, RowKind::Participating, new.participating)?;
+    add_row(changes, was_participating, participates)?;
+    let was_pending = flag_row(alloc, RowKind::IsPending, old.pending.is_some())?;
+    let is_pending = flag_row(alloc, RowKind::IsPending, new.pending.is_some())?;
+    add_row(changes, was_pending, is_pending)?;
+    add_client_rows(alloc, changes, old.rows.as_slice(), new.rows.as_slice())
+}
+
+// Adds the changes of the rows of the moments and of the version.
+fn add_last(
+    alloc: Global,
+    changes: &mut Sequence<RowChange>,
+    old: &State,
+    new: &State,
+) -> Result<(), AllocError>
+    ensures { OnOk result (changes.new ≡ changes.old ++ changes_between (last_rows old.now) (last_rows new.now)) }
+{
+    let old_installed = moment_row(alloc, RowKind::Installed, old.installed)?;
+    let installed = moment_row(alloc, RowKind::Installed, new.installed)?;
+    add_row(changes, old_installed, installed)?;
+    let old_updated = moment_row(alloc, RowKind::Updated, old.updated)?;
+    let updated = moment_row(alloc, RowKind::Updated, new.updated)?;
+    add_row(changes, old_updated, updated)?;
+    let old_version = version_row(alloc, &old.version)?;
+    let version = version_row(alloc, &new.version)?;
+    add_row(changes, old_version, version)
+}
+
+// Adds a put of the new row of a key, where its value differs.
+fn add_row(
+    changes: &mut Sequence<RowChange>,
+    old: StoreRow,
+    new: StoreRow,
+) -> Result<(), AllocError>
+    ensures { OnOk result (changes.new ≡ changes.old ++ put_where_differs old new) }
+{
+    if old.value == new.value {
+        return Ok(());
+    }
+    changes.push(RowChange::Put(new))
+}
+
+#[tactic(auto, using(crate::proofs::Items::all_so))]
+fn add_features(
+    alloc: Global,
+    changes: &mut Sequence<RowChange>,
+    olds: &[Text],
+    news: &[Text],
+) -> Result<(), AllocError>
+    ensures { OnOk result (changes.new ≡ changes.old ++ changes_between (map (key_row (codes "c")) olds.now) (map (key_row (codes "c")) news.now)) }
+{
+    add_changes(alloc, changes, RowKind::Coenrolling, olds, news)
+}
+
+#[tactic(auto, using(crate::proofs::Items::all_so))]
+fn add_opt_outs(
+    alloc: Global,
+    changes: &mut Sequence<RowChange>,
+    olds: &[Slug],
+    news: &[Slug],
+) -> Result<(), AllocError>
+    ensures { OnOk result (changes.new ≡ changes.old ++ changes_between (map (key_row (codes "o")) olds.now) (map (key_row (codes "o")) news.now)) }
+{
+    add_changes(alloc, changes, RowKind::OptedOut, olds, news)
+}
+
+#[tactic(auto, using(crate::proofs::Items::all_valid))]
+fn add_recipes(
+    alloc: Global,
+    changes: &mut Sequence<RowChange>,
+    kind: RowKind,
+    olds: &[Recipe],
+    news: &[Recipe],
+) -> Result<(), AllocError>
+    requires old_recipes { AreValid olds.now }
+    requires new_recipes { AreValid news.now }
+    ensures { OnOk result (changes.new ≡ changes.old ++ changes_between (map (recipe_row (letter kind ∷ [])) olds.now) (map (recipe_row (letter kind ∷ [])) news.now)) }
+{
+    add_changes(alloc, changes, kind, olds, news)
+}
+
+fn add_client_rows(
+    alloc: Global,
+    changes: &mut Sequence<RowChange>,
+    olds: &[Row],
+    news: &[Row],
+) -> Result<(), AllocError>
+    requires old_statuses { All (λ row. IsStatus row.status) olds.now }
+    requires new_statuses { All (λ row. IsStatus row.status) news.now }
+    ensures { OnOk result (changes.new ≡ changes.old ++ changes_between (map status_row olds.now) (map status_row news.now)) }
+{
+    add_changes(alloc, changes, RowKind::Status, olds, news)
+}
+
+// The recipes that are pending, if any are.
+fn pending_recipes(pending: &Option<Recipes>) -> &[Recipe]
+    ensures { result.now ≡ pending_recipes pending.now }
+{
+    match pending {
+        Some(recipes) => recipes.as_slice(),
+        None => &[],
+    }
+}
