@@ -1,140 +1,189 @@
--- What a pair of sides stands for between two lines, and while one is written and answered.
-use Rattle.std.proofs.Common.{◌≡◌, inl, inr, ⊎_elim, ℕ, ◌<◌, List, [], ◌∷◌, ◌++◌, length, map, sym, ◌∙◌, ap, subst, Option, None, Some}
-use Rattle.std.proofs.lemmas.List.{map-append}
+-- What a host holds on which a client is open.
+use Rattle.std.proofs.Common.{◌≡◌, inl, inr, ℕ, ◌<◌, List, [], ◌∷◌, length, sym, ◌∙◌, ap, subst, arith}
+use Rattle.host_model.specs.declared.host.Host.{Ghosts}
 use Rattle.host_model.specs.declared.side.Side.{Side}
 use Rattle.host_model.specs.declared.side.Side.TheVariants.{Left, Right}
-use Rattle.host_model.specs.declared.host.Host.{Ghosts}
-use Rattle.host_model.specs.Images.{Only}
-use Rattle.host_model.specs.Sides.{other}
-use Rattle.host_model.specs.Hosts.{MeetsAll, OnSideOf, KeepsAll}
+use Rattle.host_model.specs.Hosts.{IsDurable, MeetsAll}
 use Rattle.host_model.specs.Moments.{KeepsSide}
+use Rattle.host_model.specs.Sides.{other, on}
 use Rattle.host_model.proofs.Meeting.{met_weaker}
 use Rattle.gate_journal.specs.OpenSide.{OpenSide}
-use Rattle.gate_journal.specs.Journal.{StandsWithGate, IsBeforeOrAfter}
-use Rattle.gate_journal.specs.Records.{IsOpen, IsKept}
+use Rattle.gate_journal.specs.Records.{place_of, IsOpen, IsShut}
+use Rattle.gate_journal.proofs.Unique.{one_reading}
+use Rattle.pair_store.specs.Pair.{Counts, HasKeptList}
+use Rattle.pair_store.specs.Store.{PairStands, PairStandsWithGate}
+use Rattle.pair_store.proofs.Beside.{both_sides, on_of}
+use Rattle.pair_store.proofs.Standing.{each_has_list, each_has_kept_list}
+use Rattle.pair_store.proofs.Unique.{not_both_count}
+use Rattle.row_store.specs.Folding.{Fold}
+use Rattle.row_store.specs.Moments.{KeepsEitherRows}
+use Rattle.row_store.specs.Store.{StoredRows, RowsStand, RowsStandWithGate}
 use Rattle.enrol_states.specs.declared.state.State.{State}
 use Rattle.state_codec.specs.Sound.{IsSound}
-use Rattle.state_codec.specs.Spelling.{spelling}
-use Rattle.client_core.specs.Store.{AreSound, IsHistory, StandsFor, KeptFor}
-use Rattle.client_core.specs.OpenStore.{IsSettled, Holds, HasGate, AllKept, AllStand}
-use Rattle.client_core.specs.Opening.{IsHistorySoFar}
+use Rattle.state_codec.specs.Spelling.{rows_of}
+use Rattle.client_core.specs.declared.client.Client.{Client}
+use Rattle.client_core.specs.Clients.{state_of, end_of, IsOpenOn, HasGateOn, IsSameClient}
 use Rattle.client_core.specs.Moments.{WhileWritten}
+use Rattle.client_core.specs.OpenStore.{IsSettled, AllKept, AllStand}
+use Rattle.client_core.specs.Store.{StandsFor, KeptFor, KeptAmong}
 
-sound-push : (states : List State) (s : State) → AreSound states → IsSound s → AreSound (states ++ s ∷ [])
-sound-push [] s all sound = (sound, tt)
-sound-push (x ∷ states) s all sound = (all.0, sound-push states s all.1 sound)
-
-pub history-push : (payloads : List (List ℕ)) (next : List ℕ) (s t : State) → IsHistory payloads s → IsSound t → next ≡ spelling t → IsHistory (payloads ++ next ∷ []) t
-history-push payloads next s t was sound is = record {
-  earlier = was.earlier ++ s ∷ [];
-  were_sound = sound-push was.earlier s was.were_sound was.sound;
-  sound = sound;
-  spelled = ap (λ (l : List (List ℕ)). l ++ next ∷ []) was.spelled ∙ ap (λ (n : List ℕ). (map spelling was.earlier ++ spelling s ∷ []) ++ n ∷ []) is
-      ∙ ap (λ (l : List (List ℕ)). l ++ spelling t ∷ []) (sym (map-append spelling was.earlier (s ∷ [])));
-}
-
--- a payload more
-pub history_more : (before : List (List ℕ)) (last : Option State) (payload : List ℕ) (t : State) → IsHistorySoFar before last → IsSound t → payload ≡ spelling t → IsHistory (before ++ payload ∷ []) t
-history_more before None payload t none sound is = record {
-  earlier = [];
-  were_sound = tt;
-  sound = sound;
-  spelled = ap (λ (l : List (List ℕ)). l ++ payload ∷ []) none ∙ ap (λ (n : List ℕ). n ∷ []) is;
-}
-history_more before (Some s) payload t was sound is = history-push before payload s t was sound is
-
--- what is kept for a state stands for it
 pub stands_of_kept : (l r : List ℕ) (s : State) → KeptFor l r s → StandsFor l r s
-stands_of_kept l r s kept = record { generation = kept.generation; payloads = kept.payloads; history = kept.history; left = kept.left.side; right = kept.right }
+stands_of_kept l r s kept = record { sound = kept.sound; rows = (kept.rows.0, (kept.rows.1.0, kept.rows.1.1), kept.rows.2) }
 
-module _ {H : Type 0} (h : Ghosts H) where
-  pub open_left : (journal : OpenSide) (host : H) (s : State) (holds : Holds h journal host s) → IsOpen journal.generation holds.payloads (h.reads host Left)
-  open_left journal host s holds = subst (λ (d : Side). IsOpen journal.generation holds.payloads (h.reads host d)) holds.side holds.stands.side
+-- ---- rows that stand
 
-  pub only_left : (journal : OpenSide) (host : H) (s : State) (holds : Holds h journal host s) → Only (h.reads host Left) (h.images host Left)
-  only_left journal host s holds = subst (λ (d : Side). Only (h.reads host d) (h.images host d)) holds.side holds.stands.only
+module _ {H : Type 0} (h : Ghosts H) (store : StoredRows) (host : H) where
+  pub rows_settled : RowsStand h store host → IsSettled h host
+  rows_settled stands = both_sides (λ (side : Side). IsDurable h host side) store.records.side stands.pair.side.only stands.pair.only
 
-  pub both_settled : (host : H) → Only (h.reads host Left) (h.images host Left) → Only (h.reads host Right) (h.images host Right) → IsSettled h host
-  both_settled host left right Left = left
-  both_settled host left right Right = right
+  pub ungated : RowsStandWithGate h store host → RowsStand h store host
+  ungated gated = record { payloads = gated.payloads; pair = gated.pair.stands; made = gated.made }
 
-  -- each image is what reads give
-  pub settled : (journal : OpenSide) (host : H) (s : State) → Holds h journal host s → IsSettled h host
-  settled journal host s holds = both_settled host (only_left journal host s holds) holds.only
-
-  pub keeps_left : (journal : OpenSide) (host : H) (s : State) (holds : Holds h journal host s) → HasGate h journal host → StandsWithGate h journal host holds.payloads
-  keeps_left journal host s holds gate = record { stands = holds.stands; gate = subst (λ (d : Side). journal.place < length (h.reads host d)) (sym holds.side) gate }
-
-  kept_left : (journal : OpenSide) (host : H) (s : State) (holds : Holds h journal host s) → HasGate h journal host → IsKept journal.generation holds.payloads (h.reads host Left)
-  kept_left journal host s holds gate = record { side = open_left journal host s holds; gate = subst (λ (p : ℕ). p < length (h.reads host Left)) holds.stands.place gate }
-
-  -- where there is a gate, each image is kept
-  pub all_kept : (journal : OpenSide) (host : H) (s : State) → Holds h journal host s → HasGate h journal host → AllKept h host s
-  all_kept journal host s holds gate l r left right = record {
-    generation = journal.generation;
-    payloads = holds.payloads;
-    history = holds.history;
-    left = subst (λ (d : List ℕ). IsKept journal.generation holds.payloads d) (sym (only_left journal host s holds l left)) (kept_left journal host s holds gate);
-    right = holds.shut r right;
-  }
-
-  pub all_stand : (journal : OpenSide) (host : H) (s : State) → Holds h journal host s → AllStand h host s
-  all_stand journal host s holds l r left right = record {
-    generation = journal.generation;
-    payloads = holds.payloads;
-    history = holds.history;
-    left = subst (λ (d : List ℕ). IsOpen journal.generation holds.payloads d) (sym (only_left journal host s holds l left)) (open_left journal host s holds);
-    right = holds.shut r right;
-  }
-
-  -- a journal of the left side with a byte at its place
-  pub gate_appended : (journal : OpenSide) (host : H) (payloads : List (List ℕ)) → journal.side ≡ Left → StandsWithGate h journal host payloads → HasGate h journal host
-  gate_appended journal host payloads side keeps = subst (λ (d : Side). journal.place < length (h.reads host d)) side keeps.gate
-
-  module _ (journal : OpenSide) (start : H) (next : List ℕ) (s t : State) (holds : Holds h journal start s) (sound : IsSound t) (is : next ≡ spelling t) where
-    while_appending : (l r u : List ℕ) → OnSideOf h start Left (IsBeforeOrAfter journal.generation holds.payloads next) l r u → WhileWritten (h.said start) s t l r u
-    while_appending l r u met = (
-      ⊎_elim
-          (λ kept. inl (record { generation = journal.generation; payloads = holds.payloads; history = holds.history; left = kept; right = holds.shut r met.1 }))
-          (λ kept. inr (record { generation = journal.generation; payloads = holds.payloads ++ next ∷ []; history = history-push holds.payloads next s t holds.history sound is; left = kept; right = holds.shut r met.1 }))
-          met.0,
-      met.2,
-    )
-
-    pub appending_met : (new : H) → MeetsAll h start new (OnSideOf h start journal.side (IsBeforeOrAfter journal.generation holds.payloads next)) → MeetsAll h start new (WhileWritten (h.said start) s t)
-    appending_met new run = met_weaker h.moment h.might start new _ (WhileWritten (h.said start) s t)
-        (subst (λ (d : Side). MeetsAll h start new (OnSideOf h start d (IsBeforeOrAfter journal.generation holds.payloads next))) holds.side run) while_appending
-
-    pub holds_appended : (later : OpenSide) (new : H) → later.side ≡ journal.side → StandsWithGate h later new (holds.payloads ++ next ∷ []) → KeepsAll h (other journal.side) start new → Holds h later new t
-    holds_appended later new same keeps rest = record {
-      payloads = holds.payloads ++ next ∷ [];
-      history = history-push holds.payloads next s t holds.history sound is;
-      stands = keeps.stands;
-      side = same ∙ holds.side;
-      shut = λ c image. holds.shut c (((subst (λ (d : Side). KeepsAll h (other d) start new) holds.side rest).images_same c).0 image);
-      only = λ c image.
-          let right = subst (λ (d : Side). KeepsAll h (other d) start new) holds.side rest in
-          holds.only c ((right.images_same c).0 image) ∙ sym right.reads_same;
+  module _ (s : State) (sound : IsSound s) (same : store.rows ≡ rows_of s) where
+    pub rows_stand : RowsStand h store host → AllStand h host s
+    rows_stand stands l r left right = record {
+      sound = sound;
+      rows = (stands.payloads, each_has_list h store.records host stands.payloads l r left right stands.pair, subst (Fold stands.payloads []) same stands.made);
     }
 
-  -- saying changes nothing on the sides
-  module _ (mid new : H) (still : (side : Side) → KeepsSide h.reads h.images side mid new) where
-    pub holds_said : (journal : OpenSide) (s : State) → Holds h journal mid s → Holds h journal new s
-    holds_said journal s holds = record {
-      payloads = holds.payloads;
-      history = holds.history;
-      stands = record {
-        side = subst (λ (d : List ℕ). IsOpen journal.generation holds.payloads d) (sym (still journal.side).reads_same) holds.stands.side;
-        place = holds.stands.place;
-        only = λ c image. holds.stands.only c (((still journal.side).images_same c).0 image) ∙ sym (still journal.side).reads_same;
+    pub rows_kept : RowsStandWithGate h store host → AllKept h host s
+    rows_kept gated l r left right = record {
+      sound = sound;
+      rows = (gated.payloads, each_has_kept_list h store.records host gated.payloads l r left right gated.pair, subst (Fold gated.payloads []) same gated.made);
+    }
+
+  -- the same rows at the same place stand too
+  module _ (other : StoredRows) (records : other.records ≡ store.records) (rows : other.rows ≡ store.rows) where
+    pub stand_again : RowsStand h store host → RowsStand h other host
+    stand_again stands = record {
+      payloads = stands.payloads;
+      pair = subst (λ (side : OpenSide). PairStands h side host stands.payloads) (sym records) stands.pair;
+      made = subst (Fold stands.payloads []) (sym rows) stands.made;
+    }
+
+    pub gated_again : RowsStandWithGate h store host → RowsStandWithGate h other host
+    gated_again gated = record {
+      payloads = gated.payloads;
+      pair = subst (λ (side : OpenSide). PairStandsWithGate h side host gated.payloads) (sym records) gated.pair;
+      made = subst (Fold gated.payloads []) (sym rows) gated.made;
+    }
+
+-- ---- the gate
+
+gate_at : (side side_of_kept : Side) (l r : List ℕ) (payloads others : List (List ℕ)) → Counts payloads (on side l r) (on (other side) l r) → Counts others (on side_of_kept l r) (on (other side_of_kept) l r)
+    → place_of others < length (on side_of_kept l r) → place_of payloads < length (on side l r)
+gate_at Left Left l r payloads others counts kept gate = subst (λ (ps : List (List ℕ)). place_of ps < length l) (one_reading kept.generation counts.generation others payloads l kept.side counts.side).1 gate
+gate_at Right Right l r payloads others counts kept gate = subst (λ (ps : List (List ℕ)). place_of ps < length r) (one_reading kept.generation counts.generation others payloads r kept.side counts.side).1 gate
+gate_at Left Right l r payloads others counts kept gate = absurd (not_both_count payloads others l r counts kept)
+gate_at Right Left l r payloads others counts kept gate = absurd (not_both_count payloads others r l counts kept)
+
+-- what reads give counts for the payloads that stand
+counts_of : {H : Type 0} (h : Ghosts H) (records : OpenSide) (host : H) (payloads : List (List ℕ)) → PairStands h records host payloads
+    → Counts payloads (on records.side (h.reads host Left) (h.reads host Right)) (on (other records.side) (h.reads host Left) (h.reads host Right))
+counts_of h records host payloads pair = record {
+  generation = records.generation;
+  side = subst (IsOpen records.generation payloads) (sym (on_of (h.reads host) records.side)) pair.side.side;
+  some = pair.some;
+  rest = inl (subst IsShut (sym (on_of (h.reads host) (other records.side))) pair.shut);
+}
+
+-- what reads give has a byte at its gate, where it is kept for a state
+module _ {H : Type 0} (h : Ghosts H) (store : StoredRows) (host : H) (left : h.images host Left (h.reads host Left)) (right : h.images host Right (h.reads host Right)) (stands : RowsStand h store host) where
+  rows_gated : (others : List (List ℕ)) → HasKeptList (h.reads host Left) (h.reads host Right) others → RowsStandWithGate h store host
+  rows_gated others kept =
+      let l = h.reads host Left in
+      let r = h.reads host Right in
+      let counts = counts_of h store.records host stands.payloads stands.pair in
+      let at : place_of stands.payloads < length (h.reads host store.records.side) =
+      subst (λ (c : List ℕ). place_of stands.payloads < length c) (on_of (h.reads host) store.records.side) (gate_at store.records.side kept.0 l r stands.payloads others counts kept.1 kept.2) in
+      record {
+        payloads = stands.payloads;
+        pair = record { stands = stands.pair; gate = omega (arith, at, stands.pair.side.place) };
+        made = stands.made;
+      }
+
+  pub gated_among : (states : List State) → KeptAmong (h.reads host Left) (h.reads host Right) states → RowsStandWithGate h store host
+  gated_among [] among = absurd among
+  gated_among (s ∷ states) (inl kept) = rows_gated kept.rows.0 kept.rows.1
+  gated_among (s ∷ states) (inr among) = gated_among states among
+
+-- ---- a client
+
+module _ {H : Type 0} (h : Ghosts H) (client : Client) (host : H) (open_on : IsOpenOn h client host) where
+  pub all_stand : AllStand h host (state_of client)
+  all_stand = rows_stand h client.store.rows host (state_of client) open_on.stored.sound open_on.stored.same open_on.stands
+
+  pub all_kept : HasGateOn h client host → AllKept h host (state_of client)
+  all_kept gated = rows_kept h client.store.rows host (state_of client) open_on.stored.sound open_on.stored.same gated
+
+  pub settled : IsSettled h host
+  settled = rows_settled h client.store.rows host open_on.stands
+
+-- and one with the same rows
+module _ (old new : Client) (same : IsSameClient old new) where
+  pub end_again : end_of new ≡ end_of old
+  end_again = ap (λ (side : OpenSide). side.place) same.stored.records
+
+  module _ {H : Type 0} (h : Ghosts H) (host : H) where
+    pub open_again : IsOpenOn h old host → IsOpenOn h new host
+    open_again open_on = record {
+      stored = record {
+        sound = subst IsSound (sym same.stored.state) open_on.stored.sound;
+        same = same.stored.rows ∙ open_on.stored.same ∙ ap rows_of (sym same.stored.state);
       };
-      side = holds.side;
-      shut = λ c image. holds.shut c (((still Right).images_same c).0 image);
-      only = λ c image. holds.only c (((still Right).images_same c).0 image) ∙ sym (still Right).reads_same;
+      stands = stand_again h old.store.rows host new.store.rows same.stored.records same.stored.rows open_on.stands;
     }
 
-    pub gate_said : (journal : OpenSide) → HasGate h journal mid → HasGate h journal new
-    gate_said journal gate = subst (λ (d : List ℕ). journal.place < length d) (sym (still Left).reads_same) gate
+    pub gate_again : HasGateOn h old host → HasGateOn h new host
+    gate_again gated = gated_again h old.store.rows host new.store.rows same.stored.records same.stored.rows gated
 
-    pub kept_said : (s : State) → AllKept h mid s → AllKept h new s
-    kept_said s kept l r left right = kept l r (((still Left).images_same l).0 left) (((still Right).images_same r).0 right)
+-- ---- what is met
+
+-- a change of rows, seen as one of states
+pub while_written : {H : Type 0} (h : Ghosts H) (start new : H) (s t : State) → IsSound s → IsSound t → MeetsAll h start new (KeepsEitherRows h start (rows_of s) (rows_of t))
+    → MeetsAll h start new (WhileWritten (h.said start) s t)
+while_written h start new s t s_sound t_sound run =
+    met_weaker h.moment h.might start new _ _ run (λ l r u met. (
+      elim met.0 [
+        | inl kept ↦ inl (record { sound = s_sound; rows = kept })
+        | inr kept ↦ inr (record { sound = t_sound; rows = kept })
+      ],
+      met.1,
+    ))
+
+-- ---- saying changes nothing on the sides
+
+module _ {H : Type 0} (h : Ghosts H) (mid new : H) (still : (side : Side) → KeepsSide h.reads h.images side mid new) where
+  durable_said : (side : Side) → IsDurable h mid side → IsDurable h new side
+  durable_said side only c image = only c (((still side).images_same c).0 image) ∙ sym (still side).reads_same
+
+  pair_said : (records : OpenSide) (payloads : List (List ℕ)) → PairStands h records mid payloads → PairStands h records new payloads
+  pair_said records payloads pair = record {
+    side = record {
+      side = subst (IsOpen records.generation payloads) (sym (still records.side).reads_same) pair.side.side;
+      place = pair.side.place;
+      only = durable_said records.side pair.side.only;
+    };
+    some = pair.some;
+    shut = subst IsShut (sym (still (other records.side)).reads_same) pair.shut;
+    only = durable_said (other records.side) pair.only;
+  }
+
+  pub open_said : (client : Client) → IsOpenOn h client mid → IsOpenOn h client new
+  open_said client open_on = record {
+    stored = open_on.stored;
+    stands = record { payloads = open_on.stands.payloads; pair = pair_said client.store.rows.records open_on.stands.payloads open_on.stands.pair; made = open_on.stands.made };
+  }
+
+  pub gate_said : (client : Client) → HasGateOn h client mid → HasGateOn h client new
+  gate_said client gated = record {
+    payloads = gated.payloads;
+    pair = record {
+      stands = pair_said client.store.rows.records gated.payloads gated.pair.stands;
+      gate = subst (λ (c : List ℕ). client.store.rows.records.place < length c) (sym (still client.store.rows.records.side).reads_same) gated.pair.gate;
+    };
+    made = gated.made;
+  }
+
+  pub kept_said : (s : State) → AllKept h mid s → AllKept h new s
+  kept_said s kept l r left right = kept l r (((still Left).images_same l).0 left) (((still Right).images_same r).0 right)

@@ -19,14 +19,14 @@ module _ (l r : List ℕ) where
   opened_where (Err opening.OutOfMemory) finds s stands = inr (inr refl)
 
   pub no_store_where : (result : Result Client ClientFault) → OpenFinds l r result → IsAbsent l r → IsErrOf result opening.NoStore ⊎ OpenFailed result
-  no_store_where (Ok client) finds absent = absurd (stands_not_absent l r client.state finds absent)
+  no_store_where (Ok client) finds absent = absurd (stands_not_absent l r client.store.state finds absent)
   no_store_where (Err opening.NoStore) finds absent = inl refl
   no_store_where (Err opening.BadStore) finds absent = absurd (finds.found absent)
   no_store_where (Err opening.DiskFault) finds absent = inr (inl refl)
   no_store_where (Err opening.OutOfMemory) finds absent = inr (inr refl)
 
   pub bad_store_where : (result : Result Client ClientFault) → OpenFinds l r result → IsBad l r → IsErrOf result opening.BadStore ⊎ OpenFailed result
-  bad_store_where (Ok client) finds bad = absurd (bad.no_state client.state finds)
+  bad_store_where (Ok client) finds bad = absurd (bad.no_state client.store.state finds)
   bad_store_where (Err opening.NoStore) finds bad = absurd (bad.found finds)
   bad_store_where (Err opening.BadStore) finds bad = inl refl
   bad_store_where (Err opening.DiskFault) finds bad = inr (inl refl)
@@ -60,3 +60,7 @@ open_finds l r opening.NoStore absent bad = absent refl
 open_finds l r opening.BadStore absent bad = bad refl
 open_finds l r opening.DiskFault absent bad = tt
 open_finds l r opening.OutOfMemory absent bad = tt
+
+-- the fault of one answer is that of another
+pub fault_is : {T : Type 0} (fault other : ClientFault) → IsErrOf {T = T} {E = ClientFault} (Err fault) other → fault ≡ other
+fault_is fault other is = cc

@@ -31,7 +31,7 @@ use Rattle.client_core.specs.Fetching.{file_tree}
 use Rattle.client_core.specs.Manifests.{manifest_of}
 use Rattle.client_core.specs.Sessions.{with_manifest, with_context}
 use Rattle.client_core.specs.Settings.{Setting}
-use Rattle.client_core.specs.Soundness.{HasVersion, IsSession, IsLawfulContext, IsLawful}
+use Rattle.client_core.specs.Soundness.{HasVersion, HasLinked, IsSession, IsLawfulManifest, IsLawfulContext, IsLawful}
 use Rattle.client_core.specs.Steps.{Outcome, Accepted, Refused, Step, taking, choosing, fetched, fetching, context_read, reading_context, setting_manifest, applying, valued, serving, outcome, done, step}
 use Rattle.client_core.proofs.LinkedManifests.{manifest_linked}
 use Rattle.client_core.proofs.ReadContexts.{context_version}
@@ -133,13 +133,17 @@ step_keeps_texts at s session command was =
 
 pub step_keeps_lawful : (at : Setting) (s : State) (session : Session) (command : Command) → IsLawful session → IsLawful (step at s session command).session
 step_keeps_lawful at s session command was =
-    step-carries IsLawful at s session was (λ file channel manifest is. record { manifest = manifest_linked at.files file channel manifest is; context = was.context })
+    step-carries IsLawful at s session was (λ file channel manifest is. record { manifest = record { files = at.files; first = file; channel = channel; links = is }; context = was.context })
     (λ tree context sound is. record { manifest = was.manifest; context = (tree, sound, is) }) command
+
+has_linked : (manifest : Option Manifest) → IsLawfulManifest manifest → HasLinked manifest
+has_linked None lawful = tt
+has_linked (Some manifest) lawful = manifest_linked lawful.files lawful.first lawful.channel manifest lawful.links
 
 has_version : (context : Option Context) → IsLawfulContext context → HasVersion context
 has_version None lawful = tt
 has_version (Some context) lawful = version_of_tree lawful.0 context lawful.1 lawful.2
 
--- a lawful session has its texts in UTF-8
+-- what the types of a session's parts keep holds of a lawful one
 pub lawful_texts : (session : Session) → IsLawful session → IsSession session
-lawful_texts session lawful = record { manifest = lawful.manifest; context = has_version session.context lawful.context }
+lawful_texts session lawful = record { manifest = has_linked session.manifest lawful.manifest; context = has_version session.context lawful.context }

@@ -17,3 +17,8 @@ mod Lawfulness
 pub mod Soundness
 pub mod ServedValues
 mod Trees
+pub mod Repairing
+mod SoundValues
+mod WholeStates
+mod Storing
+mod NewStores

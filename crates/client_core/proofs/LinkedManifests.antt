@@ -1,6 +1,6 @@
 -- What the files of a manifest say keeps what a session's manifest keeps.
-use Rattle.std.proofs.Common.{Ordering, ◌≡◌, ◌||◌, ℕ, zero, suc, Bool, true, false, List, [], ◌∷◌, ◌++◌, length, Option, Some, None, Result, Ok, Err, Less, Equal, Greater, refl, subst}
-use Rattle.std.specs.Prelude.{All, IfOk, IfSome, nat_le, nat_lt, slice_get, bytes_eq, if◌then◌else◌}
+use Rattle.std.proofs.Common.{Ordering, ◌≡◌, ◌||◌, ℕ, Bool, true, false, List, [], ◌∷◌, length, Option, Some, None, Result, Ok, Err, Less, Equal, Greater, refl, subst}
+use Rattle.std.specs.Prelude.{All, IfOk, IfSome, nat_le, nat_lt, bytes_eq, if◌then◌else◌}
 use Rattle.std.specs.Ordering.{is_lt}
 use Rattle.json_tree.specs.Bytes.{tree_of, max_depth}
 use Rattle.json_tree.specs.Json.{Json, IsSound, depth}
@@ -17,14 +17,14 @@ use Rattle.fml_reader.specs.Modules.{module_of}
 use Rattle.fml_reader.specs.declared.fault.ModuleRefusal.{ModuleRefusal}
 use Rattle.fml_reader.specs.declared.fault.ModuleRefusal.TheVariants as read
 use Rattle.fml_reader.specs.declared.module.Module.{Module}
-use Rattle.fml_link.specs.Files.{max_bytes, max_files, shallow_tree, file_tree, in_file, file_module, is_among, with_includes, with_file, listed, modules_of}
+use Rattle.fml_link.specs.Files.{max_bytes, shallow_tree, file_tree, in_file, file_module, is_among, names_of, read_each, modules_of}
 use Rattle.fml_link.specs.Linking.{manifest_with, unknown_of, all_known, all_grounded, root_channels, channel_known, defined, joined, linked}
 use Rattle.fml_link.specs.Outcome.{◌>>=◌, each}
 use Rattle.fml_link.specs.Sound.{IsReadModule}
 use Rattle.fml_link.specs.Tables.{Tables, no_tables, with_enum, with_object, with_feature, with_module, tables_of}
 use Rattle.fml_link.specs.declared.fault.LinkRefusal.{LinkRefusal}
 use Rattle.fml_link.specs.declared.fault.LinkRefusal.TheVariants.{DuplicateName}
-use Rattle.fml_link.proofs.Alls.{all_nil, all_push}
+use Rattle.fml_link.proofs.Alls.{all_nil, all_cons}
 use Rattle.fml_link.proofs.ReadModules.{module_read}
 use Rattle.fml_link.proofs.SoundManifests.{joined_sound}
 use Rattle.fml_merge.specs.Faults.{bad_default}
@@ -57,19 +57,13 @@ file_read name file m h =
     let x = bind_ok (file_tree name file) (λ x. in_file name (module_of x)) m h in
     module_in name x.0 (module_of x.0) m (subst (λ (r : Result Json LinkRefusal). IfOk r IsSound) x.1 (tree_sound name file)) refl x.2
 
-with_file_read : (rest : List (List ℕ) → List Module → Result (List Module) LinkRefusal) → ((names : List (List ℕ)) (modules all : List Module) → All IsReadModule modules → rest names modules ≡ Ok all → All IsReadModule all)
-    → (file : List ℕ → Option (List ℕ)) (names : List (List ℕ)) (modules all : List Module) (next : Option (List ℕ)) → All IsReadModule modules → with_file rest file names modules next ≡ Ok all → All IsReadModule all
-with_file_read rest keeps file names modules all None are h = let same : modules ≡ all = cc in subst (λ (ms : List Module). All IsReadModule ms) same are
-with_file_read rest keeps file names modules all (Some name) are h =
+each_read : (file : List ℕ → Option (List ℕ)) (names : List (List ℕ)) (all : List Module) → read_each file names ≡ Ok all → All IsReadModule all
+each_read file [] all h = let same : [] ≡ all = cc in subst (λ (ms : List Module). All IsReadModule ms) same (all_nil IsReadModule)
+each_read file (name ∷ names) all h =
     let m = bind_ok (file_module name (file name)) _ all h in
-    let longer = bind_ok (with_includes names m.0.includes) _ all m.2 in
-    keeps longer.0 (modules ++ m.0 ∷ []) all (all_push IsReadModule modules m.0 are (file_read name (file name) m.0 m.1)) longer.2
-
-listed_read : (file : List ℕ → Option (List ℕ)) (n : ℕ) (names : List (List ℕ)) (modules all : List Module) → All IsReadModule modules → listed file n names modules ≡ Ok all → All IsReadModule all
-unfolding listed
-listed_read file zero names modules all are h = let same : modules ≡ all = cc in subst (λ (ms : List Module). All IsReadModule ms) same are
-listed_read file (suc n) names modules all are h =
-    with_file_read (listed file n) (λ longer more whole kept is. listed_read file n longer more whole kept is) file names modules all (slice_get names (length modules)) are h
+    let rest = bind_ok (read_each file names) _ all m.2 in
+    let same : m.0 ∷ rest.0 ≡ all = cc in
+    subst (λ (ms : List Module). All IsReadModule ms) same (all_cons IsReadModule m.0 rest.0 (file_read name (file name) m.0 m.1) (each_read file names rest.0 rest.1))
 
 -- ---- the features are in order
 
@@ -149,7 +143,8 @@ linked_at : (files : List ℕ → Option (List ℕ)) (name channel : List ℕ) (
 unfolding linked
 linked_at files name channel m h =
     let modules = bind_ok (modules_of files name) (λ ms. joined ms channel) m h in
-    (joined_sound modules.0 channel m (listed_read files max_files (name ∷ []) [] modules.0 (all_nil IsReadModule) modules.1) modules.2, joined_rises modules.0 channel m modules.2)
+    let names = bind_ok (names_of files name) (read_each files) modules.0 modules.1 in
+    (joined_sound modules.0 channel m (each_read files names.0 modules.0 names.2) modules.2, joined_rises modules.0 channel m modules.2)
 
 fitting : (m manifest : Manifest) (bad : Option (List ℕ × List ℕ)) → bad_default m ≡ bad → IsSoundManifest m → AreRising m.features → where_fits m bad ≡ Ok manifest → IsLinked manifest
 fitting m manifest None fits sound order h = let same : m ≡ manifest = cc in subst IsLinked same (record { sound = sound; order = order; fits = fits })

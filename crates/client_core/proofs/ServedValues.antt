@@ -1,5 +1,5 @@
 -- A step is answered a value only where a feature is asked for, and that is the served one.
-use Rattle.std.proofs.Common.{◌≡◌, ℕ, Bool, true, false, List, length, Option, Some, None, Result, Ok, Err, IfOk, refl, sym, ap, ◌∙◌, subst}
+use Rattle.std.proofs.Common.{◌≡◌, ℕ, Bool, true, false, List, length, Option, Some, None, Result, Ok, Err, refl, sym, ap, ◌∙◌, subst}
 use Rattle.std.specs.Prelude.{nat_lt, nat_le, if◌then◌else◌}
 use Rattle.json_tree.specs.Bytes.{tree_of, max_depth}
 use Rattle.json_tree.specs.Json.{Json, depth}
@@ -30,21 +30,21 @@ use Rattle.enrol_states.specs.declared.state.State.{State}
 use Rattle.state_codec.specs.Sound.{max_size}
 use Rattle.state_codec.specs.Spelling.{spelling}
 use Rattle.client_core.specs.declared.answer.Answer.{Answer}
-use Rattle.client_core.specs.declared.answer.Answer.TheVariants.{Okay, Value, AbsentFile, FileTooLarge, NotJson, OptedOutLimit, NotParticipating, NoSuchBranch, StateTooLarge}
+use Rattle.client_core.specs.declared.answer.Answer.TheVariants.{Okay, Value, FileTooLarge, NotJson, OptedOutLimit, NotParticipating, NoSuchBranch, StateTooLarge}
 use Rattle.client_core.specs.declared.command.Command.{Command}
 use Rattle.client_core.specs.declared.command.Command.TheVariants.{Fetch, Apply, Participate, OptOut, OptIn, Reset, Show, Feature}
 use Rattle.client_core.specs.declared.command.Command.TheVariants as commands
-use Rattle.client_core.specs.declared.faults.StepFault.{StepFault}
-use Rattle.client_core.specs.declared.prepared.Prepared.{Prepared}
 use Rattle.client_core.specs.declared.session.Session.{Session}
 use Rattle.client_core.specs.Choosing.{first_taker}
 use Rattle.client_core.specs.Fetching.{max_file, shallow_tree, file_tree}
 use Rattle.client_core.specs.Manifests.{IsLinked, link_refusal, where_fits, checked, manifest_of}
 use Rattle.client_core.specs.ServedValues.{IsServed, ValuesAreServed, IsTyped, ValuesHaveTypes}
 use Rattle.client_core.specs.Settings.{Setting}
-use Rattle.client_core.specs.Soundness.{IsLawfulManifest}
+use Rattle.client_core.specs.Soundness.{IsGiven, IsLawfulManifest}
 use Rattle.client_core.specs.Steps.{Outcome, Accepted, Refused, Step, participation, opting_out, taking, choosing, opting_in, resetting, showing, fetched, fetching, context_read, reading_context, setting_manifest, applying, valued, serving, done, step}
 use Rattle.fml_reader.specs.Trees.{tree_from}
+use Rattle.client_core.proofs.LinkedManifests.{manifest_linked}
+use Rattle.client_core.proofs.SoundValues.{records_sound}
 use Rattle.client_core.proofs.Trees.{tree_of_value, value_of_tree}
 
 abbrev is_value : Answer → Bool
@@ -210,11 +210,6 @@ values_are_served at s session command tree is = values_at at s session command 
 
 -- ---- the type
 
--- a command that asks for no feature
-pub untyped : (s : State) (session : Session) (command other : Command) (result : Result Prepared StepFault) → command ≡ other → ((answer : Answer) → IsTyped s session other answer) → IfOk result (λ p. IsTyped s session command p.answer)
-untyped s session command other (Ok p) is none = subst (λ (c : Command). IsTyped s session c p.answer) (sym is) (none p.answer)
-untyped s session command other (Err fault) is none = tt
-
 -- a feature's value
 module _ (s : State) (session : Session) (name : List ℕ) (manifest : Manifest) (set : session.manifest ≡ Some manifest) (value : TypedValue) (serves : served manifest s name ≡ Some value) (tree : Tree) (spelled : json_of tree ≡ values.tree_of value) where
   pub typed_answer : (answer : Answer) → answer ≡ Value tree → HasFeatureType manifest name value → IsTyped s session (Feature name) answer
@@ -225,8 +220,9 @@ module _ (s : State) (session : Session) (name : List ℕ) (manifest : Manifest)
   serving_is = ap (λ (t : Tree). Accepted s session (Value t)) (tree_of_value tree (values.tree_of value) spelled) ∙ ap (valued s session) (sym serves) ∙ ap (serving s session name) (sym set)
 
 pub values_have_types : ValuesHaveTypes
-values_have_types at s session command tree lawful sound is =
+values_have_types at s session command tree sound lawful is =
     let found = values_are_served at s session command tree is in
     let it = found.2 in
-    let linked : IsLinked it.manifest = subst IsLawfulManifest it.set lawful in
-    (found.0, found.1, record { served = it; typed = served_typed it.manifest s found.0 it.value linked.sound sound it.serves })
+    let given : IsGiven it.manifest = subst IsLawfulManifest it.set lawful.manifest in
+    let linked : IsLinked it.manifest = manifest_linked given.files given.first given.channel it.manifest given.links in
+    (found.0, found.1, record { served = it; typed = served_typed it.manifest s found.0 it.value linked.sound (records_sound s.live sound.records.live) it.serves })

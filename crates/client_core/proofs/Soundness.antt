@@ -39,7 +39,7 @@ use Rattle.client_core.specs.Choosing.{first_taker}
 use Rattle.client_core.specs.Fetching.{file_tree}
 use Rattle.client_core.specs.Manifests.{manifest_of}
 use Rattle.client_core.specs.Settings.{Setting}
-use Rattle.client_core.specs.Soundness.{IsCommand, HasVersion, IsLawfulManifest, IsSession, IsLawful, Line, IsLine, all_after, StepsStaySound}
+use Rattle.client_core.specs.Soundness.{IsCommand, HasVersion, HasLinked, IsSession, IsLawful, Line, IsLine, all_after, StepsStaySound}
 use Rattle.client_core.specs.Steps.{Outcome, Accepted, Refused, Step, participation, opting_out, taking, choosing, opting_in, resetting, showing, fetched, fetching, context_read, reading_context, setting_manifest, applying, valued, serving, outcome, done, step}
 use Rattle.client_core.proofs.Coenrolling.{coenrolling_names, coenrolling_rise}
 use Rattle.client_core.proofs.KeptRecords.{step_keeps_records}
@@ -86,7 +86,7 @@ module _ (at : Setting) (s : State) (session : Session) (c : IsConsistent s) whe
   manifest-keeps (Ok manifest) = c
   manifest-keeps (Err refusal) = tt
 
-  apply-keeps : at.now ≤ last_moment → (manifest : Option Manifest) → IsLawfulManifest manifest → (context : Option Context) → HasVersion context → Keeps (applying at.now s session manifest context)
+  apply-keeps : at.now ≤ last_moment → (manifest : Option Manifest) → HasLinked manifest → (context : Option Context) → HasVersion context → Keeps (applying at.now s session manifest context)
   apply-keeps moment None linked context text = tt
   apply-keeps moment (Some manifest) linked None text = tt
   apply-keeps moment (Some manifest) linked (Some context) text =

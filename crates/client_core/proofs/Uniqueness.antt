@@ -1,49 +1,54 @@
--- The state for which a pair stands is the one that is read.
-use Rattle.std.proofs.Common.{◌≡◌, ℕ, List, [], ◌∷◌, ◌++◌, length, map, sym, ◌∙◌, ap, subst, arith}
-use Rattle.host_model.specs.declared.side.Side.TheVariants.{Left, Right}
+-- A pair stands for one state, and its next record begins at one place.
+use Rattle.std.proofs.Common.{◌≡◌, inl, inr, ℕ, List, sym, ◌∙◌, ap}
 use Rattle.host_model.specs.declared.host.Host.{Ghosts}
-use Rattle.gate_journal.specs.OpenSide.{OpenSide}
-use Rattle.gate_journal.specs.Records.{IsOpen, place_of}
-use Rattle.gate_journal.proofs.Unique.{one_reading}
+use Rattle.host_model.specs.declared.side.Side.TheVariants.{Left, Right}
+use Rattle.gate_journal.specs.Records.{place_of}
+use Rattle.pair_store.specs.Moments.{IsOpening}
+use Rattle.pair_store.specs.Pair.{HasList}
+use Rattle.pair_store.proofs.Standing.{each_has_list}
+use Rattle.pair_store.proofs.Unique.{one_list}
+use Rattle.row_batches.specs.Batch.{batch_text, whole_of}
+use Rattle.row_batches.specs.declared.store_row.StoreRow.{StoreRow}
+use Rattle.row_store.specs.Rows.{HasRows, HasPlace}
+use Rattle.row_store.specs.Store.{StoredRows, RowsStand, place}
+use Rattle.row_store.proofs.Folds.{one_map}
 use Rattle.enrol_states.specs.declared.state.State.{State}
-use Rattle.state_codec.specs.Spelling.{spelling}
-use Rattle.client_core.specs.Store.{IsHistory, StandsFor, KeptFor}
-use Rattle.client_core.specs.OpenStore.{Holds, HasGate}
-use Rattle.client_core.proofs.Holding.{open_left, stands_of_kept}
+use Rattle.state_codec.specs.Sound.{IsSound}
+use Rattle.state_codec.specs.Spelling.{rows_of, spelling}
 use Rattle.state_codec.proofs.OneSpelling.{one_spelling}
+use Rattle.client_core.specs.OpenStore.{AllHavePlace, SomeHavePlace}
+use Rattle.client_core.specs.Store.{StandsFor, KeptFor}
+use Rattle.client_core.proofs.Holding.{stands_of_kept}
+use Rattle.client_core.proofs.Repairing.{repaired_list}
 
-last_same : (xs ys : List (List ℕ)) (x y : List ℕ) → xs ++ x ∷ [] ≡ ys ++ y ∷ [] → x ≡ y
-last_same [] [] x y same = grind (arith, same)
-last_same [] (b ∷ []) x y same = grind (arith, same)
-last_same [] (b ∷ d ∷ ys) x y same = grind (arith, same)
-last_same (a ∷ []) [] x y same = grind (arith, same)
-last_same (a ∷ d ∷ xs) [] x y same = grind (arith, same)
-last_same (a ∷ xs) (b ∷ ys) x y same = last_same xs ys x y (grind (arith, same))
-
--- payloads are the history of one state at most
-pub one_history : (payloads : List (List ℕ)) (s t : State) → IsHistory payloads s → IsHistory payloads t → s ≡ t
-one_history payloads s t a b = one_spelling s t a.sound b.sound (last_same (map spelling a.earlier) (map spelling b.earlier) (spelling s) (spelling t) (sym a.spelled ∙ b.spelled))
+-- sound states with the same rows are one
+pub one_of_rows : (s t : State) → IsSound s → IsSound t → rows_of s ≡ rows_of t → s ≡ t
+unfolding spelling
+one_of_rows s t s_sound t_sound same = one_spelling s t s_sound t_sound (ap (λ (rows : List StoreRow). batch_text (whole_of rows)) same)
 
 -- a pair of sides stands for one state at most
 pub stands_once : (l r : List ℕ) (s t : State) → StandsFor l r s → StandsFor l r t → s ≡ t
-stands_once l r s t a b =
-    let same = (one_reading a.generation b.generation a.payloads b.payloads l a.left b.left).1 in
-    one_history b.payloads s t (subst (λ (p : List (List ℕ)). IsHistory p s) same a.history) b.history
+stands_once l r s t a b = one_of_rows s t a.sound b.sound (one_map l r (rows_of s) (rows_of t) a.rows b.rows)
 
 pub one_state : (l r : List ℕ) (s t : State) → KeptFor l r s → KeptFor l r t → s ≡ t
 one_state l r s t a b = stands_once l r s t (stands_of_kept l r s a) (stands_of_kept l r t b)
 
-module _ {H : Type 0} (h : Ghosts H) (old new : H) (journal : OpenSide) (s t : State) (holds : Holds h journal new t) (same : h.reads new Left ≡ h.reads old Left) where
-  same_payloads : (generation : ℕ) (payloads : List (List ℕ)) → IsOpen generation payloads (h.reads old Left) → holds.payloads ≡ payloads
-  same_payloads generation payloads side = (one_reading journal.generation generation holds.payloads payloads (h.reads old Left)
-      (subst (λ (d : List ℕ). IsOpen journal.generation holds.payloads d) same (open_left h journal new t holds)) side).1
+-- the next record of a pair begins at one place at most
+pub one_place : (l r : List ℕ) (place other : ℕ) → HasPlace l r place → HasPlace l r other → place ≡ other
+one_place l r place other a b = a.2 ∙ ap place_of (one_list l r a.0 b.0 a.1 b.1) ∙ sym b.2
 
-  pub is_known : StandsFor (h.reads old Left) (h.reads old Right) s → t ≡ s
-  is_known stands = one_history stands.payloads t s (subst (λ (p : List (List ℕ)). IsHistory p t) (same_payloads stands.generation stands.payloads stands.left) holds.history) stands.history
+-- where one image has the place of what is opened, and each has this one
+pub place_known : {H : Type 0} (h : Ghosts H) (start : H) (place other : ℕ) → SomeHavePlace h start place → AllHavePlace h start other → place ≡ other
+place_known h start place other some all = one_place some.0 some.1 place other some.4 (all some.0 some.1 some.2 some.3)
 
-  pub has_gate : KeptFor (h.reads old Left) (h.reads old Right) s → HasGate h journal new
-  has_gate kept = omega (arith, kept.left.gate, holds.stands.place, ap place_of (same_payloads kept.generation kept.payloads kept.left.side), ap length same)
+-- the place after an opening is that of an image of before
+module _ {H : Type 0} (h : Ghosts H) (start new : H) (store : StoredRows) (rows : HasRows (h.reads start Left) (h.reads start Right) store.rows) (stands : RowsStand h store new)
+    (old_left : h.images start Left (h.reads start Left)) (old_right : h.images start Right (h.reads start Right)) (left : h.images new Left (h.reads new Left)) (right : h.images new Right (h.reads new Right)) where
+  list_now : HasList (h.reads new Left) (h.reads new Right) stands.payloads
+  list_now = each_has_list h store.records new stands.payloads (h.reads new Left) (h.reads new Right) left right stands.pair
 
-  -- where the records end
-  pub place_is_known : (stands : StandsFor (h.reads old Left) (h.reads old Right) s) → journal.place ≡ place_of stands.payloads
-  place_is_known stands = holds.stands.place ∙ ap place_of (same_payloads stands.generation stands.payloads stands.left)
+  pub opened_place : (u : List ℕ) → IsOpening h start (h.reads new Left) (h.reads new Right) u → SomeHavePlace h start (place store)
+  opened_place u (inl now) = (h.reads new Left, h.reads new Right, now.0, now.1, (stands.payloads, list_now, stands.pair.side.place))
+  opened_place u (inr (repaired, text)) =
+      let same = one_list (h.reads new Left) (h.reads new Right) stands.payloads rows.0 list_now (repaired_list h start (h.reads new Left) (h.reads new Right) repaired rows.0 rows.1) in
+      (h.reads start Left, h.reads start Right, old_left, old_right, (rows.0, rows.1, stands.pair.side.place ∙ ap place_of same))

@@ -9,7 +9,7 @@ use Rattle.client_core.specs.Store.{StandsFor, IsStore, IsAbsent, IsBad}
 
 -- of an opening
 abbrev pub OpenFinds : List ℕ → List ℕ → Result Client ClientFault → Type 0
-OpenFinds l r (Ok client) = StandsFor l r client.state
+OpenFinds l r (Ok client) = StandsFor l r client.store.state
 OpenFinds l r (Err opening.NoStore) = IsAbsent l r
 OpenFinds l r (Err opening.BadStore) = IsBad l r
 OpenFinds l r (Err opening.DiskFault) = Unit {0}

@@ -1,11 +1,13 @@
+pub mod Asked
 pub mod Choosing
 pub mod Clients
+pub mod Commands
+pub mod Faults
 pub mod Fetching
 pub mod Finds
 pub mod Found
 pub mod Manifests
 pub mod Moments
-pub mod Opening
 pub mod OpenStore
 pub mod OptOuts
 pub mod Places
@@ -16,3 +18,5 @@ pub mod Settings
 pub mod Soundness
 pub mod Steps
 pub mod Store
+pub mod Stored
+pub mod WholeStates

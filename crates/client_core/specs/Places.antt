@@ -1,21 +1,36 @@
--- Where the records of the left side end, and what a change of state costs.
-use Rattle.std.specs.Prelude.{◌≢◌, ◌<◌, ℕ, ◌+◌, length, bytes_eq, if◌then◌else◌}
+-- What a change of state writes, and where the next record begins then.
+use Rattle.std.specs.Prelude.{ℕ, Bool, false, nat_lt, ◌+◌, length, if◌then◌else◌}
+use Rattle.pair_store.specs.declared.mark.TheConstants.{MARK}
+use Rattle.row_batches.specs.Batch.{ChangeList, batch_text}
+use Rattle.row_batches.specs.Between.{between}
+use Rattle.enrol_states.specs.Equal.{state_eq}
 use Rattle.enrol_states.specs.declared.state.State.{State}
-use Rattle.state_codec.specs.Spelling.{spelling}
+use Rattle.state_codec.specs.Spelling.{rows_of, spelling}
 
--- where the records of a side end at most, with the gate behind them
-abbrev pub side_end : ℕ
-side_end = 67108864
+-- the changed rows from s to t
+abbrev pub row_changes : State → State → ChangeList
+row_changes s t = between (rows_of s) (rows_of t)
 
--- after a change from s to t
+-- how many bytes they take
+abbrev pub change_size : State → State → ℕ
+change_size s t = length (batch_text (row_changes s t))
+
+-- a record of them at this place would end, with the gate behind it, past the mark: byte 33,554,432
+abbrev pub passes_mark : ℕ → State → State → Bool
+passes_mark place s t = nat_lt MARK (place + change_size s t + 6)
+
+-- then the whole of t is written, on the other side
+abbrev pub makes_checkpoint : ℕ → State → State → Bool
+makes_checkpoint place s t = if state_eq s t then false else passes_mark place s t
+
+-- how many bytes a change from s to t writes at this place: none where there is none
+unfoldable pub bytes_for : ℕ → State → State → ℕ
+bytes_for place s t = if state_eq s t then 0 else (if passes_mark place s t then length (spelling t) + 16 else change_size s t + 6)
+
+-- where the next record begins then
 unfoldable pub place_after : ℕ → State → State → ℕ
-place_after place s t = if bytes_eq (spelling s) (spelling t) then place else place + length (spelling t) + 5
+place_after place s t = if state_eq s t then place else (if passes_mark place s t then length (spelling t) + 14 else place + change_size s t + 5)
 
--- how many bytes a change from s to t writes
-unfoldable pub bytes_for : State → State → ℕ
-bytes_for s t = if bytes_eq (spelling s) (spelling t) then 0 else length (spelling t) + 6
-
--- it is one, and its record would end, with the gate behind it, past the end of a side
-pub record IsFullFor (place : ℕ) (s t : State) : Type 0 where
-  pub changes : s ≢ t
-  pub past : side_end < place + length (spelling t) + 6
+-- how many bytes the making of a store with this state writes
+abbrev pub making_bytes : State → ℕ
+making_bytes s = length (spelling s) + 17

@@ -1,20 +1,20 @@
 -- Which values are answered, and with which type.
-use Rattle.std.specs.Prelude.{◌≡◌, ℕ, List, All, Some}
+use Rattle.std.specs.Prelude.{◌≡◌, ℕ, List, Some}
 use Rattle.json_tree.specs.Tree.{json_of}
 use Rattle.json_tree.specs.declared.tree.Tree.{Tree}
 use Rattle.fml_types.specs.declared.manifest.Manifest.{Manifest}
 use Rattle.fml_value.specs.Trees.{tree_of}
 use Rattle.fml_value.specs.Typed.{TypedValue}
-use Rattle.feature_serving.specs.Laws.{HasSoundValues}
 use Rattle.feature_serving.specs.Serving.{served, HasFeatureType}
 use Rattle.enrol_states.specs.declared.state.State.{State}
+use Rattle.state_codec.specs.Sound.{IsSound}
 use Rattle.client_core.specs.declared.answer.Answer.{Answer}
 use Rattle.client_core.specs.declared.answer.Answer.TheVariants.{Value}
 use Rattle.client_core.specs.declared.command.Command.{Command}
 use Rattle.client_core.specs.declared.command.Command.TheVariants.{Feature}
 use Rattle.client_core.specs.declared.session.Session.{Session}
 use Rattle.client_core.specs.Settings.{Setting}
-use Rattle.client_core.specs.Soundness.{IsLawfulManifest}
+use Rattle.client_core.specs.Soundness.{IsLawful}
 use Rattle.client_core.specs.Steps.{step}
 
 -- the tree is that of the value which the session's manifest serves of the feature
@@ -39,7 +39,7 @@ abbrev pub IsTyped : State → Session → Command → Answer → Type 0
 IsTyped s session (Feature name) (Value tree) = IsServedWithType s session name tree
 IsTyped s session command answer = Unit {0}
 
--- each value that a step is answered has its type, where the manifest is lawful, and what the live recipes set is what the type of a tree keeps
+-- each value that a step is answered has its type, from a sound state and a lawful session
 abbrev pub ValuesHaveTypes : Type 0
-ValuesHaveTypes = (at : Setting) (s : State) (session : Session) (command : Command) (tree : Tree) → IsLawfulManifest session.manifest → All HasSoundValues s.live → (step at s session command).answer ≡ Value tree
+ValuesHaveTypes = (at : Setting) (s : State) (session : Session) (command : Command) (tree : Tree) → IsSound s → IsLawful session → (step at s session command).answer ≡ Value tree
     → (name : List ℕ) × (command ≡ Feature name) × IsServedWithType s session name tree

@@ -1,5 +1,5 @@
 -- A step keeps a state sound and a session lawful, whatever the command, the files and the moment.
-use Rattle.std.specs.Prelude.{◌≡◌, ◌≤◌, List, [], ◌∷◌, length, All, Option, None, Some, Ok, IsUtf8}
+use Rattle.std.specs.Prelude.{◌≡◌, ◌≤◌, ℕ, List, [], ◌∷◌, length, All, Option, None, Some, Ok, IsUtf8}
 use Rattle.json_tree.specs.Json as json
 use Rattle.json_tree.specs.Json.{Json}
 use Rattle.app_context.specs.Contexts.{context_of}
@@ -14,7 +14,7 @@ use Rattle.fml_types.specs.declared.manifest.Manifest.{Manifest}
 use Rattle.client_core.specs.declared.command.Command.{Command}
 use Rattle.client_core.specs.declared.command.Command.TheVariants.{OptOut, OptIn, Reset}
 use Rattle.client_core.specs.declared.session.Session.{Session}
-use Rattle.client_core.specs.Manifests.{IsLinked}
+use Rattle.client_core.specs.Manifests.{IsLinked, manifest_of}
 use Rattle.client_core.specs.Sessions.{no_session}
 use Rattle.client_core.specs.Settings.{Setting}
 use Rattle.client_core.specs.Steps.{step}
@@ -31,14 +31,27 @@ abbrev pub HasVersion : Option Context → Type 0
 HasVersion None = Unit {0}
 HasVersion (Some context) = IsUtf8 (version_of context)
 
-abbrev pub IsLawfulManifest : Option Manifest → Type 0
-IsLawfulManifest None = Unit {0}
-IsLawfulManifest (Some manifest) = IsLinked manifest
+-- what the type of a session's manifest keeps
+abbrev pub HasLinked : Option Manifest → Type 0
+HasLinked None = Unit {0}
+HasLinked (Some manifest) = IsLinked manifest
 
 -- what the types of a session's parts keep
 pub record IsSession (session : Session) : Type 0 where
-  pub manifest : IsLawfulManifest session.manifest
+  pub manifest : HasLinked session.manifest
   pub context : HasVersion session.context
+
+-- linking gives it for some files, their first name and a channel
+pub record IsGiven (manifest : Manifest) : Type 0 where
+  pub files : List ℕ → Option (List ℕ)
+  pub first : List ℕ
+  pub channel : List ℕ
+  pub links : manifest_of files first channel ≡ Ok manifest
+
+-- none, or a manifest that linking gives
+abbrev pub IsLawfulManifest : Option Manifest → Type 0
+IsLawfulManifest None = Unit {0}
+IsLawfulManifest (Some manifest) = IsGiven manifest
 
 -- none, or the context that a tree is
 abbrev pub IsLawfulContext : Option Context → Type 0

@@ -1,43 +1,44 @@
 // A client over its store.
-ghost use Rattle.std.specs.Prelude.{◌≡◌, ◌≢◌, ◌≤◌, ◌+◌, Some, OnOk, OnErr, IsOk, length};
+ghost use Rattle.std.specs.Prelude.{◌≡◌, ◌≢◌, ◌↔◌, OnOk, OnErr, IsOk, IsTrue};
+ghost use Rattle.gate_journal.specs.Costs.{HasCost};
 ghost use Rattle.host_model.specs.Causes.{HasCause};
 ghost use Rattle.host_model.specs.Hosts.{MeetsAll};
-ghost use Rattle.gate_journal.specs.Costs.{HasCost};
+ghost use Rattle.pair_store.specs.Moments.{StaysBelow};
 ghost use Rattle.state_codec.specs.Sound.{IsSound};
 ghost use Rattle.client_core.specs.Moments.{WhileWritten};
 ghost use Rattle.client_core.specs.OpenStore.{IsSettled, AllKept, AllKeptEither, AllStand};
-ghost use Rattle.client_core.specs.Places.{place_after, bytes_for};
+ghost use Rattle.client_core.specs.Places.{place_after, bytes_for, makes_checkpoint};
 ghost use Rattle.client_core.specs.Sessions.{changed_by};
 
 use crate::prepared::{Change, Prepared};
 use crate::session::{Session, SessionChange};
+use crate::state_store::StateStore;
 use enrol_states::State;
-use gate_journal::{AppendFault, Journal};
 use host_model::{DiskFailed, Host};
 
-/// A client: its state, which its store holds, and the session of the run.
+/// A client: its state with the store that holds it, and the session of the run.
 ///
 /// A client stands for the sides of the host on which it was opened. Each call on it that takes a host wants this
 /// host, with the sides as the last call left them and synced.
 #[derive(Drop)]
 pub struct Client {
-    pub(crate) journal: Journal,
-    pub(crate) state: State,
+    pub(crate) store: StateStore,
     pub(crate) session: Session,
 }
 
 impl Client {
     ghost use Rattle.client_core.specs.Clients.{state_of, session_of, end_of, IsOpenOn, HasGateOn};
-    ghost use Rattle.client_core.specs.Prepared.{IsMadeOn, IsChange, next_state, next_session};
+    ghost use Rattle.client_core.specs.Prepared.{IsMadeOn, IsChangeOf, next_state, next_session, is_checkpoint};
 
     /// The state. It takes no memory.
     pub fn state(&self) -> &State
-        ensures { result.now ≡ state_of self.now }
+        ensures state { result.now ≡ state_of self.now }
+        ensures sound { IsSound (state_of self.now) }
     {
-        &self.state
+        self.store.state()
     }
 
-    /// Takes a prepared step over: the new state is written, where there is one. It takes no memory, and makes no call
+    /// Takes a prepared step over: the changed rows are written, where there are some. It takes no memory, and makes no call
     /// of the host where the state stays. After a `DiskFailed` the client is dropped and the store opened again.
     pub fn commit<H: Host>(&mut self, host: &mut H, prepared: Prepared) -> Result<(), DiskFailed>
         requires holds { H.tells → IsOpenOn H.Host self.old host.old }
@@ -56,22 +57,28 @@ impl Client {
         ensures settled { OnOk result (H.tells → IsSettled H.Host host.new) }
         ensures stands { OnOk result (H.tells → AllStand H.Host host.new (next_state self.old prepared)) }
         ensures kept { OnOk result (H.tells → HasGateOn H.Host self.old host.old → AllKept H.Host host.new (next_state self.old prepared)) }
+        ensures kept_where { OnOk result (H.tells → state_of self.old ≢ next_state self.old prepared
+            → AllKept H.Host host.new (next_state self.old prepared)) }
         ensures gate { OnOk result (H.tells → HasGateOn H.Host self.old host.old → HasGateOn H.Host self.new host.new) }
         ensures gate_made { OnOk result (H.tells → state_of self.old ≢ next_state self.old prepared → HasGateOn H.Host self.new host.new) }
 
         ensures state { OnOk result (state_of self.new ≡ next_state self.old prepared) }
-        ensures sound { OnOk result (IsSound (state_of self.old) → IsSound (state_of self.new)) }
+        ensures sound { IsSound (next_state self.old prepared) }
         ensures session { OnOk result (session_of self.new ≡ next_session self.old prepared) }
-        ensures place { OnOk result (IsSound (state_of self.old)
-            → end_of self.new ≡ place_after (end_of self.old) (state_of self.old) (next_state self.old prepared)) }
         ensures same { OnErr result (self.new ≡ self.old) }
 
-        ensures cost { IsSound (state_of self.old) → H.tells
-            → HasCost (bytes_for (state_of self.old) (next_state self.old prepared)) (H.written host.old) (H.written host.new) result }
+        // What is written, and where: no byte at or past the mark, and the whole of the new state exactly where a record of
+        // the changed rows would pass it.
+        ensures cost { H.tells → HasCost (bytes_for (end_of self.old) (state_of self.old) (next_state self.old prepared)) (H.written host.old) (H.written host.new) result }
+        ensures place { OnOk result (end_of self.new ≡ place_after (end_of self.old) (state_of self.old) (next_state self.old prepared)) }
+        ensures below { H.tells → MeetsAll H.Host host.old host.new (StaysBelow H.Host host.old) }
+        ensures checkpoint { is_checkpoint prepared ≡ makes_checkpoint (end_of self.old) (state_of self.old) (next_state self.old prepared) }
+
         ensures unchanged { state_of self.old ≡ next_state self.old prepared → IsOk result × (host.new ≡ host.old) }
         ensures cause { HasCause (H.disk_faults host.old) (H.disk_faults host.new) result }
         ensures say_faults { H.say_faults host.new ≡ H.say_faults host.old }
     {
+        self.store.state();
         let Prepared {
             change,
             session,
@@ -86,7 +93,7 @@ impl Client {
         }
     }
 
-    /// Writes the record of another state, and takes the state and the session over.
+    // Writes a change, and takes its state and the session over.
     fn write<H: Host>(
         &mut self,
         host: &mut H,
@@ -94,11 +101,11 @@ impl Client {
         session: SessionChange,
     ) -> Result<(), DiskFailed>
         requires holds { H.tells → IsOpenOn H.Host self.old host.old }
-        requires change { IsChange self.old.journal.place self.old.state (Some change) }
+        requires change { IsChangeOf self.old.store change }
 
         ensures any_moment { H.tells → HasGateOn H.Host self.old host.old
-            → MeetsAll H.Host host.old host.new (WhileWritten (H.said host.old) self.old.state change.state) }
-        ensures kept_either { H.tells → HasGateOn H.Host self.old host.old → AllKeptEither H.Host host.new self.old.state change.state }
+            → MeetsAll H.Host host.old host.new (WhileWritten (H.said host.old) (state_of self.old) change.state) }
+        ensures kept_either { H.tells → HasGateOn H.Host self.old host.old → AllKeptEither H.Host host.new (state_of self.old) change.state }
         ensures text { H.tells → H.said host.new ≡ H.said host.old }
 
         ensures holds { OnOk result (H.tells → IsOpenOn H.Host self.new host.new) }
@@ -107,23 +114,19 @@ impl Client {
         ensures kept { OnOk result (H.tells → AllKept H.Host host.new change.state) }
         ensures gate { OnOk result (H.tells → HasGateOn H.Host self.new host.new) }
 
-        ensures state { OnOk result (self.new.state ≡ change.state) }
-        ensures session { OnOk result (self.new.session ≡ changed_by self.old.session session) }
-        ensures place { OnOk result (self.new.journal.place ≡ self.old.journal.place + length change.frame + 5) }
+        ensures state { OnOk result (state_of self.new ≡ change.state) }
+        ensures session { OnOk result (session_of self.new ≡ changed_by self.old.session session) }
         ensures same { OnErr result (self.new ≡ self.old) }
 
-        ensures cost { H.tells → HasCost (length change.frame + 6) (H.written host.old) (H.written host.new) result }
+        ensures cost { H.tells → HasCost (bytes_for (end_of self.old) (state_of self.old) change.state) (H.written host.old) (H.written host.new) result }
+        ensures place { OnOk result (end_of self.new ≡ place_after (end_of self.old) (state_of self.old) change.state) }
+        ensures below { H.tells → MeetsAll H.Host host.old host.new (StaysBelow H.Host host.old) }
+        ensures checkpoint { change.ready.is_whole ≡ makes_checkpoint (end_of self.old) (state_of self.old) change.state }
         ensures cause { HasCause (H.disk_faults host.old) (H.disk_faults host.new) result }
         ensures say_faults { H.say_faults host.new ≡ H.say_faults host.old }
     {
-        match self.journal.append(host, &change.frame) {
-            Ok(()) => {
-                self.state = change.state;
-                self.session.take_over(session);
-                Ok(())
-            }
-            Err(AppendFault::DiskFault) => Err(DiskFailed),
-            Err(AppendFault::SideFull) => unreachable!(),
-        }
+        self.store.commit(host, change)?;
+        self.session.take_over(session);
+        Ok(())
     }
 }

@@ -1,5 +1,5 @@
 // Why a call of a client did not do what it was asked.
-use host_model::DiskFailed;
+use row_store::{PairFault, RowMakeFault};
 use std::alloc::AllocError;
 
 /// Why a store was not opened.
@@ -14,25 +14,19 @@ pub enum ClientFault {
     OutOfMemory,
 }
 
-impl From<DiskFailed> for ClientFault {
+impl From<PairFault> for ClientFault {
     ghost use Rattle.std.specs.Prelude.{◌≡◌};
-    ghost use Rattle.client_core.specs.declared.faults.ClientFault.TheVariants.{DiskFault};
+    ghost use Rattle.client_core.specs.Faults.{opening_fault};
 
-    ghost from_gives = { λ _ fault. fault ≡ DiskFault };
+    ghost from_gives = { λ fault opened. opened ≡ opening_fault fault };
 
-    fn from(_: DiskFailed) -> Self {
-        ClientFault::DiskFault
-    }
-}
-
-impl From<AllocError> for ClientFault {
-    ghost use Rattle.std.specs.Prelude.{◌≡◌};
-    ghost use Rattle.client_core.specs.declared.faults.ClientFault.TheVariants.{OutOfMemory};
-
-    ghost from_gives = { λ _ fault. fault ≡ OutOfMemory };
-
-    fn from(_: AllocError) -> Self {
-        ClientFault::OutOfMemory
+    fn from(fault: PairFault) -> Self {
+        match fault {
+            PairFault::NoStore => ClientFault::NoStore,
+            PairFault::BadStore => ClientFault::BadStore,
+            PairFault::DiskFault => ClientFault::DiskFault,
+            PairFault::OutOfMemory => ClientFault::OutOfMemory,
+        }
     }
 }
 
@@ -48,14 +42,17 @@ pub enum MakeFault {
     OutOfMemory,
 }
 
-impl From<DiskFailed> for MakeFault {
+impl From<RowMakeFault> for MakeFault {
     ghost use Rattle.std.specs.Prelude.{◌≡◌};
-    ghost use Rattle.client_core.specs.declared.faults.MakeFault.TheVariants.{DiskFault};
+    ghost use Rattle.client_core.specs.Faults.{making_fault};
 
-    ghost from_gives = { λ _ fault. fault ≡ DiskFault };
+    ghost from_gives = { λ fault made. made ≡ making_fault fault };
 
-    fn from(_: DiskFailed) -> Self {
-        MakeFault::DiskFault
+    fn from(fault: RowMakeFault) -> Self {
+        match fault {
+            RowMakeFault::DiskFault => MakeFault::DiskFault,
+            RowMakeFault::OutOfMemory => MakeFault::OutOfMemory,
+        }
     }
 }
 
@@ -75,8 +72,6 @@ impl From<AllocError> for MakeFault {
 pub enum StepFault {
     /// The shelf has failed.
     ShelfFault,
-    /// The record of the new state would end, with its gate, past byte 67,108,864 of the left side.
-    StoreFull,
     OutOfMemory,
 }
 

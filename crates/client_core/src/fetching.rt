@@ -7,93 +7,82 @@ ghost use Rattle.host_model.specs.Causes.{Rose};
 ghost use Rattle.app_context.specs.Contexts.{context_of};
 ghost use Rattle.enrol_states.specs.declared.state.State.{State};
 ghost use Rattle.enrol_states.specs.Consistent.{IsConsistent, AreKept};
-ghost use Rattle.state_codec.specs.Sound.{IsSound};
 ghost use Rattle.client_core.specs.declared.session.Session.{Session};
+ghost use Rattle.client_core.specs.Asked.{asked_outcome, HasConsistentState};
 ghost use Rattle.client_core.specs.Fetching.{shallow_tree, file_tree};
 ghost use Rattle.client_core.specs.Found.{IsTree, accepted, outcome_of, context_outcome};
 ghost use Rattle.client_core.specs.Steps.{fetched, fetching, context_read, reading_context};
 
 use crate::answer::Answer;
-use crate::client::Client;
+use crate::asked::Asked;
 use crate::faults::StepFault;
-use crate::prepared::Prepared;
 use crate::session::SessionChange;
 use app_context::{Context, ContextFault, read_context};
+use enrol_states::State;
 use host_model::{Shelf, ShelfAnswer};
 use json_tree::{Tree, TreeFault, read};
 use recipe_reader::{Payload, PayloadFault, read_payload};
 use sequences::Text;
 use std::alloc::{AllocError, Global};
 
-impl Client {
-    ghost use Rattle.client_core.specs.Prepared.{IsMadeOn, Prepares};
-
-    /// The step of `context`.
-    pub(crate) fn reading_context<F: Shelf>(
-        &self,
-        alloc: Global,
-        shelf: &mut F,
-        file: &Text,
-    ) -> Result<Prepared, StepFault>
-        requires { IsSound self.now.state }
-        ensures made { IfOk result (λ prepared. IsMadeOn self.now prepared) }
-        ensures prepares { F.tells → Prepares self.now (reading_context self.now.state self.now.session (file_tree file.now (F.file shelf.old file.now))) result }
-        ensures files { F.tells → (name : List ℕ) → F.file shelf.new name ≡ F.file shelf.old name }
-        ensures cause { IsErrOf result StepFault.ShelfFault → Rose (F.faults shelf.old) (F.faults shelf.new) }
-        ensures faults { F.faults shelf.old ≤ F.faults shelf.new }
-    {
-        match read_context_file(alloc, shelf, file)? {
-            Ok(context) => Ok(self.with_context(context)),
-            Err(refusal) => Ok(self.unchanged(refusal)),
-        }
-    }
-
-    /// The step of `context` with the context of its file.
-    fn with_context(&self, context: Context) -> Prepared
-        requires { IsSound self.now.state }
-        ensures made { IsMadeOn self.now result }
-        ensures prepares { Prepares self.now (context_read self.now.state self.now.session (Ok context)) (Ok result) }
-    {
-        Prepared {
-            change: None,
-            session: SessionChange::Context(context),
+/// What `context` asks for.
+pub(crate) fn reading_context<F: Shelf>(
+    alloc: Global,
+    shelf: &mut F,
+    file: &Text,
+) -> Result<Asked, StepFault>
+    ensures asks { F.tells → IfOk result (λ asked. (s : State) (session : Session)
+        → asked_outcome s session asked ≡ reading_context s session (file_tree file.now (F.file shelf.old file.now))) }
+    ensures consistent { IfOk result HasConsistentState }
+    ensures files { F.tells → (name : List ℕ) → F.file shelf.new name ≡ F.file shelf.old name }
+    ensures cause { IsErrOf result StepFault.ShelfFault → Rose (F.faults shelf.old) (F.faults shelf.new) }
+    ensures faults { F.faults shelf.old ≤ F.faults shelf.new }
+{
+    match read_context_file(alloc, shelf, file)? {
+        Ok(context) => Ok(Asked::SameState {
+            change: SessionChange::Context(context),
             answer: Answer::Okay,
-        }
+        }),
+        Err(refusal) => Ok(Asked::Refused(refusal)),
     }
+}
 
-    /// The step of `fetch`.
-    pub(crate) fn fetching<F: Shelf>(
-        &self,
-        alloc: Global,
-        shelf: &mut F,
-        file: &Text,
-    ) -> Result<Prepared, StepFault>
-        requires { IsConsistent self.now.state }
-        ensures made { IfOk result (λ prepared. IsMadeOn self.now prepared) }
-        ensures prepares { F.tells → Prepares self.now (fetching self.now.state self.now.session (file_tree file.now (F.file shelf.old file.now))) result }
-        ensures files { F.tells → (name : List ℕ) → F.file shelf.new name ≡ F.file shelf.old name }
-        ensures cause { IsErrOf result StepFault.ShelfFault → Rose (F.faults shelf.old) (F.faults shelf.new) }
-        ensures faults { F.faults shelf.old ≤ F.faults shelf.new }
-    {
-        match fetch(alloc, shelf, file)? {
-            Ok(payload) => self.with_pending(alloc, payload),
-            Err(refusal) => Ok(self.unchanged(refusal)),
-        }
+/// What `fetch` asks for in this state.
+pub(crate) fn fetching<F: Shelf>(
+    alloc: Global,
+    state: &State,
+    shelf: &mut F,
+    file: &Text,
+) -> Result<Asked, StepFault>
+    requires { IsConsistent state.now }
+    ensures asks { F.tells → IfOk result (λ asked. (session : Session)
+        → asked_outcome state.now session asked ≡ fetching state.now session (file_tree file.now (F.file shelf.old file.now))) }
+    ensures consistent { IfOk result HasConsistentState }
+    ensures files { F.tells → (name : List ℕ) → F.file shelf.new name ≡ F.file shelf.old name }
+    ensures cause { IsErrOf result StepFault.ShelfFault → Rose (F.faults shelf.old) (F.faults shelf.new) }
+    ensures faults { F.faults shelf.old ≤ F.faults shelf.new }
+{
+    match fetch(alloc, shelf, file)? {
+        Ok(payload) => Ok(with_pending(state, payload)?),
+        Err(refusal) => Ok(Asked::Refused(refusal)),
     }
+}
 
-    /// The step of `fetch` with the payload of its file.
-    fn with_pending(&self, alloc: Global, payload: Payload) -> Result<Prepared, StepFault>
-        requires consistent { IsConsistent self.now.state }
-        requires kept { AreKept payload.recipes }
-        ensures prepares { Prepares self.now (accepted self.now.state self.now.session payload) result }
-        ensures not_shelf { ¬ IsErrOf result StepFault.ShelfFault }
-    {
-        let Payload { recipes, skipped } = payload;
-        let kept = recipes.as_slice().len() as u32;
-        let mut next = self.state.clone()?;
-        next.pending = Some(recipes);
-        self.accepted(alloc, next, Answer::Fetched { kept, skipped })
-    }
+/// The state with the recipes of a payload pending.
+fn with_pending(state: &State, payload: Payload) -> Result<Asked, AllocError>
+    requires consistent { IsConsistent state.now }
+    requires kept { AreKept payload.recipes }
+    ensures asks { IfOk result (λ asked. (session : Session) → asked_outcome state.now session asked ≡ accepted state.now session payload) }
+    ensures consistent { IfOk result HasConsistentState }
+{
+    let Payload { recipes, skipped } = payload;
+    let kept = recipes.as_slice().len() as u32;
+    let mut next = state.clone()?;
+    next.pending = Some(recipes);
+    Ok(Asked::NewState {
+        next,
+        answer: Answer::Fetched { kept, skipped },
+    })
 }
 
 /// The payload of the file of this name, or the refusal of the command.
@@ -108,7 +97,6 @@ fn fetch<F: Shelf>(
     ensures files { F.tells → (other : List ℕ) → F.file shelf.new other ≡ F.file shelf.old other }
     ensures cause { IsErrOf result StepFault.ShelfFault → Rose (F.faults shelf.old) (F.faults shelf.new) }
     ensures faults { F.faults shelf.old ≤ F.faults shelf.new }
-    ensures not_full { ¬ IsErrOf result StepFault.StoreFull }
 {
     match read_tree(alloc, shelf, name)? {
         Ok(tree) => Ok(payload_in(alloc, &tree)?),
@@ -143,7 +131,6 @@ fn read_context_file<F: Shelf>(
     ensures files { F.tells → (other : List ℕ) → F.file shelf.new other ≡ F.file shelf.old other }
     ensures cause { IsErrOf result StepFault.ShelfFault → Rose (F.faults shelf.old) (F.faults shelf.new) }
     ensures faults { F.faults shelf.old ≤ F.faults shelf.new }
-    ensures not_full { ¬ IsErrOf result StepFault.StoreFull }
 {
     match read_tree(alloc, shelf, name)? {
         Ok(tree) => Ok(context_in(alloc, &tree)?),
@@ -173,7 +160,6 @@ fn read_tree<F: Shelf>(
     ensures files { F.tells → (other : List ℕ) → F.file shelf.new other ≡ F.file shelf.old other }
     ensures cause { IsErrOf result StepFault.ShelfFault → Rose (F.faults shelf.old) (F.faults shelf.new) }
     ensures faults { F.faults shelf.old ≤ F.faults shelf.new }
-    ensures not_full { ¬ IsErrOf result StepFault.StoreFull }
 {
     match shelf.take(alloc, name.as_str()) {
         ShelfAnswer::Bytes(bytes) => Ok(tree_in(alloc, name, &bytes)?),

@@ -5,6 +5,7 @@ ghost use Rattle.client_core.specs.OptOuts.{OptOutsHold};
 ghost use Rattle.client_core.specs.ServedValues.{ValuesAreServed, ValuesHaveTypes};
 ghost use Rattle.client_core.specs.Soundness.{StepsStaySound};
 ghost use Rattle.client_core.specs.Store.{StandsFor, KeptFor};
+ghost use Rattle.client_core.specs.WholeStates.{WholeStatesStand};
 
 /// A pair of sides stands for one state at most, and so it is kept for one at most.
 pub fn one_state()
@@ -31,8 +32,12 @@ pub fn values_are_served()
     ensures { ValuesAreServed }
 {}
 
-/// That value has the type of the feature, where the manifest is lawful, and what the live recipes set is what the type of
-/// a tree keeps.
+/// That value has the type of the feature, from every sound state and lawful session.
 pub fn values_have_types()
     ensures { ValuesHaveTypes }
+{}
+
+/// A store of whole states, each in one record of the left side, stands for the last of them. It takes no memory.
+pub fn whole_states_stand()
+    ensures { WholeStatesStand }
 {}

@@ -1,8 +1,10 @@
 //! One step of a client: what a command makes of its state and of the session, written to its store before it is
-//! answered. The store is a journal on the left of two sides, each of whose payloads is the spelling of a state.
+//! answered. The store holds the rows of the state, and a command writes the rows that it changes.
 #![tactic(auto)]
 
 mod answer;
+mod applying;
+mod asked;
 mod choosing;
 mod client;
 mod command;
@@ -17,11 +19,15 @@ mod prepared;
 mod preparing;
 mod serving;
 mod session;
+mod state_store;
 
 pub use answer::Answer;
 pub use client::Client;
 pub use command::Command;
 pub use faults::{ClientFault, MakeFault, StepFault};
-pub use laws::{one_state, opt_outs_hold, steps_stay_sound, values_are_served, values_have_types};
+pub use laws::{
+    one_state, opt_outs_hold, steps_stay_sound, values_are_served, values_have_types,
+    whole_states_stand,
+};
 pub use prepared::Prepared;
 pub use session::Session;

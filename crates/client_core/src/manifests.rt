@@ -1,17 +1,18 @@
 // The manifest of a run is set.
-ghost use Rattle.std.specs.Prelude.{◌≡◌, ◌≤◌, List, ℕ, Ok, IfOk, IsErrOf};
+ghost use Rattle.std.specs.Prelude.{◌≡◌, ◌≤◌, List, ℕ, IfOk, IsErrOf};
 ghost use Rattle.host_model.specs.Causes.{Rose};
 ghost use Rattle.fml_types.specs.Sound.{IsSoundManifest};
 ghost use Rattle.fml_merge.specs.Faults.{bad_default};
-ghost use Rattle.state_codec.specs.Sound.{IsSound};
+ghost use Rattle.enrol_states.specs.declared.state.State.{State};
+ghost use Rattle.client_core.specs.declared.session.Session.{Session};
+ghost use Rattle.client_core.specs.Asked.{asked_outcome, HasConsistentState};
 ghost use Rattle.client_core.specs.Manifests.{link_refusal, where_fits, manifest_of};
 ghost use Rattle.client_core.specs.Steps.{setting_manifest};
 
 use crate::answer::Answer;
-use crate::client::Client;
+use crate::asked::Asked;
 use crate::faults::StepFault;
 use crate::linked_manifest::LinkedManifest;
-use crate::prepared::Prepared;
 use crate::session::SessionChange;
 use fml_link::{LinkFault, LinkRefusal, link};
 use fml_merge::{DefaultFault, check_defaults};
@@ -20,41 +21,26 @@ use host_model::Shelf;
 use sequences::Text;
 use std::alloc::{AllocError, Global};
 
-impl Client {
-    ghost use Rattle.client_core.specs.Prepared.{IsMadeOn, Prepares};
-
-    /// The step of `manifest`.
-    pub(crate) fn setting_manifest<F: Shelf>(
-        &self,
-        alloc: Global,
-        shelf: &mut F,
-        file: &Text,
-        channel: &Text,
-    ) -> Result<Prepared, StepFault>
-        requires { IsSound self.now.state }
-        ensures made { IfOk result (λ prepared. IsMadeOn self.now prepared) }
-        ensures prepares { F.tells → Prepares self.now (setting_manifest self.now.state self.now.session (manifest_of (F.file shelf.old) file.now channel.now)) result }
-        ensures files { F.tells → (name : List ℕ) → F.file shelf.new name ≡ F.file shelf.old name }
-        ensures cause { IsErrOf result StepFault.ShelfFault → Rose (F.faults shelf.old) (F.faults shelf.new) }
-        ensures faults { F.faults shelf.old ≤ F.faults shelf.new }
-    {
-        match read_manifest(alloc, shelf, file, channel)? {
-            Ok(manifest) => Ok(self.with_manifest(manifest)),
-            Err(refusal) => Ok(self.unchanged(refusal)),
-        }
-    }
-
-    /// The step of `manifest` with the manifest of its files.
-    fn with_manifest(&self, manifest: LinkedManifest) -> Prepared
-        requires { IsSound self.now.state }
-        ensures made { IsMadeOn self.now result }
-        ensures prepares { Prepares self.now (setting_manifest self.now.state self.now.session (Ok manifest)) (Ok result) }
-    {
-        Prepared {
-            change: None,
-            session: SessionChange::Manifest(manifest),
+/// What `manifest` asks for.
+pub(crate) fn setting_manifest<F: Shelf>(
+    alloc: Global,
+    shelf: &mut F,
+    file: &Text,
+    channel: &Text,
+) -> Result<Asked, StepFault>
+    ensures asks { F.tells → IfOk result (λ asked. (s : State) (session : Session)
+        → asked_outcome s session asked ≡ setting_manifest s session (manifest_of (F.file shelf.old) file.now channel.now)) }
+    ensures consistent { IfOk result HasConsistentState }
+    ensures files { F.tells → (name : List ℕ) → F.file shelf.new name ≡ F.file shelf.old name }
+    ensures cause { IsErrOf result StepFault.ShelfFault → Rose (F.faults shelf.old) (F.faults shelf.new) }
+    ensures faults { F.faults shelf.old ≤ F.faults shelf.new }
+{
+    match read_manifest(alloc, shelf, file, channel)? {
+        Ok(manifest) => Ok(Asked::SameState {
+            change: SessionChange::Manifest(manifest),
             answer: Answer::Okay,
-        }
+        }),
+        Err(refusal) => Ok(Asked::Refused(refusal)),
     }
 }
 
@@ -70,7 +56,6 @@ fn read_manifest<F: Shelf>(
     ensures files { F.tells → (other : List ℕ) → F.file shelf.new other ≡ F.file shelf.old other }
     ensures cause { IsErrOf result StepFault.ShelfFault → Rose (F.faults shelf.old) (F.faults shelf.new) }
     ensures faults { F.faults shelf.old ≤ F.faults shelf.new }
-    ensures not_full { ¬ IsErrOf result StepFault.StoreFull }
 {
     match link(alloc, shelf, name.as_str(), channel.as_str()) {
         Ok(manifest) => Ok(checked(alloc, manifest)?),

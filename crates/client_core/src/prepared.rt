@@ -4,16 +4,16 @@ ghost use Rattle.std.specs.Prelude.{◌≡◌};
 use crate::answer::Answer;
 use crate::session::SessionChange;
 use enrol_states::State;
-use gate_journal::Frame;
+use row_store::Ready;
 
-/// A new state, and the record of its spelling.
+/// A new state, and the changed rows, ready to be committed.
 #[derive(Drop)]
 pub struct Change {
     pub(crate) state: State,
-    pub(crate) frame: Frame,
+    pub(crate) ready: Ready,
 }
 
-/// What a command leaves, and its answer. Where the state changes it holds the new one with its record.
+/// What a command leaves, and its answer. Where the state changes it holds the new one with the changed rows.
 #[derive(Drop)]
 pub struct Prepared {
     pub(crate) change: Option<Change>,

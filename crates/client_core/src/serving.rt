@@ -1,39 +1,38 @@
 // What a feature has.
-ghost use Rattle.std.specs.Prelude.{◌≡◌, IfOk, IsErrOf};
-ghost use Rattle.state_codec.specs.Sound.{IsSound};
+ghost use Rattle.std.specs.Prelude.{◌≡◌, IfOk};
 ghost use Rattle.client_core.specs.declared.command.Command.TheVariants.{Feature};
+ghost use Rattle.client_core.specs.Asked.{asked_outcome, answer_for, HasConsistentState};
 ghost use Rattle.client_core.specs.ServedValues.{IsTyped};
 ghost use Rattle.client_core.specs.Steps.{serving};
 
 use crate::answer::Answer;
+use crate::asked::Asked;
 use crate::client::Client;
-use crate::faults::StepFault;
-use crate::prepared::Prepared;
 use feature_serving::{ServeFault, served};
 use fml_value::to_tree;
 use sequences::Text;
-use std::alloc::Global;
+use std::alloc::{AllocError, Global};
 
 impl Client {
-    ghost use Rattle.client_core.specs.Prepared.{Prepares};
+    ghost use Rattle.client_core.specs.Clients.{state_of, session_of};
 
-    /// The step of `feature`.
-    pub(crate) fn serving(&self, alloc: Global, name: &Text) -> Result<Prepared, StepFault>
-        requires { IsSound self.now.state }
-        ensures typed { IfOk result (λ prepared. IsTyped self.now.state self.now.session (Feature name.now) prepared.answer) }
-        ensures prepares { Prepares self.now (serving self.now.state self.now.session name.now self.now.session.manifest) result }
-        ensures not_shelf { ¬ IsErrOf result StepFault.ShelfFault }
+    /// What `feature` asks for.
+    pub(crate) fn serving(&self, alloc: Global, name: &Text) -> Result<Asked, AllocError>
+        ensures asks { IfOk result (λ asked. asked_outcome (state_of self.now) (session_of self.now) asked
+            ≡ serving (state_of self.now) (session_of self.now) name.now (session_of self.now).manifest) }
+        ensures consistent { IfOk result HasConsistentState }
+        ensures typed { IfOk result (λ asked. IsTyped (state_of self.now) (session_of self.now) (Feature name.now) (answer_for asked)) }
     {
         let Some(linked) = &self.session.manifest else {
-            return Ok(self.unchanged(Answer::NoManifest));
+            return Ok(Asked::Refused(Answer::NoManifest));
         };
-        match served(alloc, linked.manifest(), &self.state, name.as_str()) {
+        match served(alloc, linked.manifest(), self.state(), name.as_str()) {
             Ok(value) => {
                 let tree = to_tree(alloc, &value)?;
-                Ok(self.unchanged(Answer::Value(tree)))
+                Ok(Asked::same(Answer::Value(tree)))
             }
-            Err(ServeFault::UnknownFeature) => Ok(self.unchanged(Answer::UnknownFeature)),
-            Err(ServeFault::OutOfMemory) => Err(StepFault::OutOfMemory),
+            Err(ServeFault::UnknownFeature) => Ok(Asked::Refused(Answer::UnknownFeature)),
+            Err(ServeFault::OutOfMemory) => Err(AllocError),
         }
     }
 }

@@ -1,58 +1,81 @@
--- A record is appended.
-use Rattle.std.proofs.Common.{refl, ap, ◌∙◌}
-use Rattle.gate_journal.specs.OpenSide.{OpenSide}
-use Rattle.client_core.proofs.Holding.{appending_met, holds_appended, keeps_left, gate_appended, all_kept, all_stand, settled}
+-- A change is written.
+use Rattle.std.proofs.Common.{◌∙◌, refl, ap, arith}
+use Rattle.std.proofs.lemmas.Result.{err_from_is_err_and}
+use Rattle.host_model.specs.declared.side.Side.TheVariants.{Left, Right}
+use Rattle.state_codec.specs.Spelling.{rows_of}
+use Rattle.client_core.proofs.Holding.{rows_settled, rows_stand, rows_kept, ungated, while_written}
+use Rattle.client_core.proofs.Placing.{change_bytes, change_place, change_checkpoint}
 use Rattle.client_core.proofs.client.Client.write.Goals as goal
 
-pub returns-in-Ok-clause-any_moment : goal.returns-in-Ok-clause-any_moment
-returns-in-Ok-clause-any_moment g c tells gate =
-    let h = g.H.Host in
-    let old = c.args.self.now in
-    let holds = c.requires.holds tells in
-    appending_met h old.journal c.args.host.now c.args.change.frame old.state c.args.change.state holds c.requires.change.1 c.requires.change.2 c.append.new.host
-    (c.append.ensures.any_moment tells holds.payloads (keeps_left h old.journal c.args.host.now old.state holds gate))
+pub returns-clause-any_moment : goal.returns-clause-any_moment
+returns-clause-any_moment g c tells gate =
+    while_written g.H.Host c.args.host.now c.commit.new.host c.args.self.now.store.state c.args.change.state c.commit.ensures.was.sound c.requires.change.sound (c.commit.ensures.any_moment tells gate)
 
-pub returns-in-Err-DiskFault-clause-any_moment : goal.returns-in-Err-DiskFault-clause-any_moment
-returns-in-Err-DiskFault-clause-any_moment g c tells gate =
-    let h = g.H.Host in
-    let old = c.args.self.now in
-    let holds = c.requires.holds tells in
-    appending_met h old.journal c.args.host.now c.args.change.frame old.state c.args.change.state holds c.requires.change.1 c.requires.change.2 c.append.new.host
-    (c.append.ensures.any_moment tells holds.payloads (keeps_left h old.journal c.args.host.now old.state holds gate))
+pub returns-in_err-commit-clause-any_moment : goal.returns-in_err-commit-clause-any_moment
+returns-in_err-commit-clause-any_moment g c tells gate =
+    while_written g.H.Host c.args.host.now c.commit.new.host c.args.self.now.store.state c.args.change.state c.commit.ensures.was.sound c.requires.change.sound (c.commit.ensures.any_moment tells gate)
 
-pub returns-in-Ok-clause-kept_either : goal.returns-in-Ok-clause-kept_either
-returns-in-Ok-clause-kept_either g c tells gate l r left right =
+pub returns-clause-kept_either : goal.returns-clause-kept_either
+returns-clause-kept_either g c tells gate l r left right =
     let h = g.H.Host in
-    let new = c.append.new.host in
-    let run = returns-in-Ok-clause-any_moment g c tells gate in
+    let new = c.commit.new.host in
+    let run = returns-clause-any_moment g c tells gate in
     (run.each l r (h.said new) (g.met.H.Host.counts_now new (h.moment c.args.host.now) l r (h.said new) tells run.later (left, right, refl))).0
 
-pub returns-in-Err-DiskFault-clause-kept_either : goal.returns-in-Err-DiskFault-clause-kept_either
-returns-in-Err-DiskFault-clause-kept_either g c tells gate l r left right =
+pub returns-in_err-commit-clause-kept_either : goal.returns-in_err-commit-clause-kept_either
+returns-in_err-commit-clause-kept_either g c tells gate l r left right =
     let h = g.H.Host in
-    let new = c.append.new.host in
-    let run = returns-in-Err-DiskFault-clause-any_moment g c tells gate in
+    let new = c.commit.new.host in
+    let run = returns-in_err-commit-clause-any_moment g c tells gate in
     (run.each l r (h.said new) (g.met.H.Host.counts_now new (h.moment c.args.host.now) l r (h.said new) tells run.later (left, right, refl))).0
 
-pub returns-in-Ok-clause-holds : goal.returns-in-Ok-clause-holds
-returns-in-Ok-clause-holds g c tells =
+pub returns-clause-text : goal.returns-clause-text
+returns-clause-text g c tells =
     let h = g.H.Host in
-    let old = c.args.self.now in
-    let holds = c.requires.holds tells in
-    holds_appended h old.journal c.args.host.now c.args.change.frame old.state c.args.change.state holds c.requires.change.1 c.requires.change.2 c.append.new.self c.append.new.host
-    (ap (λ (j : OpenSide). j.side) c.in-Ok.ensures.place) (c.in-Ok.ensures.acknowledged tells holds.payloads holds.stands) (c.append.ensures.rest tells)
+    let new = c.commit.new.host in
+    let run = c.commit.ensures.below tells in
+    (run.each (h.reads new Left) (h.reads new Right) (h.said new) (g.met.H.Host.counts_now new (h.moment c.args.host.now) (h.reads new Left) (h.reads new Right) (h.said new) tells run.later (g.met.H.Host.read_is_image new Left tells, g.met.H.Host.read_is_image new Right tells, refl))).1
 
-pub returns-in-Ok-clause-gate : goal.returns-in-Ok-clause-gate
-returns-in-Ok-clause-gate g c tells =
+pub returns-in_err-commit-clause-text : goal.returns-in_err-commit-clause-text
+returns-in_err-commit-clause-text g c tells =
     let h = g.H.Host in
-    let holds = c.requires.holds tells in
-    gate_appended h c.append.new.self c.append.new.host _ (ap (λ (j : OpenSide). j.side) c.in-Ok.ensures.place ∙ holds.side) (c.in-Ok.ensures.acknowledged tells holds.payloads holds.stands)
+    let new = c.commit.new.host in
+    let run = c.commit.ensures.below tells in
+    (run.each (h.reads new Left) (h.reads new Right) (h.said new) (g.met.H.Host.counts_now new (h.moment c.args.host.now) (h.reads new Left) (h.reads new Right) (h.said new) tells run.later (g.met.H.Host.read_is_image new Left tells, g.met.H.Host.read_is_image new Right tells, refl))).1
 
-pub returns-in-Ok-clause-stands : goal.returns-in-Ok-clause-stands
-returns-in-Ok-clause-stands g c tells = all_stand g.H.Host c.append.new.self c.append.new.host c.args.change.state (returns-in-Ok-clause-holds g c tells)
+pub returns-clause-holds : goal.returns-clause-holds
+returns-clause-holds g c tells = record { stored = c.commit.ensures.stored; stands = ungated g.H.Host c.commit.new.self.rows c.commit.new.host (c.in_ok-commit.ensures.acknowledged tells) }
 
-pub returns-in-Ok-clause-kept : goal.returns-in-Ok-clause-kept
-returns-in-Ok-clause-kept g c tells = all_kept g.H.Host c.append.new.self c.append.new.host c.args.change.state (returns-in-Ok-clause-holds g c tells) (returns-in-Ok-clause-gate g c tells)
+pub returns-clause-settled : goal.returns-clause-settled
+returns-clause-settled g c tells = rows_settled g.H.Host c.commit.new.self.rows c.commit.new.host (ungated g.H.Host c.commit.new.self.rows c.commit.new.host (c.in_ok-commit.ensures.acknowledged tells))
 
-pub returns-in-Ok-clause-settled : goal.returns-in-Ok-clause-settled
-returns-in-Ok-clause-settled g c tells = settled g.H.Host c.append.new.self c.append.new.host c.args.change.state (returns-in-Ok-clause-holds g c tells)
+pub returns-clause-stands : goal.returns-clause-stands
+returns-clause-stands g c tells =
+    rows_stand g.H.Host c.commit.new.self.rows c.commit.new.host c.args.change.state c.requires.change.sound (c.commit.ensures.stored.same ∙ ap rows_of c.in_ok-commit.ensures.state)
+    (ungated g.H.Host c.commit.new.self.rows c.commit.new.host (c.in_ok-commit.ensures.acknowledged tells))
+
+pub returns-clause-kept : goal.returns-clause-kept
+returns-clause-kept g c tells =
+    rows_kept g.H.Host c.commit.new.self.rows c.commit.new.host c.args.change.state c.requires.change.sound (c.commit.ensures.stored.same ∙ ap rows_of c.in_ok-commit.ensures.state) (c.in_ok-commit.ensures.acknowledged tells)
+
+pub returns-clause-cost : goal.returns-clause-cost
+returns-clause-cost g c tells =
+    let cost = c.in_ok-commit.ensures.cost tells in
+    let bytes = change_bytes c.args.self.now.store c.args.change c.commit.ensures.was c.requires.change in
+    record { exact = omega (arith, cost.exact, bytes); least = cost.least; most = omega (arith, cost.most, bytes) }
+
+pub returns-in_err-commit-clause-cost : goal.returns-in_err-commit-clause-cost
+returns-in_err-commit-clause-cost g c tells =
+    let cost = c.commit.ensures.cost tells in
+    let bytes = change_bytes c.args.self.now.store c.args.change c.commit.ensures.was c.requires.change in
+    let p = err_from_is_err_and c.from_residual.result c.from_residual.ensures.1 in
+    rw p.1 (record { exact = tt; least = cost.least; most = omega (arith, cost.most, bytes) })
+
+pub returns-clause-place : goal.returns-clause-place
+returns-clause-place g c = c.in_ok-commit.ensures.place ∙ change_place c.args.self.now.store c.args.change c.commit.ensures.was c.requires.change
+
+pub returns-clause-checkpoint : goal.returns-clause-checkpoint
+returns-clause-checkpoint g c = change_checkpoint c.args.self.now.store c.args.change c.commit.ensures.was c.requires.change
+
+pub returns-in_err-commit-clause-checkpoint : goal.returns-in_err-commit-clause-checkpoint
+returns-in_err-commit-clause-checkpoint g c = change_checkpoint c.args.self.now.store c.args.change c.commit.ensures.was c.requires.change

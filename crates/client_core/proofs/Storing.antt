@@ -1,0 +1,97 @@
+-- The rows of a state are those of its store, before and after a change.
+use Rattle.std.proofs.Common.{◌≡◌, ℕ, Bool, true, false, List, [], ◌∷◌, length, arith, refl, sym, ap, ◌∙◌, subst, Result, Ok, Err, IfOk}
+use Rattle.std.specs.Prelude.{◌==◌, IsErrOf, if◌then◌else◌}
+use Rattle.std.specs.Cmp.{unsigned_Decides}
+use Rattle.host_model.specs.declared.host.Host.{Ghosts}
+use Rattle.host_model.specs.Hosts.{MeetsAll}
+use Rattle.pair_store.specs.declared.faults.PairFault.{PairFault}
+use Rattle.pair_store.specs.declared.faults.PairFault.TheVariants as rows_opening
+use Rattle.row_batches.specs.Batch.{ChangeList, applied}
+use Rattle.row_batches.specs.Rows.{after_changes}
+use Rattle.row_batches.specs.declared.change.RowChange.{RowChange}
+use Rattle.row_batches.specs.declared.store_row.StoreRow.{StoreRow}
+use Rattle.row_batches.proofs.Walks.{empty_between}
+use Rattle.row_store.specs.Moments.{KeepsEitherRows}
+use Rattle.row_store.specs.Rows.{HasRows, HasKeptRows, HasPlace}
+use Rattle.row_store.specs.Store.{StoredRows, RowsStandWithGate, place}
+use Rattle.enrol_states.specs.declared.state.State.{State}
+use Rattle.state_codec.specs.Sound.{IsSound}
+use Rattle.state_codec.specs.Spelling.{rows_of}
+use Rattle.state_codec.proofs.KeyOrder.{rows_rise}
+use Rattle.client_core.specs.declared.faults.ClientFault.{ClientFault}
+use Rattle.client_core.specs.declared.faults.ClientFault.TheVariants as opening
+use Rattle.client_core.specs.declared.prepared.Change.{Change}
+use Rattle.client_core.specs.Faults.{opening_fault}
+use Rattle.client_core.specs.Places.{row_changes}
+use Rattle.client_core.specs.Prepared.{IsChangeOf}
+use Rattle.client_core.specs.Store.{StandsFor, KeptFor}
+use Rattle.client_core.specs.Stored.{StoredState, IsStored}
+use Rattle.client_core.proofs.Placing.{change_gives}
+use Rattle.client_core.proofs.Uniqueness.{one_of_rows}
+
+-- what is read of rows stands for its state
+pub stands_in : (l r : List ℕ) (rows : List StoreRow) (result : Result StoredState ClientFault) → IfOk result (λ store. IsSound store.state × (rows ≡ rows_of store.state)) → HasRows l r rows → IfOk result (λ store. StandsFor l r store.state)
+stands_in l r rows (Ok store) is has = record { sound = is.0; rows = subst (HasRows l r) is.1 has }
+stands_in l r rows (Err fault) is has = tt
+
+-- what was kept still has its gate
+pub gate_in : {H : Type 0} (h : Ghosts H) (l r : List ℕ) (host : H) (rows : StoredRows) (result : Result StoredState ClientFault) → IfOk result (λ store. store.rows ≡ rows)
+    → ((others : List StoreRow) → HasKeptRows l r others → RowsStandWithGate h rows host) → IfOk result (λ store. (s : State) → KeptFor l r s → RowsStandWithGate h store.rows host)
+gate_in h l r host rows (Ok store) is gate = λ s kept. subst (λ (x : StoredRows). RowsStandWithGate h x host) (sym is) (gate (rows_of s) kept.rows)
+gate_in h l r host rows (Err fault) is gate = tt
+
+pub place_in : (l r : List ℕ) (rows : StoredRows) (result : Result StoredState ClientFault) → IfOk result (λ store. store.rows ≡ rows) → HasPlace l r (place rows) → IfOk result (λ store. HasPlace l r (place store.rows))
+place_in l r rows (Ok store) is has = subst (λ (x : StoredRows). HasPlace l r (place x)) (sym is) has
+place_in l r rows (Err fault) is has = tt
+
+-- which fault of the rows a damaged store is
+pub bad_fault : {T : Type 0} (fault : PairFault) (given : ClientFault) → given ≡ opening_fault fault → IsErrOf {T = T} (Err given) opening.BadStore → fault ≡ rows_opening.BadStore
+bad_fault rows_opening.NoStore given is bad = absurd cc
+bad_fault rows_opening.BadStore given is bad = refl
+bad_fault rows_opening.DiskFault given is bad = absurd cc
+bad_fault rows_opening.OutOfMemory given is bad = absurd cc
+
+no_items : (changes : List RowChange) → length changes ≡ 0 → changes ≡ []
+no_items [] is = refl
+no_items (c ∷ cs) is = absurd (omega (arith, is))
+
+-- a list without items, as a test has it
+pub empty_is : (changes shown : List RowChange) → shown ≡ changes → (length shown == 0) ≡ true → changes ≡ []
+empty_is changes shown same is = no_items changes (ap (λ (cs : List RowChange). length cs) (sym same) ∙ (unsigned_Decides (length shown) 0).0 is)
+
+pub not_empty : (changes shown : List RowChange) → shown ≡ changes → (length shown == 0) ≡ false → changes ≡ [] → ⊥
+not_empty changes shown same is none =
+    let has : (length shown == 0) ≡ true = (unsigned_Decides (length shown) 0).1 (ap (λ (cs : List RowChange). length cs) (same ∙ none)) in
+    absurd cc
+
+-- a batch without changes leaves the rows
+none_applied : (batch : ChangeList) (rows : List StoreRow) → batch.clear ≡ false → batch.changes ≡ [] → applied batch rows ≡ rows
+none_applied batch rows keeps none =
+    ap (λ (cs : List RowChange). after_changes cs (if batch.clear then [] else rows)) none ∙ ap (λ (clear : Bool). if clear then [] else rows) keeps
+
+module _ (s t : State) (s_sound : IsSound s) (t_sound : IsSound t) (batch : ChangeList) (same : batch ≡ row_changes s t) where
+  -- where nothing changes, the states are one
+  pub same_state : applied batch (rows_of s) ≡ rows_of t → batch.changes ≡ [] → s ≡ t
+  same_state gives none = one_of_rows s t s_sound t_sound (sym (none_applied batch (rows_of s) (ap (λ (b : ChangeList). b.clear) same) none) ∙ gives)
+
+  -- and the other way round
+  pub no_changes : s ≡ t → batch.changes ≡ []
+  no_changes is = ap (λ (b : ChangeList). b.changes) same ∙ (empty_between (rows_of s) (rows_of t) (rows_rise s s_sound.consistent) (rows_rise t t_sound.consistent)).1 (ap rows_of is)
+
+-- ---- a commit, where the store was opened as `inside`
+
+module _ (inside now : StoredState) (view : inside ≡ now) (kept : IsStored inside) (change : Change) (is : IsChangeOf now change) where
+  rows_after : applied change.ready.batch inside.rows.rows ≡ rows_of change.state
+  rows_after = change_gives inside change kept (subst (λ (x : StoredState). IsChangeOf x change) (sym view) is)
+
+  pub stored_after : (new : StoredRows) → new.rows ≡ applied change.ready.batch inside.rows.rows → IsStored (record { rows = new; state = change.state })
+  stored_after new made = record { sound = is.sound; same = made ∙ rows_after }
+
+  module _ {H : Type 0} (h : Ghosts H) (old new : H) where
+    pub met_as_states : (RowsStandWithGate h inside.rows old → MeetsAll h old new (KeepsEitherRows h old inside.rows.rows (applied change.ready.batch inside.rows.rows)))
+        → RowsStandWithGate h now.rows old → MeetsAll h old new (KeepsEitherRows h old (rows_of now.state) (rows_of change.state))
+    met_as_states run gated =
+        let met = run (subst (λ (x : StoredState). RowsStandWithGate h x.rows old) (sym view) gated) in
+        let before : inside.rows.rows ≡ rows_of now.state = kept.same ∙ ap (λ (x : StoredState). rows_of x.state) view in
+        subst (λ (rows : List StoreRow). MeetsAll h old new (KeepsEitherRows h old rows (rows_of change.state))) before
+        (subst (λ (rows : List StoreRow). MeetsAll h old new (KeepsEitherRows h old inside.rows.rows rows)) rows_after met)

@@ -1,0 +1,22 @@
+-- How contracts see a state and the store that holds it.
+use Rattle.std.specs.Prelude.{◌≡◌}
+use Rattle.row_store.specs.Store.{StoredRows}
+use Rattle.enrol_states.specs.declared.state.State.{State}
+use Rattle.state_codec.specs.Sound.{IsSound}
+use Rattle.state_codec.specs.Spelling.{rows_of}
+
+-- the rows that are stored, and the state whose rows they are
+pub record StoredState : Type 0 where
+  pub rows : StoredRows
+  pub state : State
+
+-- what each keeps: the state is sound, and these are its rows
+pub record IsStored (stored : StoredState) : Type 0 where
+  pub sound : IsSound stored.state
+  pub same : stored.rows.rows ≡ rows_of stored.state
+
+-- the same rows at the same place, and the same state; there may be room for more rows
+pub record IsSameStored (old new : StoredState) : Type 0 where
+  pub records : new.rows.records ≡ old.rows.records
+  pub rows : new.rows.rows ≡ old.rows.rows
+  pub state : new.state ≡ old.state
