@@ -37,7 +37,6 @@ exit status:
    4 NoStore             there is no store in the current folder
    5 AlreadyStore        there is a store already
    6 BadStore            the files of the store stand for no state
-   7 StoreFull           the store has no room for a further record
    8 SourceFault         standard input failed
    9 ShelfFault          a file that a command names failed
   10 DiskFault           a file of the store failed

@@ -1,9 +1,10 @@
 -- What was run is the script of a drill over its files.
-use Rattle.std.proofs.Common.{◌≡◌, ℕ, List, [], ◌∷◌, sym, ◌∙◌, ap, subst}
+use Rattle.std.proofs.Common.{◌≡◌, inl, inr, ℕ, List, [], ◌∷◌, ◌∙◌, ap, subst}
 use Rattle.host_model.specs.declared.side.Side.{Side}
 use Rattle.host_model.specs.declared.host.Host.{Ghosts}
 use Rattle.host_model.specs.Hosts.{MeetsAll}
 use Rattle.host_model.specs.Moments.{IsSaying, KeepsSide}
+use Rattle.host_model.proofs.Meeting.{met_weaker}
 use Rattle.enrol_states.specs.declared.state.State.{State}
 use Rattle.recipe_drill.specs.declared.drill.Drill.{Drill}
 use Rattle.recipe_drill.specs.Parts.{Parts, parts_of, drill}
@@ -12,12 +13,14 @@ use Rattle.client_core.specs.Settings.{Setting}
 use Rattle.client_words.specs.Commands.{lines_of}
 use Rattle.session_run.specs.declared.status.RunStatus.{RunStatus}
 use Rattle.session_run.specs.declared.status.RunStatus.TheVariants.{Done, ScriptTooLong, SourceFault, ShelfFault}
-use Rattle.session_run.specs.Drills.{file_among, drill_fresh, drill_setting, drill_lines, drill_summary, last_state, AfterReady}
+use Rattle.session_run.specs.Drills.{file_among, drill_fresh, drill_setting, drill_lines, drill_start, drill_summary, AfterReady}
 use Rattle.session_run.specs.DrillEnds.{SummaryEnds, ScriptEnds}
 use Rattle.session_run.specs.Ends.{EndsWhole, RunEnds}
-use Rattle.session_run.specs.Moments.{AmongThenAfter}
-use Rattle.session_run.specs.Places.{IsFullAtLine}
+use Rattle.session_run.specs.Moments.{AfterPrefix}
+use Rattle.session_run.specs.Starts.{Start, last_state}
 use Rattle.session_run.proofs.Drilling.{lines_met, lines_end, summary_met, summary_ends}
+use Rattle.session_run.proofs.Running.{elsewhere}
+use Rattle.session_run.proofs.Starting.{begin}
 
 -- the files of these parts, and this moment
 abbrev pub setting_with : Parts → ℕ → Setting
@@ -32,50 +35,51 @@ module _ (d : Drill) (start count : ℕ) (is : parts_of d ≡ drill start count)
   unfolding drill_lines
   lines_are text same = ap lines_of same ∙ ap (λ (p : Parts). lines_of p.script) is
 
-module _ {H : Type 0} (h : Ghosts H) (start count now : ℕ) (at : Setting) (lines : List (List ℕ)) (at_is : at ≡ drill_setting start count now) (same : lines ≡ drill_lines) where
-  -- what is said of these is said of the drill's
-  of_drill : (P : Setting → List (List ℕ) → Type 0) → P at lines → P (drill_setting start count now) drill_lines
-  of_drill P has = subst (λ (l : List (List ℕ)). P (drill_setting start count now) l) same (subst (λ (a : Setting). P a lines) at_is has)
+module _ {H : Type 0} (h : Ghosts H) (start count now : ℕ) (at : Setting) (lines : List (List ℕ)) (at_is : at ≡ drill_setting start count now) (same : lines ≡ drill_lines) (old : H) where
+  module _ (place written : ℕ) where
+    -- what these lines begin with
+    abbrev pub here : Start
+    here = begin at (drill_fresh now) place lines (h.said old) written
 
-  from_drill : (P : Setting → List (List ℕ) → Type 0) → P (drill_setting start count now) drill_lines → P at lines
-  from_drill P has = subst (λ (a : Setting). P a lines) (sym at_is) (subst (λ (l : List (List ℕ)). P (drill_setting start count now) l) (sym same) has)
+    -- is what a drill's begin with
+    abbrev pub there : Start
+    there = drill_start start count now place (h.said old) written
 
-  pub full_there : (place k : ℕ) → IsFullAtLine at place (drill_fresh now) lines k → IsFullAtLine (drill_setting start count now) place (drill_fresh now) drill_lines k
-  full_there place k full = of_drill (λ a l. IsFullAtLine a place (drill_fresh now) l k) full
+    here_is : here ≡ there
+    here_is =
+        ap (λ (a : Setting). begin a (drill_fresh now) place lines (h.said old) written) at_is
+        ∙ ap (λ (l : List (List ℕ)). begin (drill_setting start count now) (drill_fresh now) place l (h.said old) written) same
 
-  pub full_here : (place k : ℕ) → IsFullAtLine (drill_setting start count now) place (drill_fresh now) drill_lines k → IsFullAtLine at place (drill_fresh now) lines k
-  full_here place k full = from_drill (λ a l. IsFullAtLine a place (drill_fresh now) l k) full
+    pub unsaid_ends : (mid : H) (status : RunStatus) → RunEnds h (drill_fresh now ∷ []) here mid status → (status ≡ Done → ⊥) → (status ≡ ScriptTooLong → ⊥) → (status ≡ SourceFault → ⊥) → (status ≡ ShelfFault → ⊥)
+        → ScriptEnds h there (drill_summary start count now) mid status
+    unsaid_ends mid status ends not_done short source shelf =
+        lines_end h there (drill_summary start count now) old mid status (subst (λ (s : Start). RunEnds h (drill_fresh now ∷ []) s mid status) here_is ends) not_done short source shelf
 
-  module _ (old mid : H) where
-    among : MeetsAll h old mid (AmongThenAfter (drill_fresh now ∷ []) at (drill_fresh now) lines (h.said old)) → MeetsAll h old mid (AmongThenAfter (drill_fresh now ∷ []) (drill_setting start count now) (drill_fresh now) drill_lines (h.said old))
-    among run = of_drill (λ a l. MeetsAll h old mid (AmongThenAfter (drill_fresh now ∷ []) a (drill_fresh now) l (h.said old))) run
+    -- all lines are done and answered, and the summary of their last state is said
+    module _ (mid new : H) (last : State) (last_is : last ≡ last_state here) (all : EndsWhole h here mid) where
+      pub summary_is : counts.summary start count last ≡ drill_summary start count now
+      summary_is = ap (counts.summary start count) (last_is ∙ ap last_state here_is)
 
-    ended : (status : RunStatus) → RunEnds h (drill_fresh now ∷ []) at (drill_fresh now) lines (h.said old) mid status → RunEnds h (drill_fresh now ∷ []) (drill_setting start count now) (drill_fresh now) drill_lines (h.said old) mid status
-    ended status ends = of_drill (λ a l. RunEnds h (drill_fresh now ∷ []) a (drill_fresh now) l (h.said old) mid status) ends
+      pub whole : EndsWhole h there mid
+      whole = subst (λ (s : Start). EndsWhole h s mid) here_is all
 
-    -- not all lines are done and answered
-    pub unsaid_met : MeetsAll h old mid (AmongThenAfter (drill_fresh now ∷ []) at (drill_fresh now) lines (h.said old))
-        → MeetsAll h old mid (AfterReady (drill_setting start count now) (drill_fresh now) drill_lines (drill_summary start count now) (h.said old))
-    unsaid_met run = lines_met h (drill_setting start count now) (drill_fresh now) drill_lines (drill_summary start count now) old mid (among run)
+      pub said_ends : ((side : Side) → KeepsSide h.reads h.images side mid new) → h.written new ≡ h.written mid → (status : RunStatus) → SummaryEnds (h.said mid) (counts.summary start count last) (h.said new) status → ScriptEnds h there (drill_summary start count now) new status
+      said_ends still count_same status ends =
+          summary_ends h there (drill_summary start count now) old mid new whole still count_same status
+          (subst (λ (text : List ℕ). SummaryEnds (h.said mid) text (h.said new) status) summary_is ends)
 
-    pub unsaid_ends : (status : RunStatus) → RunEnds h (drill_fresh now ∷ []) at (drill_fresh now) lines (h.said old) mid status → (status ≡ Done → ⊥) → (status ≡ ScriptTooLong → ⊥) → (status ≡ SourceFault → ⊥) → (status ≡ ShelfFault → ⊥)
-        → ScriptEnds h (drill_setting start count now) (drill_fresh now) drill_lines (drill_summary start count now) (h.said old) mid status
-    unsaid_ends status ends not_done short source shelf =
-        lines_end h (drill_setting start count now) (drill_fresh now) drill_lines (drill_summary start count now) old mid status (ended status ends) not_done short source shelf
-
-    -- all lines are, and the summary of their last state is said
-    module _ (new : H) (last : State) (last_is : last ≡ last_state at (drill_fresh now) lines) (whole : EndsWhole h at (drill_fresh now) lines (h.said old) mid) where
-      summary_is : counts.summary start count last ≡ drill_summary start count now
-      summary_is = ap (counts.summary start count) (of_drill (λ a l. last ≡ last_state a (drill_fresh now) l) last_is)
-
-      pub said_met : MeetsAll h old mid (AmongThenAfter (drill_fresh now ∷ []) at (drill_fresh now) lines (h.said old)) → MeetsAll h mid new (IsSaying (h.images mid) (h.said mid) (counts.summary start count last))
-          → MeetsAll h old new (AfterReady (drill_setting start count now) (drill_fresh now) drill_lines (drill_summary start count now) (h.said old))
-      said_met first second =
-          summary_met h (drill_setting start count now) (drill_fresh now) drill_lines (drill_summary start count now) old mid new (ended Done whole) (among first)
+      pub said_met : MeetsAll h old mid (AfterPrefix here) → MeetsAll h mid new (IsSaying (h.images mid) (h.said mid) (counts.summary start count last)) → MeetsAll h old new (AfterReady there (drill_summary start count now))
+      said_met run second =
+          summary_met h there (drill_summary start count now) old mid new whole (subst (λ (s : Start). MeetsAll h old mid (AfterPrefix s)) here_is run)
           (subst (λ (text : List ℕ). MeetsAll h mid new (IsSaying (h.images mid) (h.said mid) text)) summary_is second)
 
-      pub said_ends : ((side : Side) → KeepsSide h.reads h.images side mid new) → (status : RunStatus) → SummaryEnds (h.said mid) (counts.summary start count last) (h.said new) status
-          → ScriptEnds h (drill_setting start count now) (drill_fresh now) drill_lines (drill_summary start count now) (h.said old) new status
-      said_ends still status ends =
-          summary_ends h (drill_setting start count now) (drill_fresh now) drill_lines (drill_summary start count now) old mid new (ended Done whole) still status
-          (subst (λ (text : List ℕ). SummaryEnds (h.said mid) text (h.said new) status) summary_is ends)
+    -- not all lines are
+    pub unsaid_met : (mid : H) → MeetsAll h old mid (AfterPrefix here) → MeetsAll h old mid (AfterReady there (drill_summary start count now))
+    unsaid_met mid run = lines_met h there (drill_summary start count now) old mid (subst (λ (s : Start). MeetsAll h old mid (AfterPrefix s)) here_is run)
+
+    -- where its records begin is not met
+    pub ready_elsewhere : (new : H) → MeetsAll h old new (AfterReady there (drill_summary start count now)) → MeetsAll h old new (AfterReady (drill_start start count now 0 (h.said old) 0) (drill_summary start count now))
+    ready_elsewhere new run = met_weaker h.moment h.might old new _ (AfterReady (drill_start start count now 0 (h.said old) 0) (drill_summary start count now)) run (λ l r u met. elim met [
+      | inl lines_ran ↦ inl (elsewhere (drill_setting start count now) (drill_fresh now) drill_lines (h.said old) place written 0 0 l r u lines_ran)
+      | inr summary ↦ inr (record { kept = summary.kept; n = summary.n; text = summary.text })
+    ])

@@ -1,5 +1,6 @@
 -- What stands when a line, the lines of a run or a run has ended.
-use Rattle.std.proofs.Common.{◌≡◌, inl, inr, ℕ, ◌<◌, ◌+◌, List, [], ◌∷◌, ◌++◌, length, take, drop, sym, ◌∙◌, ap, subst, Result, Ok, Err, IsErrAnd}
+use Rattle.std.proofs.Common.{◌≡◌, inl, inr, ℕ, ◌<◌, ◌≤◌, ◌+◌, List, [], ◌∷◌, ◌++◌, length, take, drop, refl, sym, ◌∙◌, ap, subst, Some, Result, Ok, Err, IsErrAnd}
+use Rattle.std.specs.Prelude.{slice_get}
 use Rattle.host_model.specs.declared.host.Host.{Ghosts}
 use Rattle.enrol_states.specs.declared.state.State.{State}
 use Rattle.client_core.specs.OpenStore.{AllKept, AllKeptEither}
@@ -8,12 +9,17 @@ use Rattle.session_run.specs.declared.faults.RunFault.{RunFault}
 use Rattle.session_run.specs.declared.faults.RunFault.TheVariants as run
 use Rattle.session_run.specs.declared.script.ScriptFault.{ScriptFault}
 use Rattle.session_run.specs.declared.script.ScriptFault.TheVariants as script
+use Rattle.session_run.specs.declared.status.RunStatus.{RunStatus}
 use Rattle.session_run.specs.declared.status.RunStatus.TheVariants.{Done}
 use Rattle.session_run.specs.Statuses.{of_run, of_script}
-use Rattle.session_run.specs.Steps.{RunState, run_after, answer, run_at, after, out}
-use Rattle.session_run.specs.Ends.{LineEnds, LinesEnd, RunEnds, StaysAmong}
-use Rattle.session_run.specs.Values.{AreTyped, IsAnswered}
+use Rattle.session_run.specs.Places.{all_bytes}
+use Rattle.session_run.specs.Steps.{RunState, begun, run_after, answer, run_at, after, out}
+use Rattle.session_run.specs.Ends.{LineEnds, EndsBefore, LinesEnd, RunEnds, StaysAmong}
+use Rattle.session_run.specs.Files.{NamesFile}
+use Rattle.session_run.specs.Finds.{EndedBefore}
+use Rattle.session_run.specs.Starts.{Start}
 use Rattle.session_run.proofs.Running.{after-more, part}
+use Rattle.session_run.proofs.Starting.{begin}
 
 -- an error that is known
 pub err_is : {T E : Type 0} (result : Result T E) (fault : E) → IsErrAnd result (λ f. f ≡ fault) → result ≡ Err fault
@@ -37,48 +43,54 @@ module _ {H : Type 0} (h : Ghosts H) (at : Setting) (s : State) (lines : List (L
   next_is : (run_after at now line).state ≡ after at s lines (i + 1)
   next_is = ap (λ (run : RunState). (run_after at run line).state) is ∙ sym (after-more at s lines i line within more)
 
+  abbrev before : (place written : ℕ) → h.written new ≤ written + all_bytes at place (begun s) (take (i + 1) lines) → AllKept h new now.state → h.said new ≡ h.said mid → EndsBefore h (begin at s place lines (h.said start) written) new
+  before place written most kept text = record { k = i; within = within; kept = subst (AllKept h new) now_is kept; text = text ∙ said; most = most }
+
   -- a line that isn't done and answered ends the run
-  pub line_ends : (fault : RunFault) → AreTyped at s lines i → (IsAnswered {T = Unit {0}} (Err fault) → AreTyped at s lines (i + 1))
-      → LineEnds {T = Unit {0}} h now.state (run_after at now line).state (answer at now line) (h.said mid) new (Err fault) → LinesEnd {T = Unit {0}} h at s lines (h.said start) new (Err fault)
-  line_ends run.StoreFull before typed ends = record { k = i; within = within; kept = subst (AllKept h new) now_is ends.0; text = ends.1 ∙ said; typed = before }
-  line_ends run.ShelfFault before typed ends = record { k = i; within = within; kept = subst (AllKept h new) now_is ends.0; text = ends.1 ∙ said; typed = before }
-  line_ends run.OutOfMemory before typed ends = record { k = i; within = within; kept = subst (AllKept h new) now_is ends.0; text = ends.1 ∙ said; typed = before }
-  line_ends run.DiskFault before typed ends = record {
+  pub line_ends : (place written : ℕ) (fault : RunFault) → h.written new ≤ written + all_bytes at place (begun s) (take (i + 1) lines) → slice_get lines i ≡ Some line → (fault ≡ run.ShelfFault → NamesFile line)
+      → LineEnds {T = Unit {0}} h now.state (run_after at now line).state (answer at now line) (h.said mid) new (Err fault) → LinesEnd {T = Unit {0}} h (begin at s place lines (h.said start) written) new (Err fault)
+  line_ends place written run.ShelfFault most there named ends = record { before = before place written most ends.0 ends.1; line = line; is_next = there; names = named refl }
+  line_ends place written run.OutOfMemory most there named ends = before place written most ends.0 ends.1
+  line_ends place written run.DiskFault most there named ends = record {
     k = i;
     within = within;
     kept = subst (λ (x : State). AllKeptEither h new x (after at s lines (i + 1))) now_is (subst (λ (x : State). AllKeptEither h new now.state x) next_is ends.0);
     text = ends.1 ∙ said;
-    typed = before;
+    most = most;
   }
-  line_ends run.SayFault before typed (kept, (n, text)) = record {
+  line_ends place written run.SayFault most there named (kept, (n, text)) = record {
     k = i;
     within = within;
     kept = subst (AllKept h new) next_is kept;
     part = take n (answer at (run_at at s lines i) line);
     rest = drop n (answer at (run_at at s lines i) line);
-    answers = part at s lines i line within more n;
+    both = part at s lines i line within more n;
     text = text ∙ ap (λ (u : List ℕ). u ++ take n (answer at now line)) said ∙ ap (λ (x : RunState). h.said start ++ out at s lines i ++ take n (answer at x line)) is;
-    typed = typed tt;
+    most = most;
   }
 
 -- lines that end a run
-pub run_ends : {H : Type 0} (h : Ghosts H) (states : List State) (at : Setting) (s : State) (lines : List (List ℕ)) (said : List ℕ) (new : H) (fault : RunFault)
-    → LinesEnd {T = Unit {0}} h at s lines said new (Err fault) → RunEnds h states at s lines said new (of_run fault)
-run_ends h states at s lines said new run.StoreFull ends = ends
-run_ends h states at s lines said new run.ShelfFault ends = ends
-run_ends h states at s lines said new run.OutOfMemory ends = inl ends
-run_ends h states at s lines said new run.DiskFault ends = inl ends
-run_ends h states at s lines said new run.SayFault ends = ends
+pub run_ends : {H : Type 0} (h : Ghosts H) (states : List State) (start : Start) (new : H) (fault : RunFault) → LinesEnd {T = Unit {0}} h start new (Err fault) → RunEnds h states start new (of_run fault)
+run_ends h states start new run.ShelfFault ends = ends
+run_ends h states start new run.OutOfMemory ends = inl ends
+run_ends h states start new run.DiskFault ends = inl ends
+run_ends h states start new run.SayFault ends = ends
 
--- a run without a script
-pub no_script_ends : {H : Type 0} (h : Ghosts H) (states : List State) (at : Setting) (s : State) (lines : List (List ℕ)) (said : List ℕ) (new : H) (fault : ScriptFault) → StaysAmong h states said new → RunEnds h states at s lines said new (of_script fault)
-no_script_ends h states at s lines said new script.TooLong stays = stays
-no_script_ends h states at s lines said new script.SourceFault stays = stays
-no_script_ends h states at s lines said new script.OutOfMemory stays = inr stays
+-- a run that ended before the pair was judged
+pub unbegun_ends : {H : Type 0} (h : Ghosts H) (states : List State) (start : Start) (new : H) (status : RunStatus) → EndedBefore status → StaysAmong h states start new → RunEnds h states start new status
+unbegun_ends h states start new status (inl is) stays = subst (RunEnds h states start new) (sym is) stays
+unbegun_ends h states start new status (inr (inl is)) stays = subst (RunEnds h states start new) (sym is) stays
+unbegun_ends h states start new status (inr (inr (inl is))) stays = subst (RunEnds h states start new) (sym is) (inr stays)
+unbegun_ends h states start new status (inr (inr (inr is))) stays = subst (RunEnds h states start new) (sym is) (inr stays)
+
+-- so does one without a script
+pub script_before : (fault : ScriptFault) → EndedBefore (of_script fault)
+script_before script.TooLong = inl refl
+script_before script.SourceFault = inr (inl refl)
+script_before script.OutOfMemory = inr (inr (inr refl))
 
 -- a fault is not the end of a run that did all
 pub never_done : (fault : RunFault) → of_run fault ≡ Done → ⊥
-never_done run.StoreFull is = absurd cc
 never_done run.ShelfFault is = absurd cc
 never_done run.OutOfMemory is = absurd cc
 never_done run.DiskFault is = absurd cc

@@ -1,20 +1,22 @@
 -- A line of a run, over the setting of its start.
-use Rattle.std.proofs.Common.{◌≡◌, ◌≢◌, ◌+◌, ℕ, ◌<◌, List, [], ◌∷◌, ◌++◌, append_assoc, below_more, length, take, sym, ap, ◌∙◌, subst, Err}
+use Rattle.std.proofs.Common.{◌≡◌, ◌≢◌, ◌+◌, ℕ, ◌<◌, ◌≤◌, List, [], ◌∷◌, ◌++◌, append_assoc, length, take, refl, sym, ap, ◌∙◌, subst, arith, Err}
 use Rattle.std.specs.Prelude.{slice_get, Some}
 use Rattle.host_model.specs.declared.host.Host.{Ghosts}
 use Rattle.host_model.specs.Hosts.{MeetsAll}
 use Rattle.enrol_states.specs.declared.state.State.{State}
-use Rattle.client_core.specs.Places.{place_after}
+use Rattle.client_core.specs.Places.{place_after, bytes_for}
 use Rattle.client_core.specs.Settings.{Setting}
 use Rattle.session_run.specs.declared.faults.RunFault.{RunFault}
+use Rattle.session_run.specs.declared.faults.RunFault.TheVariants.{ShelfFault}
 use Rattle.session_run.specs.Steps.{RunState, begun, run_after, answer, run_at, after, out}
 use Rattle.session_run.specs.Moments.{DuringLine, AfterPrefix}
-use Rattle.session_run.specs.Places.{all_places, IsFullAt, IsFullAtLine}
+use Rattle.session_run.specs.Places.{all_places, all_bytes}
 use Rattle.session_run.specs.Ends.{LineEnds, LinesEnd}
-use Rattle.session_run.specs.Values.{IsTypedLine, IsTypedAt, AreTyped, IsAnswered}
+use Rattle.session_run.specs.Files.{NamesFile}
 use Rattle.session_run.proofs.Ending.{line_ends}
-use Rattle.session_run.proofs.Placing.{some_same, all_places-push, full_at, fits_more}
+use Rattle.session_run.proofs.Placing.{all_places-push, all_bytes-push}
 use Rattle.session_run.proofs.Running.{out-more, run-more, lines_met}
+use Rattle.session_run.proofs.Starting.{begin}
 
 -- the setting at the line is that of the start
 module _ (at here : Setting) (same : here ≡ at) (s : State) (lines : List (List ℕ)) (i : ℕ) (line : List ℕ) (within : i < length lines) (more : take (i + 1) lines ≡ take i lines ++ line ∷ []) (now : RunState) (is : now ≡ run_at at s lines i) where
@@ -39,27 +41,30 @@ module _ (at here : Setting) (same : here ≡ at) (s : State) (lines : List (Lis
   changes_here next left changed same_state =
       changed (sym (ap (λ (x : RunState). x.state) is) ∙ same_state ∙ ap (λ (x : RunState). x.state) (state_more next left))
 
-  -- where a line more is answered a value, that has its type
-  pub typed_more : slice_get lines i ≡ Some line → AreTyped at s lines i → IsTypedLine here now line → AreTyped at s lines (i + 1)
-  typed_more there before typed k below other is_other =
-      below_more (IsTypedAt at s lines) i before
-      (λ next is_next. subst (IsTypedLine at (run_at at s lines i)) (some_same line next (sym there ∙ is_next)) (subst (λ (x : RunState). IsTypedLine at x line) is (subst (λ (x : Setting). IsTypedLine x now line) same typed)))
-      k below other is_other
+  -- the bytes of a line more
+  pub cost_more : (place before start written later : ℕ) → before ≡ all_places at place (begun s) (take i lines) → written ≡ start + all_bytes at place (begun s) (take i lines)
+      → later ≡ written + bytes_for before now.state (run_after here now line).state → later ≡ start + all_bytes at place (begun s) (take (i + 1) lines)
+  cost_more place before start written later placed so_far step =
+      let step_is : bytes_for before now.state (run_after here now line).state ≡ bytes_for (all_places at place (begun s) (take i lines)) (run_at at s lines i).state (run_after at (run_at at s lines i) line).state =
+      ap (λ (x : Setting). bytes_for before now.state (run_after x now line).state) same ∙ ap (λ (x : RunState). bytes_for before x.state (run_after at x line).state) is
+      ∙ ap (λ (p : ℕ). bytes_for p (run_at at s lines i).state (run_after at (run_at at s lines i) line).state) placed in
+      let more_is : all_bytes at place (begun s) (take (i + 1) lines) ≡ all_bytes at place (begun s) (take i lines) + bytes_for (all_places at place (begun s) (take i lines)) (run_at at s lines i).state (run_after at (run_at at s lines i) line).state =
+      ap (λ (some : List (List ℕ)). all_bytes at place (begun s) some) more ∙ all_bytes-push at place (begun s) (take i lines) line in
+      omega (arith, step, so_far, step_is, more_is)
 
-  module _ (place before : ℕ) (placed : before ≡ all_places at place (begun s) (take i lines)) (there : slice_get lines i ≡ Some line) where
-    pub full_more : IsFullAt here before now line → IsFullAtLine at place s lines i
-    full_more full = full_at at place s lines i line there before now placed is (subst (λ (x : Setting). IsFullAt x before now line) same full)
-
-    pub fit_more : ((k : ℕ) → k < i → IsFullAtLine at place s lines k → ⊥) → (IsFullAt here before now line → ⊥) → (k : ℕ) → k < i + 1 → IsFullAtLine at place s lines k → ⊥
-    fit_more fitted fits = fits_more at place s lines i line there before now placed is fitted (λ full. fits (subst (λ (x : Setting). IsFullAt x before now line) (sym same) full))
+  pub most_more : (place before start written later : ℕ) → before ≡ all_places at place (begun s) (take i lines) → written ≡ start + all_bytes at place (begun s) (take i lines)
+      → later ≤ written + bytes_for before now.state (run_after here now line).state → later ≤ start + all_bytes at place (begun s) (take (i + 1) lines)
+  most_more place before start written later placed so_far step =
+      let whole = cost_more place before start written (written + bytes_for before now.state (run_after here now line).state) placed so_far refl in
+      omega (arith, step, whole)
 
   module _ {H : Type 0} (h : Ghosts H) (start mid new : H) (said : h.said mid ≡ h.said start ++ out at s lines i) where
-    pub met_more : MeetsAll h start mid (AfterPrefix at s lines (h.said start)) → MeetsAll h mid new (DuringLine (h.said mid) now.state (run_after here now line).state (answer here now line)) → MeetsAll h start new (AfterPrefix at s lines (h.said start))
-    met_more first second =
-        lines_met at s lines i line within more h start mid new now is said first (subst (λ (x : Setting). MeetsAll h mid new (DuringLine (h.said mid) now.state (run_after x now line).state (answer x now line))) same second)
+    pub met_more : (place written : ℕ) → MeetsAll h start mid (AfterPrefix (begin at s place lines (h.said start) written)) → MeetsAll h mid new (DuringLine (h.said mid) now.state (run_after here now line).state (answer here now line)) → MeetsAll h start new (AfterPrefix (begin at s place lines (h.said start) written))
+    met_more place written first second =
+        lines_met at s lines i line within more h start mid new now is said place written first (subst (λ (x : Setting). MeetsAll h mid new (DuringLine (h.said mid) now.state (run_after x now line).state (answer x now line))) same second)
 
-    pub ends_more : (fault : RunFault) → AreTyped at s lines i → (IsAnswered {T = Unit {0}} (Err fault) → AreTyped at s lines (i + 1))
-        → LineEnds {T = Unit {0}} h now.state (run_after here now line).state (answer here now line) (h.said mid) new (Err fault) → LinesEnd {T = Unit {0}} h at s lines (h.said start) new (Err fault)
-    ends_more fault before typed ends =
-        line_ends h at s lines i line within more start mid new now is said fault before typed
+    pub ends_more : (place written : ℕ) (fault : RunFault) → h.written new ≤ written + all_bytes at place (begun s) (take (i + 1) lines) → slice_get lines i ≡ Some line → (fault ≡ ShelfFault → NamesFile line)
+        → LineEnds {T = Unit {0}} h now.state (run_after here now line).state (answer here now line) (h.said mid) new (Err fault) → LinesEnd {T = Unit {0}} h (begin at s place lines (h.said start) written) new (Err fault)
+    ends_more place written fault most there named ends =
+        line_ends h at s lines i line within more start mid new now is said place written fault most there named
         (subst (λ (x : Setting). LineEnds {T = Unit {0}} h now.state (run_after x now line).state (answer x now line) (h.said mid) new (Err fault)) same ends)

@@ -11,9 +11,9 @@ use Rattle.enrol_states.specs.State.{status_of}
 use Rattle.enrol_states.specs.Statuses.{is_enrolled, is_enrolled_now}
 use Rattle.enrol_states.specs.declared.state.State.{State}
 use Rattle.enrol_states.specs.declared.state.Row.{Row}
+use Rattle.state_codec.specs.Sound.{IsSound}
 use Rattle.client_core.specs.Settings.{Setting}
 use Rattle.client_core.specs.Steps.{step}
-use Rattle.client_core.specs.Store.{KeptFor}
 use Rattle.client_core.specs.declared.command.Command.{Command}
 use Rattle.client_core.proofs.OptOuts.{opt_outs_hold}
 use Rattle.client_words.specs.declared.command.LineFault.{LineFault}
@@ -92,8 +92,10 @@ not_enrolled s slug [] there out = refl
 not_enrolled s slug (row ∷ rows) there out =
     not_here s row rows slug (bytes_eq row.slug slug) refl there (All-head (IsNotOptedOut s) row rows out) (not_enrolled s slug rows there (All-tail (IsNotOptedOut s) row rows out))
 
--- a slug that is held out is out in the state for which a pair is kept
-pub is_out : (at : Setting) (s : State) (lines : List (List ℕ)) (k : ℕ) (slug l r : List ℕ) → k ≤ length lines → KeptFor l r (after at s lines k) → IsHeldOut at s lines k slug → IsOut (after at s lines k) slug
-is_out at s lines k slug l r within pair out =
-    let there = held at s lines slug k within out in
-    record { opted_out = there; not_enrolled = not_enrolled (after at s lines k) slug (after at s lines k).rows there pair.history.sound.consistent.row_choices }
+-- an opted-out slug isn't enrolled in a sound state
+pub out_of : (s : State) (slug : List ℕ) → IsTrue (is_in s.opted_out slug) → IsSound s → IsOut s slug
+out_of s slug there sound = record { opted_out = there; not_enrolled = not_enrolled s slug s.rows there sound.consistent.row_choices }
+
+-- a slug that is held out is out, where the state is sound
+pub is_out : (at : Setting) (s : State) (lines : List (List ℕ)) (k : ℕ) (slug : List ℕ) → k ≤ length lines → IsSound (after at s lines k) → IsHeldOut at s lines k slug → IsOut (after at s lines k) slug
+is_out at s lines k slug within sound out = out_of (after at s lines k) slug (held at s lines slug k within out) sound

@@ -1,5 +1,6 @@
 -- What follows from the answers of the calls of a line.
-use Rattle.std.proofs.Common.{◌≡◌, ◌≢◌, ◌⊎◌, inl, inr, ℕ, List, refl, sym, ◌∙◌, ap, subst, arith, Result, Ok, Err, OnOk, IsErrAnd}
+use Rattle.std.proofs.Common.{◌≡◌, ◌≢◌, ◌⊎◌, ◌≤◌, ◌+◌, inl, inr, ℕ, List, refl, sym, ◌∙◌, ap, subst, arith, Result, Ok, Err, OnOk, IsErrAnd}
+use Rattle.gate_journal.specs.Costs.{HasCost}
 use Rattle.host_model.specs.declared.host.Host.{Ghosts}
 use Rattle.host_model.specs.Hosts.{MeetsAll, NowOf}
 use Rattle.host_model.proofs.Meeting.{started}
@@ -45,7 +46,6 @@ module _ {H : Type 0} (h : Ghosts H) (start : H) (s t : State) (text : List ℕ)
 
   step_ends : (fault : StepFault) → LineEnds {T = Unit {0}} h s t text (h.said start) start (Err (of_step fault))
   step_ends step_fault.ShelfFault = (kept, refl)
-  step_ends step_fault.StoreFull = (kept, refl)
   step_ends step_fault.OutOfMemory = (kept, refl)
 
   -- the step was not prepared
@@ -91,3 +91,8 @@ module _ (at : Setting) (now : RunState) (line : List ℕ) where
   pub answer-fault : (fault : LineFault) → command_of line ≡ Err fault → fault_answer fault ≡ answer at now line
   unfolding answer
   answer-fault fault is = ap (reply at now) (sym is)
+
+-- a call that failed has written no more than this
+pub err_cost : {T E : Type 0} (bytes before now : ℕ) (result : Result T E) (fault : E) → IsErrAnd result (λ f. f ≡ fault) → before ≤ now → now ≤ before + bytes → HasCost bytes before now result
+err_cost bytes before now (Ok value) fault and least most = absurd and
+err_cost bytes before now (Err f) fault and least most = record { exact = tt; least = least; most = most }

@@ -1,30 +1,29 @@
 -- A line that is answered a value asks for a feature, and the value is the one that is served.
-use Rattle.std.proofs.Common.{◌≡◌, ℕ, ◌<◌, ◌++◌, List, [], ◌∷◌, get_or, refl, sym, ◌∙◌, ap, subst, arith, Result, Ok, Err, IsErrAnd}
+use Rattle.std.proofs.Common.{◌≡◌, ℕ, ◌<◌, ◌≤◌, ◌++◌, List, [], ◌∷◌, get_or, refl, sym, ◌∙◌, ap, arith, Result, Ok, Err}
 use Rattle.std.specs.Prelude.{codes}
 use Rattle.std.proofs.lemmas.List.{append_cancel_left, append_cancel_right}
 use Rattle.json_tree.specs.Bytes.{text_of}
 use Rattle.json_tree.specs.Tree.{json_of}
 use Rattle.json_tree.specs.declared.tree.Tree.{Tree}
+use Rattle.enrol_states.specs.Statuses.{last_moment}
+use Rattle.state_codec.specs.Sound.{IsSound}
 use Rattle.client_core.specs.declared.answer.Answer.{Answer}
 use Rattle.client_core.specs.declared.answer.Answer.TheVariants.{Okay, Fetched, Applied, Value, Shown}
 use Rattle.client_core.specs.declared.command.Command.{Command}
-use Rattle.client_core.specs.declared.faults.StepFault.{StepFault}
-use Rattle.client_core.specs.declared.faults.StepFault.TheVariants as step_fault
-use Rattle.client_core.specs.ServedValues.{IsTyped}
 use Rattle.client_core.specs.Settings.{Setting}
 use Rattle.client_core.specs.Steps.{step}
-use Rattle.client_core.proofs.ServedValues.{values_are_served}
+use Rattle.client_core.proofs.ServedValues.{values_have_types}
 use Rattle.client_words.specs.declared.command.LineFault.{LineFault}
 use Rattle.client_words.specs.declared.command.LineFault.TheVariants.{Blank, OutOfMemory}
-use Rattle.session_run.specs.declared.faults.RunFault.{RunFault}
-use Rattle.session_run.specs.declared.faults.RunFault.TheVariants as run_fault
 use Rattle.client_words.specs.Answers.{answer_lines, fetched_lines, shown_lines}
 use Rattle.client_words.specs.Commands.{command_of}
-use Rattle.session_run.specs.Statuses.{of_step}
-use Rattle.session_run.specs.Steps.{RunState, reply, answer}
-use Rattle.session_run.specs.Values.{value_line, IsTypedLine, IsAnswered}
-use Rattle.session_run.proofs.Ending.{err_is}
-use Rattle.session_run.proofs.Manifests.{ok_one, not_ok}
+use Rattle.session_run.specs.Runs.{ServesValues}
+use Rattle.session_run.specs.Starts.{Start}
+use Rattle.session_run.specs.Steps.{RunState, reply, answer, run_at}
+use Rattle.session_run.specs.Values.{value_line, IsTypedLine}
+use Rattle.session_run.proofs.Manifests.{set_last}
+use Rattle.session_run.proofs.Placing.{at_within}
+use Rattle.session_run.proofs.SoundRuns.{IsSoundRun, run_sound}
 
 -- ---- the text of a line
 
@@ -67,40 +66,21 @@ value_of_line at run (Err fault) text is = apart 114 (omega arith) (ap first is)
 
 -- ---- one line
 
-module _ (at : Setting) (run : RunState) (line : List ℕ) where
-  -- the answer to the command of the line has the type of its feature, where it is a value
-  pub typed_line : (command : Command) → command_of line ≡ Ok command → IsTyped run.state run.session command (step at run.state run.session command).answer → IsTypedLine at run line
-  unfolding answer
-  typed_line command reads typed text is =
-      let said = value_of_line at run (command_of line) text is in
-      let tree = said.value.tree in
-      let same : command ≡ said.command = ok_one (command_of line) reads said.is_command in
-      let asked = values_are_served at run.state run.session said.command tree said.value.is_value in
-      let there = subst (λ (c : Command). IsTyped run.state run.session c (step at run.state run.session c).answer) same typed in
-      record {
-        name = asked.0;
-        command = said.is_command ∙ ap Ok asked.1;
-        tree = tree;
-        spelled = sym said.value.spelled;
-        value = subst (λ (c : Command). IsTyped run.state run.session c (Value tree)) asked.1 (subst (IsTyped run.state run.session said.command) said.value.is_value there);
-      }
+-- from a sound state and a lawful session, a line that is answered a value has its types
+pub typed_line : (at : Setting) (run : RunState) (line : List ℕ) → IsSoundRun run → IsTypedLine at run line
+unfolding answer
+typed_line at run line sound text is =
+    let said = value_of_line at run (command_of line) text is in
+    let tree = said.value.tree in
+    let found = values_have_types at run.state run.session said.command tree sound.state sound.session said.value.is_value in
+    record { name = found.0; command = said.is_command ∙ ap Ok found.1; tree = tree; spelled = sym said.value.spelled; value = found.2 }
 
-  -- a line without a command is answered no value
-  pub refused_line : (fault : LineFault) → command_of line ≡ Err fault → IsTypedLine at run line
-  unfolding answer
-  refused_line fault reads text is =
-      let said = value_of_line at run (command_of line) text is in
-      absurd (not_ok (command_of line) reads said.is_command)
-
--- ---- a line that isn't answered
-
-never_answered : (fault : StepFault) → IsAnswered {T = Unit {0}} (Err (of_step fault)) → ⊥
-never_answered step_fault.ShelfFault answered = answered
-never_answered step_fault.StoreFull answered = answered
-never_answered step_fault.OutOfMemory answered = answered
-
-pub unprepared : (fault : StepFault) (result : Result (Unit {0}) RunFault) → IsErrAnd result (λ f. f ≡ of_step fault) → IsAnswered result → ⊥
-unprepared fault result and answered = never_answered fault (subst (λ (r : Result (Unit {0}) RunFault). IsAnswered r) (err_is result (of_step fault) and) answered)
-
-pub unwritten : (result : Result (Unit {0}) RunFault) → IsErrAnd result (λ f. f ≡ run_fault.OutOfMemory) → IsAnswered result → ⊥
-unwritten result and answered = subst (λ (r : Result (Unit {0}) RunFault). IsAnswered r) (err_is result run_fault.OutOfMemory and) answered
+-- each value of a run is of the manifest that was set last
+pub serves_values : (start : Start) → start.at.now ≤ last_moment → IsSound start.state → ServesValues start
+serves_values start moment sound k line text is_line answered =
+    let run = run_at start.at start.state start.lines k in
+    let value = typed_line start.at run line (run_sound start.at moment start.state start.lines k sound) text answered in
+    record {
+      typed = value;
+      set = set_last start.at start.state start.lines k (omega (arith, at_within start.lines k line is_line)) value.value.served.manifest value.value.served.set;
+    }

@@ -1,9 +1,11 @@
 -- Runs, each started on what the one before left.
-use Rattle.std.specs.Prelude.{ℕ, ◌≤◌, List, [], ◌∷◌, length}
+use Rattle.std.specs.Prelude.{◌≡◌, ◌⊎◌, ℕ, ◌≤◌, ◌<◌, List, [], ◌∷◌, Some, IsTrue, length, slice_get}
+use Rattle.enrol_states.specs.Order.{is_in}
 use Rattle.enrol_states.specs.declared.state.State.{State}
 use Rattle.client_core.specs.Settings.{Setting}
 use Rattle.client_core.specs.Store.{KeptFor}
-use Rattle.session_run.specs.Steps.{after}
+use Rattle.session_run.specs.OptOuts.{LineBringsBack, IsHeldOut}
+use Rattle.session_run.specs.Steps.{run_at, after}
 
 -- a run's setting and its lines, how many of them count, and the pair of images that it left
 pub record Link : Type 0 where
@@ -33,3 +35,18 @@ IsChain l r (link ∷ links) = Leads l r link × IsChain link.l link.r links
 abbrev pub EndsKept : List ℕ → List ℕ → List Link → State → Type 0
 EndsKept l r [] s = KeptFor l r s
 EndsKept l r (link ∷ links) s = EndsKept link.l link.r links s
+
+-- ---- opt-outs
+
+-- none of the lines that counted brings the slug back
+abbrev pub NoneBringsBack : State → List Link → List ℕ → Type 0
+NoneBringsBack s [] slug = Unit {0}
+NoneBringsBack s (link ∷ links) slug =
+    ((j : ℕ) (line : List ℕ) → j < link.k → slice_get link.lines j ≡ Some line → LineBringsBack link.at (run_at link.at s link.lines j) slug line → ⊥)
+    × NoneBringsBack (after link.at s link.lines link.k) links slug
+
+-- the slug is out at the start of some run, or by a line of it that counted, and none of those after that brings it back, in this run or a later one
+abbrev pub IsHeldOutOver : State → List Link → List ℕ → Type 0
+IsHeldOutOver s [] slug = IsTrue (is_in s.opted_out slug)
+IsHeldOutOver s (link ∷ links) slug =
+    (IsHeldOut link.at s link.lines link.k slug × NoneBringsBack (after link.at s link.lines link.k) links slug) ⊎ IsHeldOutOver (after link.at s link.lines link.k) links slug

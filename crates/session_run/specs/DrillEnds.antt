@@ -1,40 +1,41 @@
--- What stands when a drill has ended, by its status, and all that is known of a drill.
-use Rattle.std.specs.Prelude.{◌≡◌, ◌⊎◌, ℕ, List, [], ◌∷◌, ◌++◌, length, take}
+-- What is promised of a drill.
+use Rattle.std.specs.Prelude.{◌≡◌, ◌⊎◌, ◌+◌, ℕ, List, [], ◌∷◌, ◌++◌, take}
 use Rattle.host_model.specs.declared.side.Side.TheVariants.{Left, Right}
 use Rattle.host_model.specs.declared.host.Host.{Ghosts}
 use Rattle.host_model.specs.Hosts.{MeetsAll}
-use Rattle.gate_journal.specs.Records.{place_of}
+use Rattle.pair_store.specs.Repair.{repair_cost}
 use Rattle.enrol_states.specs.declared.state.State.{State}
-use Rattle.client_core.specs.OpenStore.{AllKept}
-use Rattle.client_core.specs.Settings.{Setting}
-use Rattle.client_core.specs.Store.{IsHistory, IsStore, IsAbsent, IsBad}
+use Rattle.client_core.specs.Moments.{IsLeftAmong}
+use Rattle.row_store.specs.Rows.{HasPlace}
+use Rattle.client_core.specs.OpenStore.{AllKept, AllKeptAmong}
+use Rattle.client_core.specs.Places.{making_bytes}
 use Rattle.session_run.specs.declared.status.RunStatus.{RunStatus}
-use Rattle.session_run.specs.declared.status.RunStatus.TheVariants.{Done, Usage, ScriptTooLong, NoStore, AlreadyStore, BadStore, StoreFull, SourceFault, ShelfFault, DiskFault, SayFault, OutOfMemory}
-use Rattle.session_run.specs.Drills.{drill_fresh, drill_ready, drill_setting, drill_lines, drill_summary, last_state, DuringDrill}
-use Rattle.session_run.specs.Ends.{EndsWhole, EndsBefore, EndsInAnswer, RunEnds}
-use Rattle.session_run.specs.Places.{IsFullAtLine}
-use Rattle.session_run.specs.Steps.{out}
-use Rattle.session_run.specs.Values.{AreTyped}
+use Rattle.session_run.specs.declared.status.RunStatus.TheVariants.{Done, Usage, ScriptTooLong, NoStore, AlreadyStore, BadStore, SourceFault, ShelfFault, DiskFault, SayFault, OutOfMemory}
+use Rattle.session_run.specs.Drills.{drill_fresh, drill_ready, drill_start, drill_summary, DuringDrill}
+use Rattle.session_run.specs.Ends.{EndsWhole, EndsInAnswer, RunEnds}
+use Rattle.session_run.specs.Making.{EndsInReady}
+use Rattle.session_run.specs.Runs.{ServesValues}
+use Rattle.session_run.specs.Starts.{Start, line_count, last_state, answers, written_at}
+use Rattle.session_run.specs.Writes.{IsBelowMark}
 
 -- all lines are done and answered, and the summary is said
-pub record EndsSummed {H : Type 0} (h : Ghosts H) (at : Setting) (s : State) (lines : List (List ℕ)) (summary said : List ℕ) (host : H) : Type 0 where
-  pub kept : AllKept h host (last_state at s lines)
-  pub text : h.said host ≡ said ++ out at s lines (length lines) ++ summary
-  pub typed : AreTyped at s lines (length lines)
+pub record EndsSummed {H : Type 0} (h : Ghosts H) (start : Start) (summary : List ℕ) (host : H) : Type 0 where
+  pub kept : AllKept h host (last_state start)
+  pub text : h.said host ≡ start.said ++ answers start (line_count start) ++ summary
+  pub cost : h.written host ≡ written_at start (line_count start)
 
 -- all lines are done and answered, and a part of the summary is said
-pub record EndsInSummary {H : Type 0} (h : Ghosts H) (at : Setting) (s : State) (lines : List (List ℕ)) (summary said : List ℕ) (host : H) : Type 0 where
-  pub kept : AllKept h host (last_state at s lines)
+pub record EndsInSummary {H : Type 0} (h : Ghosts H) (start : Start) (summary : List ℕ) (host : H) : Type 0 where
+  pub kept : AllKept h host (last_state start)
   pub n : ℕ
-  pub text : h.said host ≡ said ++ out at s lines (length lines) ++ take n summary
-  pub typed : AreTyped at s lines (length lines)
+  pub text : h.said host ≡ start.said ++ answers start (line_count start) ++ take n summary
+  pub cost : h.written host ≡ written_at start (line_count start)
 
 -- what was said when the saying of a summary has ended
 abbrev pub SummaryEnds : List ℕ → List ℕ → List ℕ → RunStatus → Type 0
 SummaryEnds said summary u Done = u ≡ said ++ summary
 SummaryEnds said summary u SayFault = (n : ℕ) × (u ≡ said ++ take n summary)
 SummaryEnds said summary u OutOfMemory = u ≡ said
-SummaryEnds said summary u StoreFull = ⊥
 SummaryEnds said summary u DiskFault = ⊥
 SummaryEnds said summary u ShelfFault = ⊥
 SummaryEnds said summary u ScriptTooLong = ⊥
@@ -44,85 +45,53 @@ SummaryEnds said summary u NoStore = ⊥
 SummaryEnds said summary u AlreadyStore = ⊥
 SummaryEnds said summary u BadStore = ⊥
 
--- the store is made, and a part of the answer to that is said
-pub record EndsInReady {H : Type 0} (h : Ghosts H) (s : State) (ready said : List ℕ) (host : H) : Type 0 where
-  pub kept : AllKept h host s
-  pub n : ℕ
-  pub text : h.said host ≡ said ++ take n ready
+-- what follows `ready`: the lines from the new store's state, and the summary
+abbrev pub ScriptEnds : {H : Type 0} → Ghosts H → Start → List ℕ → H → RunStatus → Type 0
+ScriptEnds h start summary host Done = EndsSummed h start summary host
+ScriptEnds h start summary host OutOfMemory = RunEnds h (start.state ∷ []) start host OutOfMemory ⊎ EndsWhole h start host
+ScriptEnds h start summary host DiskFault = RunEnds h (start.state ∷ []) start host DiskFault
+ScriptEnds h start summary host SayFault = EndsInAnswer h start host ⊎ EndsInSummary h start summary host
+ScriptEnds h start summary host ShelfFault = ⊥
+ScriptEnds h start summary host ScriptTooLong = ⊥
+ScriptEnds h start summary host SourceFault = ⊥
+ScriptEnds h start summary host Usage = ⊥
+ScriptEnds h start summary host NoStore = ⊥
+ScriptEnds h start summary host AlreadyStore = ⊥
+ScriptEnds h start summary host BadStore = ⊥
 
--- what follows `ready`: the lines from the new store's state s, and the summary
-abbrev pub ScriptEnds : {H : Type 0} → Ghosts H → Setting → State → List (List ℕ) → List ℕ → List ℕ → H → RunStatus → Type 0
-ScriptEnds h at s lines summary said host Done = EndsSummed h at s lines summary said host
-ScriptEnds h at s lines summary said host StoreFull = EndsBefore h at s lines said host
-ScriptEnds h at s lines summary said host OutOfMemory = RunEnds h (s ∷ []) at s lines said host OutOfMemory ⊎ EndsWhole h at s lines said host
-ScriptEnds h at s lines summary said host DiskFault = RunEnds h (s ∷ []) at s lines said host DiskFault
-ScriptEnds h at s lines summary said host SayFault = EndsInAnswer h at s lines said host ⊎ EndsInSummary h at s lines summary said host
-ScriptEnds h at s lines summary said host ShelfFault = ⊥
-ScriptEnds h at s lines summary said host ScriptTooLong = ⊥
-ScriptEnds h at s lines summary said host SourceFault = ⊥
-ScriptEnds h at s lines summary said host Usage = ⊥
-ScriptEnds h at s lines summary said host NoStore = ⊥
-ScriptEnds h at s lines summary said host AlreadyStore = ⊥
-ScriptEnds h at s lines summary said host BadStore = ⊥
-
--- and what follows the `ready` of a drill
-abbrev pub ReadyEnds : {H : Type 0} → Ghosts H → ℕ → ℕ → ℕ → List ℕ → H → RunStatus → Type 0
-ReadyEnds h start count now said host status =
-    ScriptEnds h (drill_setting start count now) (drill_fresh now) drill_lines (drill_summary start count now) (said ++ drill_ready) host status
+-- and what follows the `ready` of a drill: the store was made on the host `made`, which its lines open
+pub record ReadyEnds {H : Type 0} (h : Ghosts H) (start count now : ℕ) (old new : H) (status : RunStatus) : Type 0 where
+  pub made : H
+  pub kept : AllKept h made (drill_fresh now)
+  pub said : h.said made ≡ h.said old ++ drill_ready
+  pub cost : h.written made ≡ h.written old + making_bytes (drill_fresh now)
+  pub place : ℕ
+  pub placed : HasPlace (h.reads made Left) (h.reads made Right) place
+  pub ends : ScriptEnds h (drill_start start count now place (h.said made) (h.written made + repair_cost (h.reads made Left) (h.reads made Right))) (drill_summary start count now) new status
 
 -- a whole drill. Where its store is not made nothing is said
-abbrev pub DrillEnds : {H : Type 0} → Ghosts H → ℕ → ℕ → ℕ → List ℕ → H → RunStatus → Type 0
-DrillEnds h start count now said host Done = ReadyEnds h start count now said host Done
-DrillEnds h start count now said host StoreFull = ReadyEnds h start count now said host StoreFull
-DrillEnds h start count now said host OutOfMemory = (h.said host ≡ said) ⊎ ReadyEnds h start count now said host OutOfMemory
-DrillEnds h start count now said host DiskFault = (h.said host ≡ said) ⊎ ReadyEnds h start count now said host DiskFault
-DrillEnds h start count now said host SayFault = EndsInReady h (drill_fresh now) drill_ready said host ⊎ ReadyEnds h start count now said host SayFault
-DrillEnds h start count now said host AlreadyStore = h.said host ≡ said
-DrillEnds h start count now said host BadStore = h.said host ≡ said
-DrillEnds h start count now said host Usage = ⊥
-DrillEnds h start count now said host ScriptTooLong = ⊥
-DrillEnds h start count now said host NoStore = ⊥
-DrillEnds h start count now said host SourceFault = ⊥
-DrillEnds h start count now said host ShelfFault = ⊥
+abbrev pub DrillEnds : {H : Type 0} → Ghosts H → ℕ → ℕ → ℕ → H → H → RunStatus → Type 0
+DrillEnds h start count now old new Done = ReadyEnds h start count now old new Done
+DrillEnds h start count now old new OutOfMemory = (h.said new ≡ h.said old) ⊎ ReadyEnds h start count now old new OutOfMemory
+DrillEnds h start count now old new DiskFault = (h.said new ≡ h.said old) ⊎ ReadyEnds h start count now old new DiskFault
+DrillEnds h start count now old new SayFault = EndsInReady h (drill_fresh now) drill_ready (h.said old) new ⊎ ReadyEnds h start count now old new SayFault
+DrillEnds h start count now old new AlreadyStore = h.said new ≡ h.said old
+DrillEnds h start count now old new BadStore = h.said new ≡ h.said old
+DrillEnds h start count now old new Usage = ⊥
+DrillEnds h start count now old new ScriptTooLong = ⊥
+DrillEnds h start count now old new NoStore = ⊥
+DrillEnds h start count now old new SourceFault = ⊥
+DrillEnds h start count now old new ShelfFault = ⊥
 
--- what the pair of sides was, as the status of a drill tells it. Two statuses may come before the pair is judged
-abbrev pub DrillFinds : List ℕ → List ℕ → RunStatus → Type 0
-DrillFinds l r Done = IsAbsent l r
-DrillFinds l r StoreFull = IsAbsent l r
-DrillFinds l r SayFault = IsAbsent l r
-DrillFinds l r AlreadyStore = IsStore l r
-DrillFinds l r BadStore = IsBad l r
-DrillFinds l r DiskFault = Unit {0}
-DrillFinds l r OutOfMemory = Unit {0}
-DrillFinds l r Usage = ⊥
-DrillFinds l r ScriptTooLong = ⊥
-DrillFinds l r NoStore = ⊥
-DrillFinds l r SourceFault = ⊥
-DrillFinds l r ShelfFault = ⊥
-
--- a line's record would end past the end of a side, where the new store has this history
-pub record DrillFull (start count now : ℕ) : Type 0 where
-  pub payloads : List (List ℕ)
-  pub history : IsHistory payloads (drill_fresh now)
-  pub k : ℕ
-  pub full : IsFullAtLine (drill_setting start count now) (place_of payloads) (drill_fresh now) drill_lines k
-
--- no line's record would
-pub record DrillFits (start count now : ℕ) : Type 0 where
-  pub payloads : List (List ℕ)
-  pub history : IsHistory payloads (drill_fresh now)
-  pub fits : (k : ℕ) → IsFullAtLine (drill_setting start count now) (place_of payloads) (drill_fresh now) drill_lines k → ⊥
-
--- all that is known of a drill, which began with the host `old`
+-- a drill, which makes its store, does the lines of its script over its files, and then says the summary of the last state
 pub record Drilled {H : Type 0} (h : Ghosts H) (start count now : ℕ) (old new : H) (status : RunStatus) : Type 0 where
-  -- at each moment
+  -- at each moment: as in the making of its store until `ready` is said, then as in a run of its lines, and then in the summary
   pub moments : MeetsAll h old new (DuringDrill start count now (h.said old))
-  -- at its end
-  pub ends : DrillEnds h start count now (h.said old) new status
-  -- what the pair was that it read
-  pub finds : DrillFinds (h.reads old Left) (h.reads old Right) status
-  -- it says or writes only where neither side was open
-  pub quiet : (IsAbsent (h.reads old Left) (h.reads old Right) → ⊥) → (h.said new ≡ h.said old) × (h.written new ≡ h.written old)
-  -- StoreFull comes where a line's record would end past the end of a side, and Done only where none would
-  pub full : status ≡ StoreFull → DrillFull start count now
-  pub fits : status ≡ Done → DrillFits start count now
+  -- what stands when it has ended, and how many bytes were written
+  pub ends : DrillEnds h start count now old new status
+  -- where each image is kept for one of some states, each image at each moment is, and nothing is said
+  pub left : (states : List State) → AllKeptAmong h old states → MeetsAll h old new (IsLeftAmong (h.said old) states)
+  -- each value that is said, at whatever moment, has its types
+  pub values : ServesValues (drill_start start count now 0 (h.said old ++ drill_ready) 0)
+  -- no byte at or past byte 33,554,432 of a side is written
+  pub below : MeetsAll h old new (IsBelowMark h old)

@@ -1,5 +1,5 @@
 -- A drill: its store, its files and its script, and what might be met at its moments.
-use Rattle.std.specs.Prelude.{◌≡◌, ◌⊎◌, ℕ, List, [], ◌∷◌, ◌++◌, Option, Some, None, codes, bytes_eq, length, take, if◌then◌else◌}
+use Rattle.std.specs.Prelude.{◌≡◌, ◌⊎◌, ℕ, List, [], ◌∷◌, ◌++◌, Option, Some, None, codes, bytes_eq, take, if◌then◌else◌}
 use Rattle.enrol_states.specs.declared.state.State.{State}
 use Rattle.enrol_states.specs.State.{fresh}
 use Rattle.recipe_drill.specs.Files.{script}
@@ -10,7 +10,7 @@ use Rattle.client_core.specs.Store.{KeptFor}
 use Rattle.client_words.specs.Commands.{lines_of}
 use Rattle.session_run.specs.Making.{ready, DuringMaking}
 use Rattle.session_run.specs.Moments.{AfterPrefix}
-use Rattle.session_run.specs.Steps.{after, out}
+use Rattle.session_run.specs.Starts.{Start, line_count, last_state, answers}
 
 -- the sixteen bytes of the id of its store
 abbrev pub drill_bytes : List ℕ
@@ -40,26 +40,25 @@ drill_setting start count now = record { files = file_among (drill start count).
 unfoldable pub drill_lines : List (List ℕ)
 drill_lines = lines_of script
 
--- the state after all lines of a run from s
-abbrev pub last_state : Setting → State → List (List ℕ) → State
-last_state at s lines = after at s lines (length lines)
+-- what its lines begin with, where the next record begins at this place, and behind this text and so many written bytes
+abbrev pub drill_start : ℕ → ℕ → ℕ → ℕ → List ℕ → ℕ → Start
+drill_start start count now place said written = record { at = drill_setting start count now; state = drill_fresh now; place = place; lines = drill_lines; said = said; written = written }
 
 -- the summary of the state after its script
 abbrev pub drill_summary : ℕ → ℕ → ℕ → List ℕ
-drill_summary start count now = counts.summary start count (last_state (drill_setting start count now) (drill_fresh now) drill_lines)
+drill_summary start count now = counts.summary start count (last_state (drill_start start count now 0 [] 0))
 
 -- all answers were said, and then a prefix of the summary. The images are kept for the last state
-pub record InSummary (at : Setting) (s : State) (lines : List (List ℕ)) (summary said l r u : List ℕ) : Type 0 where
-  pub kept : KeptFor l r (last_state at s lines)
+pub record InSummary (start : Start) (summary l r u : List ℕ) : Type 0 where
+  pub kept : KeptFor l r (last_state start)
   pub n : ℕ
-  pub text : u ≡ said ++ out at s lines (length lines) ++ take n summary
+  pub text : u ≡ start.said ++ answers start (line_count start) ++ take n summary
 
 -- from `ready` on: as in a run of the lines, and then in the summary
-abbrev pub AfterReady : Setting → State → List (List ℕ) → List ℕ → List ℕ → List ℕ → List ℕ → List ℕ → Type 0
-AfterReady at s lines summary said l r u = AfterPrefix at s lines said l r u ⊎ InSummary at s lines summary said l r u
+abbrev pub AfterReady : Start → List ℕ → List ℕ → List ℕ → List ℕ → Type 0
+AfterReady start summary l r u = AfterPrefix start l r u ⊎ InSummary start summary l r u
 
 -- during a drill: as in the making of its store until `ready` is said, and from then on as above
 abbrev pub DuringDrill : ℕ → ℕ → ℕ → List ℕ → List ℕ → List ℕ → List ℕ → Type 0
 DuringDrill start count now said l r u =
-    DuringMaking said (drill_fresh now) drill_ready l r u
-    ⊎ AfterReady (drill_setting start count now) (drill_fresh now) drill_lines (drill_summary start count now) (said ++ drill_ready) l r u
+    DuringMaking said (drill_fresh now) drill_ready l r u ⊎ AfterReady (drill_start start count now 0 (said ++ drill_ready) 0) (drill_summary start count now) l r u

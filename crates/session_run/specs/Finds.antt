@@ -1,13 +1,20 @@
--- What the pair of sides was, as the status of a call tells it.
+-- What the pair of sides was, as the status of a call tells it, and which status each such pair has.
 use Rattle.std.specs.Prelude.{◌≡◌, ◌⊎◌, ℕ, List}
+use Rattle.host_model.specs.declared.side.Side.TheVariants.{Left, Right}
+use Rattle.host_model.specs.declared.host.Host.{Ghosts}
+use Rattle.enrol_states.specs.declared.state.State.{State}
+use Rattle.client_core.specs.Store.{StandsFor, IsStore, IsAbsent, IsBad}
 use Rattle.session_run.specs.declared.status.RunStatus.{RunStatus}
-use Rattle.session_run.specs.declared.status.RunStatus.TheVariants.{Done, Usage, ScriptTooLong, NoStore, AlreadyStore, BadStore, StoreFull, SourceFault, ShelfFault, DiskFault, SayFault, OutOfMemory}
-use Rattle.client_core.specs.Store.{IsStore, IsAbsent, IsBad}
+use Rattle.session_run.specs.declared.status.RunStatus.TheVariants.{Done, Usage, ScriptTooLong, NoStore, AlreadyStore, BadStore, SourceFault, ShelfFault, DiskFault, SayFault, OutOfMemory}
+use Rattle.session_run.specs.Writes.{WritesNoMore}
 
--- of a run. Four statuses may come before the pair is judged
+-- the call may have ended before the pair was judged
+abbrev pub EndedBefore : RunStatus → Type 0
+EndedBefore status = (status ≡ ScriptTooLong) ⊎ (status ≡ SourceFault) ⊎ (status ≡ DiskFault) ⊎ (status ≡ OutOfMemory)
+
+-- what a run found
 abbrev pub RunFinds : List ℕ → List ℕ → RunStatus → Type 0
 RunFinds l r Done = IsStore l r
-RunFinds l r StoreFull = IsStore l r
 RunFinds l r SayFault = IsStore l r
 RunFinds l r ShelfFault = IsStore l r
 RunFinds l r NoStore = IsAbsent l r
@@ -19,24 +26,19 @@ RunFinds l r OutOfMemory = Unit {0}
 RunFinds l r Usage = ⊥
 RunFinds l r AlreadyStore = ⊥
 
--- of the making of a store. Two statuses may come before the pair is judged
-abbrev pub InitFinds : List ℕ → List ℕ → RunStatus → Type 0
-InitFinds l r Done = IsAbsent l r
-InitFinds l r SayFault = IsAbsent l r
-InitFinds l r AlreadyStore = IsStore l r
-InitFinds l r BadStore = IsBad l r
-InitFinds l r DiskFault = Unit {0}
-InitFinds l r OutOfMemory = Unit {0}
-InitFinds l r Usage = ⊥
-InitFinds l r ScriptTooLong = ⊥
-InitFinds l r NoStore = ⊥
-InitFinds l r StoreFull = ⊥
-InitFinds l r SourceFault = ⊥
-InitFinds l r ShelfFault = ⊥
-
--- the call ended before the pair was judged
-abbrev pub EndedBefore : RunStatus → Type 0
-EndedBefore status = (status ≡ ScriptTooLong) ⊎ (status ≡ SourceFault) ⊎ (status ≡ DiskFault) ⊎ (status ≡ OutOfMemory)
+-- what the making of a store found, and so a drill
+abbrev pub MakingFinds : List ℕ → List ℕ → RunStatus → Type 0
+MakingFinds l r Done = IsAbsent l r
+MakingFinds l r SayFault = IsAbsent l r
+MakingFinds l r AlreadyStore = IsStore l r
+MakingFinds l r BadStore = IsBad l r
+MakingFinds l r DiskFault = Unit {0}
+MakingFinds l r OutOfMemory = Unit {0}
+MakingFinds l r Usage = ⊥
+MakingFinds l r ScriptTooLong = ⊥
+MakingFinds l r NoStore = ⊥
+MakingFinds l r SourceFault = ⊥
+MakingFinds l r ShelfFault = ⊥
 
 -- a run answers NoStore and BadStore wherever the pair is such, unless it ended before
 pub record RunJudges (l r : List ℕ) (status : RunStatus) : Type 0 where
@@ -44,6 +46,18 @@ pub record RunJudges (l r : List ℕ) (status : RunStatus) : Type 0 where
   pub bad_store : IsBad l r → (status ≡ BadStore) ⊎ EndedBefore status
 
 -- the making of a store answers AlreadyStore and BadStore wherever the pair is such, unless it ended before
-pub record InitJudges (l r : List ℕ) (status : RunStatus) : Type 0 where
+pub record MakingJudges (l r : List ℕ) (status : RunStatus) : Type 0 where
   pub already_store : IsStore l r → (status ≡ AlreadyStore) ⊎ EndedBefore status
   pub bad_store : IsBad l r → (status ≡ BadStore) ⊎ EndedBefore status
+
+-- what a run found in what reads gave. It says something, or writes more than the byte of an opening, only where that stands for a state
+pub record RunFound {H : Type 0} (h : Ghosts H) (old new : H) (status : RunStatus) : Type 0 where
+  pub finds : RunFinds (h.reads old Left) (h.reads old Right) status
+  pub judges : RunJudges (h.reads old Left) (h.reads old Right) status
+  pub quiet : ((s : State) → StandsFor (h.reads old Left) (h.reads old Right) s → ⊥) → WritesNoMore h old new
+
+-- what the making of a store found, and so a drill. It says something, or writes more than the byte of an opening, only where neither side was open
+pub record MakingFound {H : Type 0} (h : Ghosts H) (old new : H) (status : RunStatus) : Type 0 where
+  pub finds : MakingFinds (h.reads old Left) (h.reads old Right) status
+  pub judges : MakingJudges (h.reads old Left) (h.reads old Right) status
+  pub quiet : (IsAbsent (h.reads old Left) (h.reads old Right) → ⊥) → WritesNoMore h old new

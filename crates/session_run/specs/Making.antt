@@ -1,13 +1,59 @@
--- A store that is made.
-use Rattle.std.specs.Prelude.{◌≡◌, ◌⊎◌, ℕ, List, [], ◌∷◌, ◌++◌, take, codes}
+-- What is promised of the making of a store.
+use Rattle.std.specs.Prelude.{◌≡◌, ◌⊎◌, ◌≤◌, ◌+◌, ℕ, List, [], ◌∷◌, ◌++◌, take, codes}
+use Rattle.host_model.specs.declared.side.Side.TheVariants.{Left, Right}
+use Rattle.host_model.specs.declared.host.Host.{Ghosts}
+use Rattle.host_model.specs.Hosts.{MeetsAll}
 use Rattle.enrol_states.specs.declared.state.State.{State}
-use Rattle.client_core.specs.Store.{KeptFor}
+use Rattle.enrol_states.specs.State.{fresh}
+use Rattle.client_core.specs.Moments.{IsLeftAmong}
+use Rattle.client_core.specs.OpenStore.{AllKept, AllKeptAmong}
+use Rattle.client_core.specs.Places.{making_bytes}
+use Rattle.client_core.specs.Store.{KeptFor, IsAbsent}
 use Rattle.client_words.specs.Answers.{hyphenated}
+use Rattle.session_run.specs.declared.status.RunStatus.{RunStatus}
+use Rattle.session_run.specs.declared.status.RunStatus.TheVariants.{Done, Usage, ScriptTooLong, NoStore, AlreadyStore, BadStore, SourceFault, ShelfFault, DiskFault, SayFault, OutOfMemory}
+use Rattle.session_run.specs.Writes.{IsBelowMark, WritesNoMore}
 
--- what is said of it
+-- what is said of a new store
 unfoldable pub ready : List ℕ → List ℕ
 ready id = codes "ready " ++ hyphenated id ++ 10 ∷ []
 
 -- nothing is said, or a prefix of the answer is and the images are kept for the state
 abbrev pub DuringMaking : List ℕ → State → List ℕ → List ℕ → List ℕ → List ℕ → Type 0
 DuringMaking said s text l r u = (u ≡ said) ⊎ (KeptFor l r s × ((n : ℕ) × (u ≡ said ++ take n text)))
+
+-- the store is made, and a part of the answer to that is said
+pub record EndsInReady {H : Type 0} (h : Ghosts H) (s : State) (text said : List ℕ) (host : H) : Type 0 where
+  pub kept : AllKept h host s
+  pub n : ℕ
+  pub said_part : h.said host ≡ said ++ take n text
+
+-- by the status. A store that is not made is not said to be ready
+abbrev pub MakingEnds : {H : Type 0} → Ghosts H → State → List ℕ → List ℕ → H → RunStatus → Type 0
+MakingEnds h s text said host Done = AllKept h host s × (h.said host ≡ said ++ text)
+MakingEnds h s text said host SayFault = EndsInReady h s text said host
+MakingEnds h s text said host AlreadyStore = h.said host ≡ said
+MakingEnds h s text said host BadStore = h.said host ≡ said
+MakingEnds h s text said host DiskFault = h.said host ≡ said
+MakingEnds h s text said host OutOfMemory = h.said host ≡ said
+MakingEnds h s text said host Usage = ⊥
+MakingEnds h s text said host ScriptTooLong = ⊥
+MakingEnds h s text said host NoStore = ⊥
+MakingEnds h s text said host SourceFault = ⊥
+MakingEnds h s text said host ShelfFault = ⊥
+
+-- the making of a store with this id at this moment
+pub record Made {H : Type 0} (h : Ghosts H) (id : List ℕ) (now : ℕ) (old new : H) (status : RunStatus) : Type 0 where
+  -- at each moment at which a byte of the answer is said, the images are kept for the state of the new store
+  pub moments : MeetsAll h old new (DuringMaking (h.said old) (fresh id now) (ready id))
+  -- what stands when it has ended
+  pub ends : MakingEnds h (fresh id now) (ready id) (h.said old) new status
+  -- where each image is kept for one of some states, each image at each moment is, and nothing is said
+  pub left : (states : List State) → AllKeptAmong h old states → MeetsAll h old new (IsLeftAmong (h.said old) states)
+  -- where memory is wanting, nothing is said, and no byte is written but that of an opening
+  pub memory : status ≡ OutOfMemory → WritesNoMore h old new
+  -- a store that is made takes exactly its bytes, and any other end takes no more
+  pub cost : status ≡ Done → h.written new ≡ h.written old + making_bytes (fresh id now)
+  pub most : IsAbsent (h.reads old Left) (h.reads old Right) → h.written new ≤ h.written old + making_bytes (fresh id now)
+  -- no byte at or past byte 33,554,432 of a side is written
+  pub below : MeetsAll h old new (IsBelowMark h old)

@@ -1,10 +1,15 @@
 -- What might be met at the moments of a line and of a run: a left and a right image, and the text that was said.
-use Rattle.std.specs.Prelude.{◌≡◌, ◌⊎◌, ◌<◌, ◌≤◌, ◌-◌, ℕ, List, ◌++◌, length, take}
+use Rattle.std.specs.Prelude.{◌≡◌, ◌⊎◌, ◌<◌, ◌≤◌, ◌-◌, ℕ, List, ◌++◌, take}
+use Rattle.host_model.specs.declared.host.Host.{Ghosts}
+use Rattle.host_model.specs.Hosts.{MeetsAll}
 use Rattle.enrol_states.specs.declared.state.State.{State}
+use Rattle.pair_store.specs.Moments.{IsOpening}
 use Rattle.client_core.specs.Moments.{WhileWritten}
-use Rattle.client_core.specs.Settings.{Setting}
+use Rattle.client_core.specs.OpenStore.{AllKept, IsSettled}
 use Rattle.client_core.specs.Store.{KeptFor, KeptAmong}
-use Rattle.session_run.specs.Steps.{after, out}
+use Rattle.session_run.specs.declared.status.RunStatus.{RunStatus}
+use Rattle.session_run.specs.Finds.{EndedBefore}
+use Rattle.session_run.specs.Starts.{Start, line_count, state_at, answers}
 
 -- during a line: the text of before with the old or the new state, or the new state with a prefix of the answer behind that text
 abbrev pub DuringLine : List ℕ → State → State → List ℕ → List ℕ → List ℕ → List ℕ → Type 0
@@ -14,15 +19,29 @@ abbrev pub IsPrefixOf : List ℕ → List ℕ → Type 0
 IsPrefixOf u v = (rest : List ℕ) × (u ++ rest ≡ v)
 
 -- the images are kept for the state after the first k lines. What was said is a prefix of the answers to these lines, and has the answers to all of them but the last
-pub record AfterPrefix (at : Setting) (s : State) (lines : List (List ℕ)) (said l r u : List ℕ) : Type 0 where
+pub record AfterPrefix (start : Start) (l r u : List ℕ) : Type 0 where
   pub new : List ℕ
-  pub text : u ≡ said ++ new
+  pub text : u ≡ start.said ++ new
   pub k : ℕ
-  pub within : k ≤ length lines
-  pub kept : KeptFor l r (after at s lines k)
-  pub printed : IsPrefixOf new (out at s lines k)
-  pub answered : 0 < k → IsPrefixOf (out at s lines (k - 1)) new
+  pub within : k ≤ line_count start
+  pub kept : KeptFor l r (state_at start k)
+  pub printed : IsPrefixOf new (answers start k)
+  pub answered : 0 < k → IsPrefixOf (answers start (k - 1)) new
 
--- before it is known which of these states is the store's, nothing is said. From then on it is s
-abbrev pub AmongThenAfter : List State → Setting → State → List (List ℕ) → List ℕ → List ℕ → List ℕ → List ℕ → Type 0
-AmongThenAfter states at s lines said l r u = (KeptAmong l r states × (u ≡ said)) ⊎ AfterPrefix at s lines said l r u
+-- it is not yet known which of these states is the store's, and nothing is said
+abbrev pub IsAmong : List State → List ℕ → List ℕ → List ℕ → List ℕ → Type 0
+IsAmong states said l r u = KeptAmong l r states × (u ≡ said)
+
+-- two phases, with a host between them: until both sides are synced each image is kept for one of these states, nothing is said, and no byte is written but the one where both sides were open. Then each image is what reads give, and the lines are done
+pub record InTwoPhases {H : Type 0} (h : Ghosts H) (states : List State) (start : Start) (old new : H) : Type 0 where
+  pub synced : H
+  pub opening : MeetsAll h old synced (IsAmong states start.said)
+  pub repair : MeetsAll h old synced (IsOpening h old)
+  pub cost : h.written synced ≡ start.written
+  pub settled : IsSettled h synced
+  pub kept : AllKept h synced start.state
+  pub lines : MeetsAll h synced new (AfterPrefix start)
+
+-- the first phase alone, where the call ended within it, or both
+abbrev pub InPhases : {H : Type 0} → Ghosts H → List State → Start → H → H → RunStatus → Type 0
+InPhases h states start old new status = (EndedBefore status × MeetsAll h old new (IsAmong states start.said)) ⊎ InTwoPhases h states start old new

@@ -12,7 +12,7 @@ use Rattle.session_run.specs.declared.faults.RunFault.TheVariants as run
 use Rattle.session_run.specs.declared.script.ScriptFault.{ScriptFault}
 use Rattle.session_run.specs.declared.script.ScriptFault.TheVariants as script
 use Rattle.session_run.specs.declared.status.RunStatus.{RunStatus}
-use Rattle.session_run.specs.declared.status.RunStatus.TheVariants.{Done, Usage, ScriptTooLong, NoStore, AlreadyStore, BadStore, StoreFull, SourceFault, ShelfFault, DiskFault, SayFault, OutOfMemory}
+use Rattle.session_run.specs.declared.status.RunStatus.TheVariants.{Done, Usage, ScriptTooLong, NoStore, AlreadyStore, BadStore, SourceFault, ShelfFault, DiskFault, SayFault, OutOfMemory}
 
 abbrev pub code_of : RunStatus → ℕ
 code_of Done = 0
@@ -21,7 +21,6 @@ code_of ScriptTooLong = 3
 code_of NoStore = 4
 code_of AlreadyStore = 5
 code_of BadStore = 6
-code_of StoreFull = 7
 code_of SourceFault = 8
 code_of ShelfFault = 9
 code_of DiskFault = 10
@@ -47,12 +46,10 @@ of_making make.OutOfMemory = OutOfMemory
 
 abbrev pub of_step : StepFault → RunFault
 of_step step.ShelfFault = run.ShelfFault
-of_step step.StoreFull = run.StoreFull
 of_step step.OutOfMemory = run.OutOfMemory
 
 abbrev pub of_run : RunFault → RunStatus
 of_run run.ShelfFault = ShelfFault
-of_run run.StoreFull = StoreFull
 of_run run.DiskFault = DiskFault
 of_run run.SayFault = SayFault
 of_run run.OutOfMemory = OutOfMemory
@@ -61,3 +58,42 @@ of_run run.OutOfMemory = OutOfMemory
 abbrev pub status_of : Result Client RunStatus → RunStatus
 status_of (Ok client) = Done
 status_of (Err status) = status
+
+-- of a drill whose lines ended with this one: its store was made, so where that is gone it is damaged
+abbrev pub of_drill : RunStatus → RunStatus
+of_drill NoStore = BadStore
+of_drill status = status
+
+-- ---- which statuses a private call has, whatever the shelf and the host tell
+
+-- a run of lines over a store
+abbrev pub IsOfLines : RunStatus → Type 0
+IsOfLines Usage = ⊥
+IsOfLines AlreadyStore = ⊥
+IsOfLines ScriptTooLong = ⊥
+IsOfLines SourceFault = ⊥
+IsOfLines status = Unit {0}
+
+-- a run
+abbrev pub IsOfRun : RunStatus → Type 0
+IsOfRun Usage = ⊥
+IsOfRun AlreadyStore = ⊥
+IsOfRun status = Unit {0}
+
+-- a drill
+abbrev pub IsOfDrill : RunStatus → Type 0
+IsOfDrill Usage = ⊥
+IsOfDrill ScriptTooLong = ⊥
+IsOfDrill SourceFault = ⊥
+IsOfDrill ShelfFault = ⊥
+IsOfDrill NoStore = ⊥
+IsOfDrill status = Unit {0}
+
+-- the making of a store
+abbrev pub IsOfMaking : RunStatus → Type 0
+IsOfMaking Usage = ⊥
+IsOfMaking ScriptTooLong = ⊥
+IsOfMaking SourceFault = ⊥
+IsOfMaking ShelfFault = ⊥
+IsOfMaking NoStore = ⊥
+IsOfMaking status = Unit {0}

@@ -21,7 +21,7 @@ abbrev pub begun : State → RunState
 begun s = record { state = s; session = no_session }
 
 abbrev pub run_of : Client → RunState
-run_of client = record { state = client.state; session = client.session }
+run_of client = record { state = client.store.state; session = client.session }
 
 abbrev pub left_by : Step → RunState
 left_by step = record { state = step.state; session = step.session }

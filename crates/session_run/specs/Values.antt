@@ -1,5 +1,5 @@
 -- Which values are answered in a run, and with which types.
-use Rattle.std.specs.Prelude.{◌≡◌, ◌<◌, ℕ, List, [], ◌∷◌, ◌++◌, Some, Result, Ok, Err, codes, slice_get}
+use Rattle.std.specs.Prelude.{◌≡◌, ◌<◌, ℕ, List, [], ◌∷◌, ◌++◌, Some, Ok, codes, slice_get}
 use Rattle.json_tree.specs.Bytes.{text_of}
 use Rattle.json_tree.specs.Tree.{json_of}
 use Rattle.json_tree.specs.declared.tree.Tree.{Tree}
@@ -12,8 +12,6 @@ use Rattle.client_core.specs.Manifests.{manifest_of}
 use Rattle.client_core.specs.ServedValues.{IsServedWithType}
 use Rattle.client_core.specs.Settings.{Setting}
 use Rattle.client_core.specs.Steps.{step}
-use Rattle.session_run.specs.declared.faults.RunFault.{RunFault}
-use Rattle.session_run.specs.declared.faults.RunFault.TheVariants as run
 use Rattle.client_words.specs.Commands.{command_of}
 use Rattle.session_run.specs.Steps.{RunState, answer, run_at}
 
@@ -32,23 +30,6 @@ pub record IsTypedValue (run : RunState) (line text : List ℕ) : Type 0 where
 -- where the line is answered a value, it is such a one
 abbrev pub IsTypedLine : Setting → RunState → List ℕ → Type 0
 IsTypedLine at run line = (text : List ℕ) → answer at run line ≡ value_line text → IsTypedValue run line text
-
--- so is the k-th line, counted from 0
-abbrev pub IsTypedAt : Setting → State → List (List ℕ) → ℕ → Type 0
-IsTypedAt at s lines k = (line : List ℕ) → slice_get lines k ≡ Some line → IsTypedLine at (run_at at s lines k) line
-
--- and each of the first n lines
-abbrev pub AreTyped : Setting → State → List (List ℕ) → ℕ → Type 0
-AreTyped at s lines n = (k : ℕ) → k < n → IsTypedAt at s lines k
-
--- the answer to a line was said, or a part of it
-abbrev pub IsAnswered : {T : Type 0} → Result T RunFault → Type 0
-IsAnswered (Ok done) = Unit {0}
-IsAnswered (Err run.SayFault) = Unit {0}
-IsAnswered (Err run.ShelfFault) = ⊥
-IsAnswered (Err run.StoreFull) = ⊥
-IsAnswered (Err run.DiskFault) = ⊥
-IsAnswered (Err run.OutOfMemory) = ⊥
 
 -- ---- the manifest
 

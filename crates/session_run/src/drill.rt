@@ -1,20 +1,24 @@
 // A drill: its store is made, its script is run over its files from memory, and the summary of the last state is said.
-ghost use Rattle.std.specs.Prelude.{◌≡◌, ◌≢◌, ◌⊎◌, ◌≤◌};
+ghost use Rattle.std.specs.Prelude.{◌≡◌, ◌⊎◌, ◌≤◌, ◌+◌, ℕ};
 ghost use Rattle.host_model.specs.Causes.{Rose};
 ghost use Rattle.host_model.specs.Hosts.{MeetsAll};
 ghost use Rattle.host_model.specs.Moments.{IsSaying, KeepsSide};
 ghost use Rattle.host_model.specs.declared.side.Side.{Side};
-ghost use Rattle.enrol_states.specs.declared.state.State.{State};
+ghost use Rattle.host_model.specs.declared.side.Side.TheVariants.{Left, Right};
+ghost use Rattle.pair_store.specs.Repair.{repair_cost};
 ghost use Rattle.enrol_states.specs.State.{last_moment};
 ghost use Rattle.jexl_transforms.specs.Meaning.{standard_names};
 ghost use Rattle.jexl_transforms.specs.Table.{names_of};
 ghost use Rattle.recipe_drill.specs.Parts as parts;
 ghost use Rattle.recipe_drill.specs.Parts.{drill_id, parts_of, HasRoom};
 ghost use Rattle.recipe_drill.specs.Summary as counts;
-ghost use Rattle.client_core.specs.Moments.{IsLeftAs};
+ghost use Rattle.row_store.specs.Rows.{HasPlace};
 ghost use Rattle.client_core.specs.OpenStore.{AllKept};
-ghost use Rattle.session_run.specs.Drills.{drill_bytes, drill_fresh, drill_setting, drill_lines, drill_summary, AfterReady};
-ghost use Rattle.session_run.specs.DrillEnds.{SummaryEnds, ScriptEnds, DrillFull, DrillFits, Drilled};
+ghost use Rattle.session_run.specs.DrillEnds.{SummaryEnds, ScriptEnds, Drilled};
+ghost use Rattle.session_run.specs.Drills.{drill_bytes, drill_fresh, drill_start, drill_summary, AfterReady};
+ghost use Rattle.session_run.specs.Finds.{MakingFound};
+ghost use Rattle.session_run.specs.Statuses.{of_drill, IsOfDrill};
+ghost use Rattle.session_run.specs.Writes.{IsBelowMark};
 
 use crate::drill_shelf::DrillShelf;
 use crate::making::init;
@@ -49,6 +53,7 @@ fn say_summary<H: Host>(
     state: &State,
 ) -> RunStatus
     ensures any_moment { H.tells → MeetsAll H.Host host.old host.new (IsSaying (H.images host.old) (H.said host.old) (counts.summary start count state.now)) }
+    ensures written { H.tells → H.written host.new ≡ H.written host.old }
     ensures still { H.tells → (side : Side) → KeepsSide H.reads H.images side host.old host.new }
     ensures ends { H.tells → SummaryEnds (H.said host.old) (counts.summary start count state.now) (H.said host.new) result }
     ensures only { (result ≡ RunStatus.Done) ⊎ (result ≡ RunStatus.SayFault) ⊎ (result ≡ RunStatus.OutOfMemory) }
@@ -62,6 +67,16 @@ fn say_summary<H: Host>(
     match say_answer(host, text.as_str()) {
         Ok(()) => RunStatus::Done,
         Err(_) => RunStatus::SayFault,
+    }
+}
+
+/// The status of a drill whose lines ended with this one. Its store was made, so where it is gone it is damaged.
+fn ended(status: RunStatus) -> RunStatus
+    ensures { result ≡ of_drill status }
+{
+    match status {
+        RunStatus::NoStore => RunStatus::BadStore,
+        status => status,
     }
 }
 
@@ -84,16 +99,13 @@ fn run_script<H: Host>(
     // At each moment the images are kept for the state after the first k lines, each that was answered among them. A
     // prefix of the summary is said only where all answers were, and the images are kept for the last state.
     ensures any_moment { H.tells → MeetsAll H.Host host.old host.new
-        (AfterReady (drill_setting start count now) (drill_fresh now) drill_lines (drill_summary start count now) (H.said host.old)) }
-    ensures ends { H.tells → ScriptEnds H.Host (drill_setting start count now) (drill_fresh now) drill_lines (drill_summary start count now) (H.said host.old) host.new result }
-
-    ensures full { result ≡ RunStatus.StoreFull → H.tells → DrillFull start count now }
-    ensures fits { result ≡ RunStatus.Done → H.tells → DrillFits start count now }
-    ensures cause { result ≡ RunStatus.DiskFault → Rose (H.disk_faults host.old) (H.disk_faults host.new) }
+        (AfterReady (drill_start start count now 0 (H.said host.old) 0) (drill_summary start count now)) }
+    ensures ends { H.tells → ((place : ℕ) × HasPlace (H.reads host.old Left) (H.reads host.old Right) place × ScriptEnds H.Host (drill_start start count now place (H.said host.old)
+        (H.written host.old + repair_cost (H.reads host.old Left) (H.reads host.old Right))) (drill_summary start count now) host.new result) }
+    ensures below { H.tells → MeetsAll H.Host host.old host.new (IsBelowMark H.Host host.old) }
+    ensures is_of { IsOfDrill result }
+    ensures disk_cause { result ≡ RunStatus.DiskFault → Rose (H.disk_faults host.old) (H.disk_faults host.new) }
     ensures say_cause { result ≡ RunStatus.SayFault → Rose (H.say_faults host.old) (H.say_faults host.new) }
-    ensures disk_faults { H.disk_faults host.old ≤ H.disk_faults host.new }
-    ensures say_faults { H.say_faults host.old ≤ H.say_faults host.new }
-    ensures others { (result ≢ RunStatus.Usage) × (result ≢ RunStatus.ScriptTooLong) × (result ≢ RunStatus.SourceFault) × (result ≢ RunStatus.ShelfFault) }
 {
     let Drill {
         id: _,
@@ -109,7 +121,7 @@ fn run_script<H: Host>(
     };
     match run_client(alloc, host, &mut shelf, now, table, script.as_slice()) {
         Ok(client) => say_summary(alloc, host, start, count, client.state()),
-        Err(status) => status,
+        Err(status) => ended(status),
     }
 }
 
@@ -129,15 +141,11 @@ pub(crate) fn drill<H: Host>(
     requires at_most { count ≤ 2000 }
     requires moment { now ≤ last_moment }
     requires table { names_of table.now ≡ standard_names }
-
     ensures drilled { H.tells → Drilled H.Host start count now host.old host.new result }
-
-    // Where the images at entry are kept for a state, each image at each moment is, and nothing is said.
-    ensures left { H.tells → (s : State) → AllKept H.Host host.old s → MeetsAll H.Host host.old host.new (IsLeftAs (H.said host.old) s) }
-
-    ensures cause { result ≡ RunStatus.DiskFault → Rose (H.disk_faults host.old) (H.disk_faults host.new) }
+    ensures found { H.tells → MakingFound H.Host host.old host.new result }
+    ensures is_of { IsOfDrill result }
+    ensures disk_cause { result ≡ RunStatus.DiskFault → Rose (H.disk_faults host.old) (H.disk_faults host.new) }
     ensures say_cause { result ≡ RunStatus.SayFault → Rose (H.say_faults host.old) (H.say_faults host.new) }
-    ensures others { (result ≢ RunStatus.Usage) × (result ≢ RunStatus.ScriptTooLong) × (result ≢ RunStatus.SourceFault) × (result ≢ RunStatus.ShelfFault) }
 {
     let Ok(drill) = Drill::new(alloc, start, count) else {
         return RunStatus::OutOfMemory;

@@ -8,8 +8,6 @@ use std::alloc::AllocError;
 pub(crate) enum RunFault {
     /// The shelf has failed.
     ShelfFault,
-    /// The line's record would end past the end of a side.
-    StoreFull,
     /// The disk has failed.
     DiskFault,
     /// The output has failed.
@@ -26,7 +24,6 @@ impl From<StepFault> for RunFault {
     fn from(fault: StepFault) -> Self {
         match fault {
             StepFault::ShelfFault => RunFault::ShelfFault,
-            StepFault::StoreFull => RunFault::StoreFull,
             StepFault::OutOfMemory => RunFault::OutOfMemory,
         }
     }

@@ -1,12 +1,39 @@
-// The law of stores over many runs. The function does nothing: its contract is the law.
-ghost use Rattle.std.specs.Prelude.{ℕ, List};
+// The laws of runs, and of stores over many runs. Each function does nothing: its contract is the law.
+ghost use Rattle.std.specs.Prelude.{◌≤◌, ℕ, List, length};
 ghost use Rattle.enrol_states.specs.declared.state.State.{State};
+ghost use Rattle.enrol_states.specs.State.{last_moment};
 ghost use Rattle.state_codec.specs.Sound.{IsSound};
+ghost use Rattle.client_core.specs.Settings.{Setting};
 ghost use Rattle.client_core.specs.Store.{KeptFor};
-ghost use Rattle.session_run.specs.Chains.{Link, IsChain, EndsKept, folded};
+ghost use Rattle.session_run.specs.Chains.{Link, IsChain, EndsKept, folded, IsHeldOutOver};
+ghost use Rattle.session_run.specs.OptOuts.{IsHeldOut, IsOut};
+ghost use Rattle.session_run.specs.Runs.{ServesValues};
+ghost use Rattle.session_run.specs.Starts.{Start};
+ghost use Rattle.session_run.specs.Steps.{after};
 
-/// After any runs and crashes the store is kept for the state of the lines that counted, run by run, which is sound.
+/// After any runs and crashes the store is kept for the state of the lines that counted, run by run, which is sound. A
+/// slug that a user opts out of stays out over all of them, until a line that counted brings it back.
 pub fn kept_chain()
     ensures ends { (l r : List ℕ) (s : State) (links : List Link) → KeptFor l r s → IsChain l r links → EndsKept l r links (folded s links) }
     ensures sound { (l r : List ℕ) (s : State) (links : List Link) → KeptFor l r s → IsChain l r links → IsSound (folded s links) }
+    ensures opted_out { (l r : List ℕ) (s : State) (links : List Link) (slug : List ℕ) → KeptFor l r s → IsChain l r links
+        → IsHeldOutOver s links slug → IsOut (folded s links) slug }
+{}
+
+/// From a sound state each line of a run leaves a sound state.
+pub fn runs_stay_sound()
+    ensures { (at : Setting) (s : State) (lines : List (List ℕ)) (k : ℕ) → at.now ≤ last_moment → IsSound s → IsSound (after at s lines k) }
+{}
+
+/// A slug that a user opts out of stays out, until a line that is done brings it back: after the first k lines it is
+/// opted out, and the client isn't enrolled in its recipe.
+pub fn opt_outs_stay()
+    ensures { (at : Setting) (s : State) (lines : List (List ℕ)) (k : ℕ) (slug : List ℕ) → k ≤ length lines → IsSound (after at s lines k)
+        → IsHeldOut at s lines k slug → IsOut (after at s lines k) slug }
+{}
+
+/// From a sound state, each value that a line is answered is the one that the manifest serves which the run had set last,
+/// and it has the types of the feature's variables.
+pub fn values_are_served()
+    ensures { (start : Start) → start.at.now ≤ last_moment → IsSound start.state → ServesValues start }
 {}

@@ -1,22 +1,22 @@
 // A line: it is prepared, written and then answered.
-ghost use Rattle.std.specs.Prelude.{◌≡◌, ◌≢◌, ◌≤◌, ◌<◌, ◌++◌, ℕ, List, Ok, OnOk, IsErrOf};
+ghost use Rattle.std.specs.Prelude.{◌≡◌, ◌≢◌, ◌≤◌, ◌++◌, ℕ, List, OnOk, IsErrOf, IsTrue};
+ghost use Rattle.gate_journal.specs.Costs.{HasCost};
 ghost use Rattle.host_model.specs.Causes.{Rose};
 ghost use Rattle.host_model.specs.Hosts.{MeetsAll};
 ghost use Rattle.enrol_states.specs.State.{last_moment};
-ghost use Rattle.state_codec.specs.Sound.{IsSound};
 ghost use Rattle.jexl_transforms.specs.Meaning.{standard_names};
 ghost use Rattle.jexl_transforms.specs.Table.{names_of};
 ghost use Rattle.client_core.specs.Clients.{state_of, session_of, end_of, IsOpenOn, HasGateOn, step_of};
-ghost use Rattle.client_core.specs.Places.{place_after, IsFullFor};
+ghost use Rattle.client_core.specs.Places.{place_after, bytes_for};
+ghost use Rattle.client_core.specs.Commands.{names_file};
 ghost use Rattle.client_core.specs.Prepared.{IsMadeOn, next_state, next_session};
-ghost use Rattle.client_core.specs.ServedValues.{IsTyped};
 ghost use Rattle.client_core.specs.Settings.{setting};
 ghost use Rattle.client_words.specs.Answers.{answer_lines, fault_answer};
 ghost use Rattle.session_run.specs.Steps.{run_of, run_after, answer};
 ghost use Rattle.session_run.specs.Moments.{DuringLine};
-ghost use Rattle.session_run.specs.Places.{IsFullAt};
 ghost use Rattle.session_run.specs.Ends.{LineEnds};
-ghost use Rattle.session_run.specs.Values.{IsTypedLine, IsAnswered};
+ghost use Rattle.session_run.specs.Files.{NamesFile};
+ghost use Rattle.session_run.specs.Writes.{IsBelowMark};
 
 use crate::faults::RunFault;
 use crate::saying::say_answer;
@@ -48,11 +48,11 @@ fn commit<H: Host>(
     ensures said { OnOk result (H.tells → H.said host.new ≡ H.said host.old ++ text.now) }
 
     ensures state { OnOk result (state_of client.new ≡ next_state client.old prepared) }
-    ensures sound { OnOk result (IsSound (state_of client.old) → IsSound (state_of client.new)) }
     ensures session { OnOk result (session_of client.new ≡ next_session client.old prepared) }
-    ensures place { OnOk result (IsSound (state_of client.old)
-        → end_of client.new ≡ place_after (end_of client.old) (state_of client.old) (next_state client.old prepared)) }
-    ensures only { (IsErrOf result RunFault.ShelfFault → ⊥) × (IsErrOf result RunFault.StoreFull → ⊥) × (IsErrOf result RunFault.OutOfMemory → ⊥) }
+    ensures place { OnOk result (end_of client.new ≡ place_after (end_of client.old) (state_of client.old) (next_state client.old prepared)) }
+    ensures cost { H.tells → HasCost (bytes_for (end_of client.old) (state_of client.old) (next_state client.old prepared)) (H.written host.old) (H.written host.new) result }
+    ensures below { H.tells → MeetsAll H.Host host.old host.new (IsBelowMark H.Host host.old) }
+    ensures only { (IsErrOf result RunFault.ShelfFault → ⊥) × (IsErrOf result RunFault.OutOfMemory → ⊥) }
     ensures cause { IsErrOf result RunFault.DiskFault → Rose (H.disk_faults host.old) (H.disk_faults host.new) }
     ensures say_cause { IsErrOf result RunFault.SayFault → Rose (H.say_faults host.old) (H.say_faults host.new) }
     ensures disk_faults { H.disk_faults host.old ≤ H.disk_faults host.new }
@@ -73,7 +73,6 @@ fn run_command<F: Shelf, H: Host>(
     table: &TransformTable,
     command: &Command,
 ) -> Result<(), RunFault>
-    requires sound { IsSound (state_of client.old) }
     requires moment { now ≤ last_moment }
     requires table { names_of table.now ≡ standard_names }
     requires holds { H.tells → IsOpenOn H.Host client.old host.old }
@@ -93,14 +92,11 @@ fn run_command<F: Shelf, H: Host>(
 
     ensures state { F.tells → OnOk result (state_of client.new ≡ (step_of client.old (setting F.Shelf shelf.old now) command.now).state) }
     ensures session { F.tells → OnOk result (session_of client.new ≡ (step_of client.old (setting F.Shelf shelf.old now) command.now).session) }
-    ensures sound { OnOk result (IsSound (state_of client.new)) }
-    ensures typed { F.tells → IsAnswered result → IsTyped (state_of client.old) (session_of client.old) command.now
-        (step_of client.old (setting F.Shelf shelf.old now) command.now).answer }
+    ensures named { IsErrOf result RunFault.ShelfFault → IsTrue (names_file command.now) }
     ensures place { OnOk result (end_of client.new ≡ place_after (end_of client.old) (state_of client.old) (state_of client.new)) }
-    ensures full { IsErrOf result RunFault.StoreFull → F.tells
-        → IsFullFor (end_of client.old) (state_of client.old) (step_of client.old (setting F.Shelf shelf.old now) command.now).state }
-    ensures fits { F.tells → OnOk result
-        (IsFullFor (end_of client.old) (state_of client.old) (step_of client.old (setting F.Shelf shelf.old now) command.now).state → ⊥) }
+    ensures cost { F.tells → H.tells → HasCost (bytes_for (end_of client.old) (state_of client.old) (step_of client.old (setting F.Shelf shelf.old now) command.now).state)
+        (H.written host.old) (H.written host.new) result }
+    ensures below { H.tells → MeetsAll H.Host host.old host.new (IsBelowMark H.Host host.old) }
 
     ensures files { F.tells → (name : List ℕ) → F.file shelf.new name ≡ F.file shelf.old name }
     ensures shelf_cause { IsErrOf result RunFault.ShelfFault → Rose (F.faults shelf.old) (F.faults shelf.new) }
@@ -132,7 +128,9 @@ fn refuse<H: Host>(
     ensures holds { OnOk result (H.tells → IsOpenOn H.Host client.now host.new) }
     ensures gate { OnOk result (H.tells → HasGateOn H.Host client.now host.old → HasGateOn H.Host client.now host.new) }
     ensures said { OnOk result (H.tells → H.said host.new ≡ H.said host.old ++ fault_answer fault) }
-    ensures only { (IsErrOf result RunFault.ShelfFault → ⊥) × (IsErrOf result RunFault.StoreFull → ⊥) × (IsErrOf result RunFault.DiskFault → ⊥) }
+    ensures written { H.tells → H.written host.new ≡ H.written host.old }
+    ensures below { H.tells → MeetsAll H.Host host.old host.new (IsBelowMark H.Host host.old) }
+    ensures only { (IsErrOf result RunFault.ShelfFault → ⊥) × (IsErrOf result RunFault.DiskFault → ⊥) }
     ensures say_cause { IsErrOf result RunFault.SayFault → Rose (H.say_faults host.old) (H.say_faults host.new) }
     ensures disk_faults { H.disk_faults host.new ≡ H.disk_faults host.old }
     ensures say_faults { H.say_faults host.old ≤ H.say_faults host.new }
@@ -153,7 +151,6 @@ pub(crate) fn run_line<F: Shelf, H: Host>(
     table: &TransformTable,
     line: &[u8],
 ) -> Result<(), RunFault>
-    requires sound { IsSound (state_of client.old) }
     requires moment { now ≤ last_moment }
     requires table { names_of table.now ≡ standard_names }
     requires holds { H.tells → IsOpenOn H.Host client.old host.old }
@@ -173,11 +170,11 @@ pub(crate) fn run_line<F: Shelf, H: Host>(
         → H.said host.new ≡ H.said host.old ++ answer (setting F.Shelf shelf.old now) (run_of client.old) line.now) }
 
     ensures state { F.tells → OnOk result (run_of client.new ≡ run_after (setting F.Shelf shelf.old now) (run_of client.old) line.now) }
-    ensures sound { OnOk result (IsSound (state_of client.new)) }
-    ensures typed { F.tells → IsAnswered result → IsTypedLine (setting F.Shelf shelf.old now) (run_of client.old) line.now }
+    ensures named { IsErrOf result RunFault.ShelfFault → NamesFile line.now }
     ensures place { OnOk result (end_of client.new ≡ place_after (end_of client.old) (state_of client.old) (state_of client.new)) }
-    ensures full { IsErrOf result RunFault.StoreFull → F.tells → IsFullAt (setting F.Shelf shelf.old now) (end_of client.old) (run_of client.old) line.now }
-    ensures fits { F.tells → OnOk result (IsFullAt (setting F.Shelf shelf.old now) (end_of client.old) (run_of client.old) line.now → ⊥) }
+    ensures cost { F.tells → H.tells → HasCost (bytes_for (end_of client.old) (state_of client.old) (run_after (setting F.Shelf shelf.old now) (run_of client.old) line.now).state)
+        (H.written host.old) (H.written host.new) result }
+    ensures below { H.tells → MeetsAll H.Host host.old host.new (IsBelowMark H.Host host.old) }
 
     ensures files { F.tells → (name : List ℕ) → F.file shelf.new name ≡ F.file shelf.old name }
     ensures shelf_cause { IsErrOf result RunFault.ShelfFault → Rose (F.faults shelf.old) (F.faults shelf.new) }

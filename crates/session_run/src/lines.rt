@@ -1,20 +1,15 @@
 // All lines of a script.
-ghost use Rattle.std.specs.Prelude.{◌≡◌, ◌≢◌, ◌≤◌, ◌<◌, ◌+◌, ◌++◌, ℕ, List, All, OnOk, IsErrOf, length, map};
+ghost use Rattle.std.specs.Prelude.{◌≡◌, ◌≤◌, ℕ, List, All, OnOk, IsErrOf, length, map};
 ghost use Rattle.host_model.specs.Causes.{Rose};
-ghost use Rattle.host_model.specs.Hosts.{MeetsAll};
 ghost use Rattle.enrol_states.specs.State.{last_moment};
-ghost use Rattle.state_codec.specs.Sound.{IsSound};
 ghost use Rattle.jexl_transforms.specs.Meaning.{standard_names};
 ghost use Rattle.jexl_transforms.specs.Table.{names_of};
 ghost use Rattle.client_core.specs.Clients.{state_of, session_of, end_of, IsOpenOn, HasGateOn};
-ghost use Rattle.client_core.specs.OpenStore.{AllKept, AllStand};
 ghost use Rattle.client_core.specs.Settings.{setting};
 ghost use Rattle.client_core.specs.Sessions.{no_session};
 ghost use Rattle.client_words.specs.Commands.{part_at, IsWithin};
-ghost use Rattle.session_run.specs.Steps.{after, out};
-ghost use Rattle.session_run.specs.Moments.{AfterPrefix};
-ghost use Rattle.session_run.specs.Places.{IsFullAtLine};
-ghost use Rattle.session_run.specs.Ends.{LinesEnd};
+ghost use Rattle.session_run.specs.Runs.{LinesRan};
+ghost use Rattle.session_run.specs.Starts.{start_on, last_state};
 
 use crate::faults::RunFault;
 use crate::line::run_line;
@@ -36,33 +31,15 @@ pub(crate) fn run_lines<F: Shelf, H: Host>(
     spans: &[(usize, usize)],
 ) -> Result<(), RunFault>
     requires within { All (IsWithin (length script.now)) spans.now }
-    requires sound { IsSound (state_of client.old) }
     requires session { session_of client.old ≡ no_session }
     requires moment { now ≤ last_moment }
     requires table { names_of table.now ≡ standard_names }
     requires holds { H.tells → IsOpenOn H.Host client.old host.old }
 
-    // Whenever a crash comes, the images are kept for the state after the first k lines, each that was answered among
-    // them, and what was said is a prefix of their answers.
-    ensures any_moment { F.tells → H.tells → HasGateOn H.Host client.old host.old
-        → MeetsAll H.Host host.old host.new (AfterPrefix (setting F.Shelf shelf.old now) (state_of client.old) (map (part_at script.now) spans.now) (H.said host.old)) }
-    ensures ends { F.tells → H.tells → HasGateOn H.Host client.old host.old
-        → LinesEnd H.Host (setting F.Shelf shelf.old now) (state_of client.old) (map (part_at script.now) spans.now) (H.said host.old) host.new result }
-
-    ensures stands { F.tells → OnOk result (H.tells → AllStand H.Host host.new (after (setting F.Shelf shelf.old now) (state_of client.old) (map (part_at script.now) spans.now) (length spans.now))) }
+    ensures ran { F.tells → H.tells → LinesRan H.Host (HasGateOn H.Host client.old host.old)
+        (start_on F.Shelf H.Host now shelf.old host.old (map (part_at script.now) spans.now) (state_of client.old) (end_of client.old)) host.old host.new result }
     ensures state { F.tells → OnOk result
-        (state_of client.new ≡ after (setting F.Shelf shelf.old now) (state_of client.old) (map (part_at script.now) spans.now) (length spans.now)) }
-    ensures said { F.tells → OnOk result (H.tells
-        → H.said host.new ≡ H.said host.old ++ out (setting F.Shelf shelf.old now) (state_of client.old) (map (part_at script.now) spans.now) (length spans.now)) }
-    ensures made { F.tells → OnOk result (H.tells → (k : ℕ) → k < length spans.now
-        → after (setting F.Shelf shelf.old now) (state_of client.old) (map (part_at script.now) spans.now) k
-        ≢ after (setting F.Shelf shelf.old now) (state_of client.old) (map (part_at script.now) spans.now) (k + 1)
-        → AllKept H.Host host.new (after (setting F.Shelf shelf.old now) (state_of client.old) (map (part_at script.now) spans.now) (length spans.now))) }
-
-    ensures full { IsErrOf result RunFault.StoreFull → F.tells
-        → (k : ℕ) × IsFullAtLine (setting F.Shelf shelf.old now) (end_of client.old) (state_of client.old) (map (part_at script.now) spans.now) k }
-    ensures fits { F.tells → OnOk result ((k : ℕ)
-        → IsFullAtLine (setting F.Shelf shelf.old now) (end_of client.old) (state_of client.old) (map (part_at script.now) spans.now) k → ⊥) }
+        (state_of client.new ≡ last_state (start_on F.Shelf H.Host now shelf.old host.old (map (part_at script.now) spans.now) (state_of client.old) (end_of client.old))) }
 
     ensures files { F.tells → (name : List ℕ) → F.file shelf.new name ≡ F.file shelf.old name }
     ensures shelf_cause { IsErrOf result RunFault.ShelfFault → Rose (F.faults shelf.old) (F.faults shelf.new) }

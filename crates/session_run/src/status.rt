@@ -22,8 +22,6 @@ pub enum RunStatus {
     AlreadyStore,
     /// A side's first byte is 1, and the pair stands for no state.
     BadStore,
-    /// A record would end past byte 67,108,864 of its side.
-    StoreFull,
     /// The source failed.
     SourceFault,
     /// The shelf failed.
@@ -39,7 +37,7 @@ pub enum RunStatus {
 impl RunStatus {
     ghost use Rattle.session_run.specs.Statuses.{code_of};
 
-    /// The exit number.
+    /// The exit number. No status has 1 or 7.
     pub fn code(&self) -> u8
         ensures { result ≡ code_of self.now }
     {
@@ -50,7 +48,6 @@ impl RunStatus {
             RunStatus::NoStore => 4,
             RunStatus::AlreadyStore => 5,
             RunStatus::BadStore => 6,
-            RunStatus::StoreFull => 7,
             RunStatus::SourceFault => 8,
             RunStatus::ShelfFault => 9,
             RunStatus::DiskFault => 10,
@@ -70,7 +67,6 @@ impl fmt::Display for RunStatus {
             RunStatus::NoStore => "NoStore",
             RunStatus::AlreadyStore => "AlreadyStore",
             RunStatus::BadStore => "BadStore",
-            RunStatus::StoreFull => "StoreFull",
             RunStatus::SourceFault => "SourceFault",
             RunStatus::ShelfFault => "ShelfFault",
             RunStatus::DiskFault => "DiskFault",
@@ -136,7 +132,6 @@ impl From<RunFault> for RunStatus {
     fn from(fault: RunFault) -> Self {
         match fault {
             RunFault::ShelfFault => RunStatus::ShelfFault,
-            RunFault::StoreFull => RunStatus::StoreFull,
             RunFault::DiskFault => RunStatus::DiskFault,
             RunFault::SayFault => RunStatus::SayFault,
             RunFault::OutOfMemory => RunStatus::OutOfMemory,

@@ -1,13 +1,14 @@
 -- The store of a drill is made, and then its script is run.
-use Rattle.std.proofs.Common.{List, ℕ, ◌++◌, take, refl, ◌∙◌, ap, subst}
+use Rattle.std.proofs.Common.{inl, List, ℕ, refl, subst, arith}
 use Rattle.host_model.specs.declared.side.Side.TheVariants.{Left, Right}
-use Rattle.host_model.specs.Hosts.{MeetsAll}
-use Rattle.enrol_states.specs.State.{fresh}
-use Rattle.client_core.specs.OpenStore.{AllKept}
-use Rattle.client_core.proofs.Holding.{stands_of_kept}
-use Rattle.client_core.proofs.Refusing.{stands_not_absent}
-use Rattle.session_run.specs.Making.{ready, DuringMaking}
-use Rattle.session_run.proofs.Drilling.{drilled_made, drilled_unmade}
+use Rattle.host_model.specs.Hosts.{NowOf}
+use Rattle.host_model.proofs.Meeting.{started, met_weaker}
+use Rattle.pair_store.specs.Moments.{IsOpening}
+use Rattle.session_run.specs.declared.status.RunStatus.TheVariants.{Done, OutOfMemory}
+use Rattle.session_run.specs.Making.{Made}
+use Rattle.session_run.proofs.Belonging.{making_in_drill}
+use Rattle.session_run.proofs.Drilling.{found_made, drilled_made, drilled_unmade, drilled_unbegun}
+use Rattle.session_run.proofs.Judging.{making_judges}
 use Rattle.session_run.proofs.drill.drill.Goals as goal
 
 pub returns-in-Done-clause-drilled : goal.returns-in-Done-clause-drilled
@@ -15,37 +16,46 @@ returns-in-Done-clause-drilled g c tells =
     let h = g.H.Host in
     let old = c.args.host.now in
     let mid = c.init.new.host in
-    let made = c.in-Done.ensures in
+    let made = subst (λ (id : List ℕ). Made h id c.args.now old mid Done) c.id_bytes.ensures (c.in-Done.ensures.made tells) in
     let script = c.run_script.ensures in
-    drilled_made h c.args.start c.args.count c.args.now old mid c.run_script.new.host c.run_script.result
-    (subst (λ (id : List ℕ). MeetsAll h old mid (DuringMaking (h.said old) (fresh id c.args.now) (ready id))) c.id_bytes.ensures (made.any_moment tells))
-    ((made.done refl tells).1 ∙ ap (λ (id : List ℕ). h.said old ++ ready id) c.id_bytes.ensures)
-    (made.finds tells) (script.any_moment tells) (script.ends tells) (λ is. script.full is tells) (λ is. script.fits is tells)
+    let ends = script.ends tells in
+    drilled_made h c.args.start c.args.count c.args.now old mid c.run_script.new.host c.run_script.result made (c.in-Done.ensures.found tells).finds ends.0 ends.1 ends.2 c.requires.moment
+    (g.met.H.Host.read_is_image old Left tells) (g.met.H.Host.read_is_image old Right tells) (g.met.H.Host.read_is_image mid Left tells) (g.met.H.Host.read_is_image mid Right tells)
+    (λ l r left right. made.below.each l r (h.said mid) (g.met.H.Host.counts_now mid (h.moment old) l r (h.said mid) tells made.below.later (left, right, refl))) (script.any_moment tells) (script.below tells)
 
-pub returns-in-Done-clause-left : goal.returns-in-Done-clause-left
-returns-in-Done-clause-left g c tells s all =
+pub returns-in-Done-clause-found : goal.returns-in-Done-clause-found
+returns-in-Done-clause-found g c tells =
     let h = g.H.Host in
-    let l = h.reads c.args.host.now Left in
-    let r = h.reads c.args.host.now Right in
-    let kept = all l r (g.met.H.Host.read_is_image c.args.host.now Left tells) (g.met.H.Host.read_is_image c.args.host.now Right tells) in
-    absurd (stands_not_absent l r s (stands_of_kept l r s kept) (c.in-Done.ensures.finds tells))
+    let old = c.args.host.now in
+    let mid = c.init.new.host in
+    let made = subst (λ (id : List ℕ). Made h id c.args.now old mid Done) c.id_bytes.ensures (c.in-Done.ensures.made tells) in
+    let ends = c.run_script.ensures.ends tells in
+    found_made h c.args.start c.args.count c.args.now old mid c.run_script.new.host c.run_script.result made (c.in-Done.ensures.found tells).finds ends.0 ends.1 ends.2
 
-pub returns-in_default-init : goal.returns-in_default-init
-returns-in_default-init g c =
+pub returns-in_default-init-clause-drilled : goal.returns-in_default-init-clause-drilled
+returns-in_default-init-clause-drilled g c tells =
     let h = g.H.Host in
     let old = c.args.host.now in
     let new = c.init.new.host in
-    let init = c.init.ensures in
-    let is = c.id_bytes.ensures in
+    drilled_unmade h c.args.start c.args.count c.args.now old new c.requires.moment c.init.result
+    (subst (λ (id : List ℕ). Made h id c.args.now old new c.init.result) c.id_bytes.ensures (c.init.ensures.made tells)) c.in_default-init.not-Done
+
+pub returns-in_default-init-clause-is_of : goal.returns-in_default-init-clause-is_of
+returns-in_default-init-clause-is_of g c = making_in_drill c.init.result c.init.ensures.is_of
+
+pub returns-in_default-clause-drilled : goal.returns-in_default-clause-drilled
+returns-in_default-clause-drilled g c tells =
+    let h = g.H.Host in
+    let old = c.args.host.now in
+    drilled_unbegun h c.args.start c.args.count c.args.now old c.requires.moment (started h.moment h.might old (NowOf h old) (λ l r u met. g.met.H.Host.only_now old l r u tells met))
+
+pub returns-in_default-clause-found : goal.returns-in_default-clause-found
+returns-in_default-clause-found g c tells =
+    let h = g.H.Host in
+    let old = c.args.host.now in
+    let none = started h.moment h.might old (NowOf h old) (λ l r u met. g.met.H.Host.only_now old l r u tells met) in
     record {
-      drilled = λ tells. drilled_unmade h c.args.start c.args.count c.args.now old new c.init.result
-          (subst (λ (id : List ℕ). MeetsAll h old new (DuringMaking (h.said old) (fresh id c.args.now) (ready id))) is (init.any_moment tells))
-          (init.finds tells) c.in_default-init.not-Done (λ not_say. init.unsaid c.in_default-init.not-Done not_say tells)
-          (λ fault. subst (λ (id : List ℕ). AllKept h new (fresh id c.args.now)) is (init.say fault tells))
-          (λ fault. let part = init.say_part fault tells in (part.0, part.1 ∙ ap (λ (id : List ℕ). h.said old ++ take part.0 (ready id)) is))
-          (init.quiet tells);
-      left = init.left;
-      cause = init.cause;
-      say_cause = init.say_cause;
-      others = init.others;
+      finds = tt;
+      judges = making_judges (h.reads old Left) (h.reads old Right) OutOfMemory tt;
+      quiet = λ found. record { moments = met_weaker h.moment h.might old old _ (IsOpening h old) none (λ l r u met. inl met); text = refl; most = omega arith };
     }

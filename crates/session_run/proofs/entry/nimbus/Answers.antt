@@ -1,240 +1,143 @@
 -- What the words ask for is done.
-use Rattle.std.proofs.Common.{ℕ, inl, inr, ap, arith, refl, subst, Some}
+use Rattle.std.proofs.Common.{◌⊎◌, ℕ, List, inl, inr, ap, arith, refl, subst, Some}
+use Rattle.std.specs.Prelude.{map, string_bytes}
 use Rattle.session_run.specs.DrillEnds.{Drilled}
-use Rattle.client_core.specs.Settings.{setting}
-use Rattle.client_words.specs.Commands.{lines_of}
-use Rattle.session_run.proofs.OptOuts.{is_out}
-use Rattle.session_run.proofs.Said.{typed_at, served_at}
-use Rattle.session_run.proofs.Judging.{run_judges, init_judges, drill_judges, run_complete, init_complete, drill_complete}
-use Rattle.session_run.proofs.WordLists.{one_start, one_count, run_not_drill, init_not_drill}
+use Rattle.session_run.specs.Making.{Made}
+use Rattle.session_run.specs.Statuses.{IsOfRun, IsOfDrill, IsOfMaking}
+use Rattle.session_run.specs.Words.{IsRun, IsInit, IsDrill}
+use Rattle.session_run.proofs.Belonging.{run_belongs, drill_belongs, making_belongs, making_reaches, drill_reaches}
+use Rattle.session_run.proofs.Judging.{run_complete, making_complete}
+use Rattle.session_run.proofs.WordLists.{one_id, one_start, one_count, run_not_drill, init_not_drill, not_both}
 use Rattle.session_run.proofs.entry.nimbus.Goals as goal
 
-pub returns-in-Some-Init-clause-usage : goal.returns-in-Some-Init-clause-usage
-returns-in-Some-Init-clause-usage g c = (
-  (λ is. absurd (c.init.ensures.others.0 is)),
-  (λ none. absurd (none (inr (inl (c.in-Some-Init.id, c.in-Some-Init.ensures.init c.in-Some-Init.id (ap Some c.in-Some-Init.field-0-is)))))),
-)
+-- a run makes no store
+not_made : (words : List (List ℕ)) → IsRun words → IsInit words ⊎ IsDrill words → ⊥
+not_made words run (inl making) = not_both words making.0 run making.1
+not_made words run (inr drill) = run_not_drill words run drill
 
-pub returns-in-Some-Run-clause-usage : goal.returns-in-Some-Run-clause-usage
-returns-in-Some-Run-clause-usage g c = (
-  (λ is. absurd (c.run.ensures.usage is)),
-  (λ none. absurd (none (inl (c.in-Some-Run.ensures.run (ap Some c.in-Some-Run.field-0-is))))),
-)
+-- ---- no form
 
-pub returns-in-Some-Init-clause-init_judges : goal.returns-in-Some-Init-clause-init_judges
-returns-in-Some-Init-clause-init_judges g c is_init tells = init_judges _ _ c.init.result (c.init.ensures.finds tells)
-
-pub returns-in-Some-Init-clause-init_complete : goal.returns-in-Some-Init-clause-init_complete
-returns-in-Some-Init-clause-init_complete g c is_init tells absent disk say =
-    init_complete _ _ c.init.result (c.init.ensures.finds tells) absent (λ is. disk (c.init.ensures.cause is)) (λ is. say (c.init.ensures.say_cause is))
-
-pub returns-in-Some-Run-clause-judges : goal.returns-in-Some-Run-clause-judges
-returns-in-Some-Run-clause-judges g c is_run tells = run_judges _ _ c.run.result (c.run.ensures.finds tells)
-
-pub returns-in-Some-Run-clause-complete : goal.returns-in-Some-Run-clause-complete
-returns-in-Some-Run-clause-complete g c is_run source_tells tells short found source shelf disk say =
-    run_complete _ _ c.run.result (c.run.ensures.finds tells) found (λ is. omega (arith, short, (c.run.ensures.too_long is).2 source_tells)) (λ is. source (c.run.ensures.source_cause is).2) (λ is. shelf (c.run.ensures.shelf_cause is))
-    (λ is. disk (c.run.ensures.cause is)) (λ is. say (c.run.ensures.say_cause is))
+pub returns-in-None-clause-run : goal.returns-in-None-clause-run
+returns-in-None-clause-run g c is_run = absurd (c.in-None.ensures.none refl (inl is_run))
 
 pub returns-in-None-clause-making : goal.returns-in-None-clause-making
 returns-in-None-clause-making g c id is_init = absurd (c.in-None.ensures.none refl (inr (inl (id, is_init))))
 
-pub returns-in-Some-Init-clause-opted_out : goal.returns-in-Some-Init-clause-opted_out
-returns-in-Some-Init-clause-opted_out g c s k slug l r within kept held = is_out _ s _ k slug l r within kept held
+pub returns-in-None-clause-drill : goal.returns-in-None-clause-drill
+returns-in-None-clause-drill g c start count is_drill = absurd (c.in-None.ensures.none refl (inr (inr (start, count, is_drill))))
 
-pub returns-in-Some-Run-clause-opted_out : goal.returns-in-Some-Run-clause-opted_out
-returns-in-Some-Run-clause-opted_out g c s k slug l r within kept held = is_out _ s _ k slug l r within kept held
+pub returns-in-None-clause-causes : goal.returns-in-None-clause-causes
+returns-in-None-clause-causes g c =
+    let none = c.in-None.ensures.none refl in
+    record {
+      belongs = none;
+      source_rose = λ is. absurd cc;
+      shelf_rose = λ is. absurd cc;
+      disk_rose = λ is. absurd cc;
+      say_rose = λ is. absurd cc;
+      unreached = λ is. (refl, refl);
+      unread = λ is. refl;
+      apart = λ is. (refl, refl);
+      files = λ tells name. refl;
+      too_long = λ is. absurd cc;
+      too_long_where = λ is_run. absurd (none (inl is_run));
+      read = λ is_run. absurd (none (inl is_run));
+      run_found = λ is_run. absurd (none (inl is_run));
+      making_found = λ is. absurd (none (inr is));
+      run_done = λ is_run. absurd (none (inl is_run));
+      making_done = λ is. absurd (none (inr is));
+    }
 
-pub returns-in-None-clause-opted_out : goal.returns-in-None-clause-opted_out
-returns-in-None-clause-opted_out g c s k slug l r within kept held = is_out _ s _ k slug l r within kept held
+-- ---- the making of a store
 
-pub returns-in-Some-Run-clause-values : goal.returns-in-Some-Run-clause-values
-returns-in-Some-Run-clause-values g c is_run source_tells shelf_tells tells states s all kept k line text new is_line answered said begins =
-    let h = g.H.Host in
-    let at = setting g.F.Shelf c.args.shelf.now c.args.now in
-    let lines = lines_of (g.S.Source.left c.args.source.now) in
-    served_at at s lines k line text is_line
-    (typed_at at s lines (h.said c.args.host.now) h states c.run.new.host k new said begins c.run.result (c.run.ensures.reopened_ends source_tells shelf_tells tells states s all kept)) answered
+pub returns-in-Some-Init-clause-usage : goal.returns-in-Some-Init-clause-usage
+returns-in-Some-Init-clause-usage g c = (
+  (λ is. absurd (subst IsOfMaking is c.init.ensures.is_of)),
+  (λ none. absurd (none (inr (inl (c.in-Some-Init.id, c.in-Some-Init.ensures.init c.in-Some-Init.id (ap Some c.in-Some-Init.field-0-is)))))),
+)
 
--- a drill is neither a run nor a making
+pub returns-in-Some-Init-clause-run : goal.returns-in-Some-Init-clause-run
+returns-in-Some-Init-clause-run g c is_run = absurd (not_both _ c.in-Some-Init.id is_run (c.in-Some-Init.ensures.init c.in-Some-Init.id (ap Some c.in-Some-Init.field-0-is)))
+
+pub returns-in-Some-Init-clause-making : goal.returns-in-Some-Init-clause-making
+returns-in-Some-Init-clause-making g c id is_init tells =
+    let there = c.in-Some-Init.ensures.init c.in-Some-Init.id (ap Some c.in-Some-Init.field-0-is) in
+    subst (λ (b : List ℕ). Made g.H.Host b c.args.now c.args.host.now c.init.new.host c.init.result) (one_id _ c.in-Some-Init.id id there is_init) (c.init.ensures.made tells)
+
+pub returns-in-Some-Init-clause-drill : goal.returns-in-Some-Init-clause-drill
+returns-in-Some-Init-clause-drill g c start count is_drill =
+    absurd (init_not_drill _ (c.in-Some-Init.id, c.in-Some-Init.ensures.init c.in-Some-Init.id (ap Some c.in-Some-Init.field-0-is)) (start, count, is_drill))
+
+pub returns-in-Some-Init-clause-causes : goal.returns-in-Some-Init-clause-causes
+returns-in-Some-Init-clause-causes g c =
+    let init = c.init.ensures in
+    let answered = c.init.result in
+    let there = c.in-Some-Init.ensures.init c.in-Some-Init.id (ap Some c.in-Some-Init.field-0-is) in
+    record {
+      belongs = making_belongs _ (c.in-Some-Init.id, there) answered init.is_of;
+      source_rose = λ is. absurd (subst IsOfMaking is init.is_of);
+      shelf_rose = λ is. absurd (subst IsOfMaking is init.is_of);
+      disk_rose = init.disk_cause;
+      say_rose = init.say_cause;
+      unreached = λ is. absurd (making_reaches answered init.is_of is);
+      unread = λ is. refl;
+      apart = λ is. (refl, refl);
+      files = λ tells name. refl;
+      too_long = λ is. absurd (subst IsOfMaking is init.is_of);
+      too_long_where = λ is_run. absurd (not_both _ c.in-Some-Init.id is_run there);
+      read = λ is_run. absurd (not_both _ c.in-Some-Init.id is_run there);
+      run_found = λ is_run. absurd (not_both _ c.in-Some-Init.id is_run there);
+      making_found = λ is. init.found;
+      run_done = λ is_run. absurd (not_both _ c.in-Some-Init.id is_run there);
+      making_done = λ is tells absent disk say. making_complete _ _ answered (init.found tells).finds absent (λ fault. disk (init.disk_cause fault)) (λ fault. say (init.say_cause fault));
+    }
+
+-- ---- a drill
+
 pub returns-in-Some-Drill-clause-usage : goal.returns-in-Some-Drill-clause-usage
 returns-in-Some-Drill-clause-usage g c = (
-  (λ is. absurd (c.drill.ensures.others.0 is)),
+  (λ is. absurd (subst IsOfDrill is c.drill.ensures.is_of)),
   (λ none. absurd (none (inr (inr (c.in-Some-Drill.start, c.in-Some-Drill.count, c.in-Some-Drill.ensures.drill c.in-Some-Drill.start c.in-Some-Drill.count (ap Some c.in-Some-Drill.field-0-is)))))),
 )
 
-pub returns-in-Some-Drill-clause-crash : goal.returns-in-Some-Drill-clause-crash
-returns-in-Some-Drill-clause-crash g c is_run = absurd (run_not_drill _ is_run (c.in-Some-Drill.start, c.in-Some-Drill.count, c.in-Some-Drill.ensures.drill c.in-Some-Drill.start c.in-Some-Drill.count (ap Some c.in-Some-Drill.field-0-is)))
-
-pub returns-in-Some-Drill-clause-ends : goal.returns-in-Some-Drill-clause-ends
-returns-in-Some-Drill-clause-ends g c is_run = absurd (run_not_drill _ is_run (c.in-Some-Drill.start, c.in-Some-Drill.count, c.in-Some-Drill.ensures.drill c.in-Some-Drill.start c.in-Some-Drill.count (ap Some c.in-Some-Drill.field-0-is)))
-
-pub returns-in-Some-Drill-clause-reopened : goal.returns-in-Some-Drill-clause-reopened
-returns-in-Some-Drill-clause-reopened g c is_run = absurd (run_not_drill _ is_run (c.in-Some-Drill.start, c.in-Some-Drill.count, c.in-Some-Drill.ensures.drill c.in-Some-Drill.start c.in-Some-Drill.count (ap Some c.in-Some-Drill.field-0-is)))
-
-pub returns-in-Some-Drill-clause-reopened_ends : goal.returns-in-Some-Drill-clause-reopened_ends
-returns-in-Some-Drill-clause-reopened_ends g c is_run = absurd (run_not_drill _ is_run (c.in-Some-Drill.start, c.in-Some-Drill.count, c.in-Some-Drill.ensures.drill c.in-Some-Drill.start c.in-Some-Drill.count (ap Some c.in-Some-Drill.field-0-is)))
-
-pub returns-in-Some-Drill-clause-values : goal.returns-in-Some-Drill-clause-values
-returns-in-Some-Drill-clause-values g c is_run = absurd (run_not_drill _ is_run (c.in-Some-Drill.start, c.in-Some-Drill.count, c.in-Some-Drill.ensures.drill c.in-Some-Drill.start c.in-Some-Drill.count (ap Some c.in-Some-Drill.field-0-is)))
-
-pub returns-in-Some-Drill-clause-read : goal.returns-in-Some-Drill-clause-read
-returns-in-Some-Drill-clause-read g c is_run = absurd (run_not_drill _ is_run (c.in-Some-Drill.start, c.in-Some-Drill.count, c.in-Some-Drill.ensures.drill c.in-Some-Drill.start c.in-Some-Drill.count (ap Some c.in-Some-Drill.field-0-is)))
-
-pub returns-in-Some-Drill-clause-stands : goal.returns-in-Some-Drill-clause-stands
-returns-in-Some-Drill-clause-stands g c is_run = absurd (run_not_drill _ is_run (c.in-Some-Drill.start, c.in-Some-Drill.count, c.in-Some-Drill.ensures.drill c.in-Some-Drill.start c.in-Some-Drill.count (ap Some c.in-Some-Drill.field-0-is)))
-
-pub returns-in-Some-Drill-clause-made : goal.returns-in-Some-Drill-clause-made
-returns-in-Some-Drill-clause-made g c is_run = absurd (run_not_drill _ is_run (c.in-Some-Drill.start, c.in-Some-Drill.count, c.in-Some-Drill.ensures.drill c.in-Some-Drill.start c.in-Some-Drill.count (ap Some c.in-Some-Drill.field-0-is)))
-
-pub returns-in-Some-Drill-clause-finds : goal.returns-in-Some-Drill-clause-finds
-returns-in-Some-Drill-clause-finds g c is_run = absurd (run_not_drill _ is_run (c.in-Some-Drill.start, c.in-Some-Drill.count, c.in-Some-Drill.ensures.drill c.in-Some-Drill.start c.in-Some-Drill.count (ap Some c.in-Some-Drill.field-0-is)))
-
-pub returns-in-Some-Drill-clause-judges : goal.returns-in-Some-Drill-clause-judges
-returns-in-Some-Drill-clause-judges g c is_run = absurd (run_not_drill _ is_run (c.in-Some-Drill.start, c.in-Some-Drill.count, c.in-Some-Drill.ensures.drill c.in-Some-Drill.start c.in-Some-Drill.count (ap Some c.in-Some-Drill.field-0-is)))
-
-pub returns-in-Some-Drill-clause-quiet : goal.returns-in-Some-Drill-clause-quiet
-returns-in-Some-Drill-clause-quiet g c is_run = absurd (run_not_drill _ is_run (c.in-Some-Drill.start, c.in-Some-Drill.count, c.in-Some-Drill.ensures.drill c.in-Some-Drill.start c.in-Some-Drill.count (ap Some c.in-Some-Drill.field-0-is)))
-
-pub returns-in-Some-Drill-clause-full : goal.returns-in-Some-Drill-clause-full
-returns-in-Some-Drill-clause-full g c is_run = absurd (run_not_drill _ is_run (c.in-Some-Drill.start, c.in-Some-Drill.count, c.in-Some-Drill.ensures.drill c.in-Some-Drill.start c.in-Some-Drill.count (ap Some c.in-Some-Drill.field-0-is)))
-
-pub returns-in-Some-Drill-clause-fits : goal.returns-in-Some-Drill-clause-fits
-returns-in-Some-Drill-clause-fits g c is_run = absurd (run_not_drill _ is_run (c.in-Some-Drill.start, c.in-Some-Drill.count, c.in-Some-Drill.ensures.drill c.in-Some-Drill.start c.in-Some-Drill.count (ap Some c.in-Some-Drill.field-0-is)))
-
-pub returns-in-Some-Drill-clause-too_long_where : goal.returns-in-Some-Drill-clause-too_long_where
-returns-in-Some-Drill-clause-too_long_where g c is_run = absurd (run_not_drill _ is_run (c.in-Some-Drill.start, c.in-Some-Drill.count, c.in-Some-Drill.ensures.drill c.in-Some-Drill.start c.in-Some-Drill.count (ap Some c.in-Some-Drill.field-0-is)))
-
-pub returns-in-Some-Drill-clause-complete : goal.returns-in-Some-Drill-clause-complete
-returns-in-Some-Drill-clause-complete g c is_run = absurd (run_not_drill _ is_run (c.in-Some-Drill.start, c.in-Some-Drill.count, c.in-Some-Drill.ensures.drill c.in-Some-Drill.start c.in-Some-Drill.count (ap Some c.in-Some-Drill.field-0-is)))
+pub returns-in-Some-Drill-clause-run : goal.returns-in-Some-Drill-clause-run
+returns-in-Some-Drill-clause-run g c is_run = absurd (run_not_drill _ is_run (c.in-Some-Drill.start, c.in-Some-Drill.count, c.in-Some-Drill.ensures.drill c.in-Some-Drill.start c.in-Some-Drill.count (ap Some c.in-Some-Drill.field-0-is)))
 
 pub returns-in-Some-Drill-clause-making : goal.returns-in-Some-Drill-clause-making
 returns-in-Some-Drill-clause-making g c id is_init = absurd (init_not_drill _ (id, is_init) (c.in-Some-Drill.start, c.in-Some-Drill.count, c.in-Some-Drill.ensures.drill c.in-Some-Drill.start c.in-Some-Drill.count (ap Some c.in-Some-Drill.field-0-is)))
 
-pub returns-in-Some-Drill-clause-made_new : goal.returns-in-Some-Drill-clause-made_new
-returns-in-Some-Drill-clause-made_new g c id is_init = absurd (init_not_drill _ (id, is_init) (c.in-Some-Drill.start, c.in-Some-Drill.count, c.in-Some-Drill.ensures.drill c.in-Some-Drill.start c.in-Some-Drill.count (ap Some c.in-Some-Drill.field-0-is)))
-
-pub returns-in-Some-Drill-clause-made_unsaid : goal.returns-in-Some-Drill-clause-made_unsaid
-returns-in-Some-Drill-clause-made_unsaid g c id is_init = absurd (init_not_drill _ (id, is_init) (c.in-Some-Drill.start, c.in-Some-Drill.count, c.in-Some-Drill.ensures.drill c.in-Some-Drill.start c.in-Some-Drill.count (ap Some c.in-Some-Drill.field-0-is)))
-
-pub returns-in-Some-Drill-clause-init_left : goal.returns-in-Some-Drill-clause-init_left
-returns-in-Some-Drill-clause-init_left g c is_init = absurd (init_not_drill _ is_init (c.in-Some-Drill.start, c.in-Some-Drill.count, c.in-Some-Drill.ensures.drill c.in-Some-Drill.start c.in-Some-Drill.count (ap Some c.in-Some-Drill.field-0-is)))
-
-pub returns-in-Some-Drill-clause-init_same : goal.returns-in-Some-Drill-clause-init_same
-returns-in-Some-Drill-clause-init_same g c is_init = absurd (init_not_drill _ is_init (c.in-Some-Drill.start, c.in-Some-Drill.count, c.in-Some-Drill.ensures.drill c.in-Some-Drill.start c.in-Some-Drill.count (ap Some c.in-Some-Drill.field-0-is)))
-
-pub returns-in-Some-Drill-clause-init_finds : goal.returns-in-Some-Drill-clause-init_finds
-returns-in-Some-Drill-clause-init_finds g c is_init = absurd (init_not_drill _ is_init (c.in-Some-Drill.start, c.in-Some-Drill.count, c.in-Some-Drill.ensures.drill c.in-Some-Drill.start c.in-Some-Drill.count (ap Some c.in-Some-Drill.field-0-is)))
-
-pub returns-in-Some-Drill-clause-init_judges : goal.returns-in-Some-Drill-clause-init_judges
-returns-in-Some-Drill-clause-init_judges g c is_init = absurd (init_not_drill _ is_init (c.in-Some-Drill.start, c.in-Some-Drill.count, c.in-Some-Drill.ensures.drill c.in-Some-Drill.start c.in-Some-Drill.count (ap Some c.in-Some-Drill.field-0-is)))
-
-pub returns-in-Some-Drill-clause-init_quiet : goal.returns-in-Some-Drill-clause-init_quiet
-returns-in-Some-Drill-clause-init_quiet g c is_init = absurd (init_not_drill _ is_init (c.in-Some-Drill.start, c.in-Some-Drill.count, c.in-Some-Drill.ensures.drill c.in-Some-Drill.start c.in-Some-Drill.count (ap Some c.in-Some-Drill.field-0-is)))
-
-pub returns-in-Some-Drill-clause-init_memory : goal.returns-in-Some-Drill-clause-init_memory
-returns-in-Some-Drill-clause-init_memory g c is_init = absurd (init_not_drill _ is_init (c.in-Some-Drill.start, c.in-Some-Drill.count, c.in-Some-Drill.ensures.drill c.in-Some-Drill.start c.in-Some-Drill.count (ap Some c.in-Some-Drill.field-0-is)))
-
-pub returns-in-Some-Drill-clause-init_complete : goal.returns-in-Some-Drill-clause-init_complete
-returns-in-Some-Drill-clause-init_complete g c is_init = absurd (init_not_drill _ is_init (c.in-Some-Drill.start, c.in-Some-Drill.count, c.in-Some-Drill.ensures.drill c.in-Some-Drill.start c.in-Some-Drill.count (ap Some c.in-Some-Drill.field-0-is)))
-
-pub returns-in-Some-Drill-clause-usage_same : goal.returns-in-Some-Drill-clause-usage_same
-returns-in-Some-Drill-clause-usage_same g c is = absurd (c.drill.ensures.others.0 is)
-
-pub returns-in-Some-Drill-clause-too_long : goal.returns-in-Some-Drill-clause-too_long
-returns-in-Some-Drill-clause-too_long g c is = absurd (c.drill.ensures.others.1 is)
-
-pub returns-in-Some-Drill-clause-source_cause : goal.returns-in-Some-Drill-clause-source_cause
-returns-in-Some-Drill-clause-source_cause g c is = absurd (c.drill.ensures.others.2 is)
-
-pub returns-in-Some-Drill-clause-shelf_cause : goal.returns-in-Some-Drill-clause-shelf_cause
-returns-in-Some-Drill-clause-shelf_cause g c is = absurd (c.drill.ensures.others.3 is)
-
-pub returns-in-Some-Drill-clause-opted_out : goal.returns-in-Some-Drill-clause-opted_out
-returns-in-Some-Drill-clause-opted_out g c s k slug l r within kept held = is_out _ s _ k slug l r within kept held
-
-pub returns-in-Some-Drill-clause-drill_left : goal.returns-in-Some-Drill-clause-drill_left
-returns-in-Some-Drill-clause-drill_left g c is_drill = c.drill.ensures.left
-
-pub returns-in-Some-Drill-clause-drill_same : goal.returns-in-Some-Drill-clause-drill_same
-returns-in-Some-Drill-clause-drill_same g c is_drill = (refl, refl)
-
-pub returns-in-Some-Drill-clause-drill_judges : goal.returns-in-Some-Drill-clause-drill_judges
-returns-in-Some-Drill-clause-drill_judges g c is_drill tells = drill_judges _ _ c.drill.result (c.drill.ensures.drilled tells).finds
-
-pub returns-in-Some-Drill-clause-drill_complete : goal.returns-in-Some-Drill-clause-drill_complete
-returns-in-Some-Drill-clause-drill_complete g c is_drill tells absent disk say =
-    drill_complete _ _ c.drill.result (c.drill.ensures.drilled tells).finds absent (λ is. disk (c.drill.ensures.cause is)) (λ is. say (c.drill.ensures.say_cause is))
-
-pub returns-in-Some-Drill-clause-drilled : goal.returns-in-Some-Drill-clause-drilled
-returns-in-Some-Drill-clause-drilled g c start count is_drill tells =
+pub returns-in-Some-Drill-clause-drill : goal.returns-in-Some-Drill-clause-drill
+returns-in-Some-Drill-clause-drill g c start count is_drill tells =
     let h = g.H.Host in
     let old = c.args.host.now in
     let new = c.drill.new.host in
-    let here = c.in-Some-Drill.ensures.drill c.in-Some-Drill.start c.in-Some-Drill.count (ap Some c.in-Some-Drill.field-0-is) in
-    subst (λ (m : ℕ). Drilled h m count c.args.now old new c.drill.result) (one_start _ c.in-Some-Drill.start c.in-Some-Drill.count start count here is_drill)
-    (subst (λ (n : ℕ). Drilled h c.in-Some-Drill.start n c.args.now old new c.drill.result) (one_count _ c.in-Some-Drill.start c.in-Some-Drill.count start count here is_drill) (c.drill.ensures.drilled tells))
+    let there = c.in-Some-Drill.ensures.drill c.in-Some-Drill.start c.in-Some-Drill.count (ap Some c.in-Some-Drill.field-0-is) in
+    subst (λ (m : ℕ). Drilled h m count c.args.now old new c.drill.result) (one_start _ c.in-Some-Drill.start c.in-Some-Drill.count start count there is_drill)
+    (subst (λ (n : ℕ). Drilled h c.in-Some-Drill.start n c.args.now old new c.drill.result) (one_count _ c.in-Some-Drill.start c.in-Some-Drill.count start count there is_drill) (c.drill.ensures.drilled tells))
 
--- nor is either a drill
-
-pub returns-in-Some-Run-clause-drill_left : goal.returns-in-Some-Run-clause-drill_left
-returns-in-Some-Run-clause-drill_left g c is_drill = absurd (run_not_drill _ (c.in-Some-Run.ensures.run (ap Some c.in-Some-Run.field-0-is)) is_drill)
-
-pub returns-in-Some-Init-clause-drill_left : goal.returns-in-Some-Init-clause-drill_left
-returns-in-Some-Init-clause-drill_left g c is_drill = absurd (init_not_drill _ (c.in-Some-Init.id, c.in-Some-Init.ensures.init c.in-Some-Init.id (ap Some c.in-Some-Init.field-0-is)) is_drill)
-
-pub returns-in-None-clause-drill_left : goal.returns-in-None-clause-drill_left
-returns-in-None-clause-drill_left g c is_drill = absurd (c.in-None.ensures.none refl (inr (inr is_drill)))
-
-pub returns-in-Some-Run-clause-drill_same : goal.returns-in-Some-Run-clause-drill_same
-returns-in-Some-Run-clause-drill_same g c is_drill = absurd (run_not_drill _ (c.in-Some-Run.ensures.run (ap Some c.in-Some-Run.field-0-is)) is_drill)
-
-pub returns-in-Some-Init-clause-drill_same : goal.returns-in-Some-Init-clause-drill_same
-returns-in-Some-Init-clause-drill_same g c is_drill = absurd (init_not_drill _ (c.in-Some-Init.id, c.in-Some-Init.ensures.init c.in-Some-Init.id (ap Some c.in-Some-Init.field-0-is)) is_drill)
-
-pub returns-in-None-clause-drill_same : goal.returns-in-None-clause-drill_same
-returns-in-None-clause-drill_same g c is_drill = absurd (c.in-None.ensures.none refl (inr (inr is_drill)))
-
-pub returns-in-Some-Run-clause-drill_judges : goal.returns-in-Some-Run-clause-drill_judges
-returns-in-Some-Run-clause-drill_judges g c is_drill = absurd (run_not_drill _ (c.in-Some-Run.ensures.run (ap Some c.in-Some-Run.field-0-is)) is_drill)
-
-pub returns-in-Some-Init-clause-drill_judges : goal.returns-in-Some-Init-clause-drill_judges
-returns-in-Some-Init-clause-drill_judges g c is_drill = absurd (init_not_drill _ (c.in-Some-Init.id, c.in-Some-Init.ensures.init c.in-Some-Init.id (ap Some c.in-Some-Init.field-0-is)) is_drill)
-
-pub returns-in-None-clause-drill_judges : goal.returns-in-None-clause-drill_judges
-returns-in-None-clause-drill_judges g c is_drill = absurd (c.in-None.ensures.none refl (inr (inr is_drill)))
-
-pub returns-in-Some-Run-clause-drill_complete : goal.returns-in-Some-Run-clause-drill_complete
-returns-in-Some-Run-clause-drill_complete g c is_drill = absurd (run_not_drill _ (c.in-Some-Run.ensures.run (ap Some c.in-Some-Run.field-0-is)) is_drill)
-
-pub returns-in-Some-Init-clause-drill_complete : goal.returns-in-Some-Init-clause-drill_complete
-returns-in-Some-Init-clause-drill_complete g c is_drill = absurd (init_not_drill _ (c.in-Some-Init.id, c.in-Some-Init.ensures.init c.in-Some-Init.id (ap Some c.in-Some-Init.field-0-is)) is_drill)
-
-pub returns-in-None-clause-drill_complete : goal.returns-in-None-clause-drill_complete
-returns-in-None-clause-drill_complete g c is_drill = absurd (c.in-None.ensures.none refl (inr (inr is_drill)))
-
-pub returns-in-Some-Run-clause-drilled : goal.returns-in-Some-Run-clause-drilled
-returns-in-Some-Run-clause-drilled g c start count is_drill = absurd (run_not_drill _ (c.in-Some-Run.ensures.run (ap Some c.in-Some-Run.field-0-is)) (start, count, is_drill))
-
-pub returns-in-Some-Init-clause-drilled : goal.returns-in-Some-Init-clause-drilled
-returns-in-Some-Init-clause-drilled g c start count is_drill = absurd (init_not_drill _ (c.in-Some-Init.id, c.in-Some-Init.ensures.init c.in-Some-Init.id (ap Some c.in-Some-Init.field-0-is)) (start, count, is_drill))
-
-pub returns-in-None-clause-drilled : goal.returns-in-None-clause-drilled
-returns-in-None-clause-drilled g c start count is_drill = absurd (c.in-None.ensures.none refl (inr (inr (start, count, is_drill))))
-
--- what a user opts out of stays out in a drill too
-
-pub returns-in-Some-Run-clause-drill_opted_out : goal.returns-in-Some-Run-clause-drill_opted_out
-returns-in-Some-Run-clause-drill_opted_out g c start count k slug l r within kept held = is_out _ _ _ k slug l r within kept held
-
-pub returns-in-Some-Init-clause-drill_opted_out : goal.returns-in-Some-Init-clause-drill_opted_out
-returns-in-Some-Init-clause-drill_opted_out g c start count k slug l r within kept held = is_out _ _ _ k slug l r within kept held
-
-pub returns-in-Some-Drill-clause-drill_opted_out : goal.returns-in-Some-Drill-clause-drill_opted_out
-returns-in-Some-Drill-clause-drill_opted_out g c start count k slug l r within kept held = is_out _ _ _ k slug l r within kept held
-
-pub returns-in-None-clause-drill_opted_out : goal.returns-in-None-clause-drill_opted_out
-returns-in-None-clause-drill_opted_out g c start count k slug l r within kept held = is_out _ _ _ k slug l r within kept held
+pub returns-in-Some-Drill-clause-causes : goal.returns-in-Some-Drill-clause-causes
+returns-in-Some-Drill-clause-causes g c =
+    let drill = c.drill.ensures in
+    let answered = c.drill.result in
+    let there : IsDrill (map string_bytes c.args.words.now) = (c.in-Some-Drill.start, c.in-Some-Drill.count, c.in-Some-Drill.ensures.drill c.in-Some-Drill.start c.in-Some-Drill.count (ap Some c.in-Some-Drill.field-0-is)) in
+    record {
+      belongs = drill_belongs _ there answered drill.is_of;
+      source_rose = λ is. absurd (subst IsOfDrill is drill.is_of);
+      shelf_rose = λ is. absurd (subst IsOfDrill is drill.is_of);
+      disk_rose = drill.disk_cause;
+      say_rose = drill.say_cause;
+      unreached = λ is. absurd (drill_reaches answered drill.is_of is);
+      unread = λ is. refl;
+      apart = λ is. (refl, refl);
+      files = λ tells name. refl;
+      too_long = λ is. absurd (subst IsOfDrill is drill.is_of);
+      too_long_where = λ is_run. absurd (run_not_drill _ is_run there);
+      read = λ is_run. absurd (run_not_drill _ is_run there);
+      run_found = λ is_run. absurd (run_not_drill _ is_run there);
+      making_found = λ is. drill.found;
+      run_done = λ is_run. absurd (run_not_drill _ is_run there);
+      making_done = λ is tells absent disk say. making_complete _ _ answered (drill.found tells).finds absent (λ fault. disk (drill.disk_cause fault)) (λ fault. say (drill.say_cause fault));
+    }
 
 -- its numbers are within their bounds
 pub drill-requires-clause-at_least : goal.drill-requires-clause-at_least
@@ -242,3 +145,45 @@ drill-requires-clause-at_least g c = (c.in-Some-Drill.ensures.drill c.in-Some-Dr
 
 pub drill-requires-clause-at_most : goal.drill-requires-clause-at_most
 drill-requires-clause-at_most g c = (c.in-Some-Drill.ensures.drill c.in-Some-Drill.start c.in-Some-Drill.count (ap Some c.in-Some-Drill.field-0-is)).1.at_most
+
+-- ---- a run
+
+pub returns-in-Some-Run-clause-usage : goal.returns-in-Some-Run-clause-usage
+returns-in-Some-Run-clause-usage g c = (
+  (λ is. absurd (subst IsOfRun is c.run.ensures.is_of)),
+  (λ none. absurd (none (inl (c.in-Some-Run.ensures.run (ap Some c.in-Some-Run.field-0-is))))),
+)
+
+pub returns-in-Some-Run-clause-run : goal.returns-in-Some-Run-clause-run
+returns-in-Some-Run-clause-run g c is_run = c.run.ensures.ran
+
+pub returns-in-Some-Run-clause-making : goal.returns-in-Some-Run-clause-making
+returns-in-Some-Run-clause-making g c id is_init = absurd (not_both _ id (c.in-Some-Run.ensures.run (ap Some c.in-Some-Run.field-0-is)) is_init)
+
+pub returns-in-Some-Run-clause-drill : goal.returns-in-Some-Run-clause-drill
+returns-in-Some-Run-clause-drill g c start count is_drill = absurd (run_not_drill _ (c.in-Some-Run.ensures.run (ap Some c.in-Some-Run.field-0-is)) (start, count, is_drill))
+
+pub returns-in-Some-Run-clause-causes : goal.returns-in-Some-Run-clause-causes
+returns-in-Some-Run-clause-causes g c =
+    let run = c.run.ensures in
+    let answered = c.run.result in
+    let there = c.in-Some-Run.ensures.run (ap Some c.in-Some-Run.field-0-is) in
+    record {
+      belongs = run_belongs _ there answered run.is_of;
+      source_rose = run.source_cause;
+      shelf_rose = run.shelf_cause;
+      disk_rose = run.disk_cause;
+      say_rose = run.say_cause;
+      unreached = run.unreached;
+      unread = λ is. absurd (subst IsOfRun is run.is_of);
+      apart = λ is. absurd (not_made _ there is);
+      files = run.files;
+      too_long = run.too_long;
+      too_long_where = λ is_run. run.too_long_where;
+      read = λ is_run. run.read;
+      run_found = λ is_run. run.found;
+      making_found = λ is. absurd (not_made _ there is);
+      run_done = λ is_run source_tells tells short found source shelf disk say. run_complete _ _ answered (run.found tells).finds found (λ is. omega (arith, short, run.too_long is source_tells))
+          (λ is. source (run.source_cause is)) (λ is. shelf (run.shelf_cause is)) (λ is. disk (run.disk_cause is)) (λ is. say (run.say_cause is));
+      making_done = λ is. absurd (not_made _ there is);
+    }

@@ -1,10 +1,14 @@
 -- A step is committed, and then its answer is said.
-use Rattle.std.proofs.Common.{List, ℕ, ◌++◌, ◌∙◌, ap, take}
+use Rattle.std.proofs.Common.{List, ℕ, ◌++◌, ◌∙◌, refl, ap, take, arith}
+use Rattle.host_model.specs.declared.side.Side.TheVariants.{Left, Right}
 use Rattle.client_core.specs.Clients.{state_of}
 use Rattle.client_core.specs.Prepared.{next_state}
-use Rattle.client_core.proofs.Holding.{holds_said, gate_said, kept_said}
+use Rattle.client_core.proofs.Holding.{open_said, gate_said, kept_said}
 use Rattle.session_run.proofs.Ending.{written_ends, said_ends}
+use Rattle.session_run.specs.declared.faults.RunFault.TheVariants.{DiskFault, SayFault}
 use Rattle.session_run.proofs.Answering.{written_met, line_met}
+use Rattle.session_run.proofs.Outcomes.{err_cost}
+use Rattle.session_run.proofs.Writing.{below_of, below_then, below_said}
 use Rattle.session_run.proofs.line.commit.Goals as goal
 
 pub returns-in_err-commit-clause-any_moment : goal.returns-in_err-commit-clause-any_moment
@@ -49,12 +53,54 @@ returns-clause-ends g c tells gate =
 pub returns-clause-holds : goal.returns-clause-holds
 returns-clause-holds g c tells =
     let client = c.commit.new.self in
-    holds_said g.H.Host c.commit.new.host c.say_answer.new.host (c.say_answer.ensures.still tells) client.journal client.state (c.in_ok-commit.ensures.holds tells)
+    open_said g.H.Host c.commit.new.host c.say_answer.new.host (c.say_answer.ensures.still tells) client (c.in_ok-commit.ensures.holds tells)
 
 pub returns-clause-gate : goal.returns-clause-gate
 returns-clause-gate g c tells gate =
-    gate_said g.H.Host c.commit.new.host c.say_answer.new.host (c.say_answer.ensures.still tells) c.commit.new.self.journal (c.in_ok-commit.ensures.gate tells gate)
+    gate_said g.H.Host c.commit.new.host c.say_answer.new.host (c.say_answer.ensures.still tells) c.commit.new.self (c.in_ok-commit.ensures.gate tells gate)
 
 pub returns-clause-gate_made : goal.returns-clause-gate_made
 returns-clause-gate_made g c tells changed =
-    gate_said g.H.Host c.commit.new.host c.say_answer.new.host (c.say_answer.ensures.still tells) c.commit.new.self.journal (c.in_ok-commit.ensures.gate_made tells changed)
+    gate_said g.H.Host c.commit.new.host c.say_answer.new.host (c.say_answer.ensures.still tells) c.commit.new.self (c.in_ok-commit.ensures.gate_made tells changed)
+
+-- ---- what is written
+
+pub returns-in_err-commit-clause-cost : goal.returns-in_err-commit-clause-cost
+returns-in_err-commit-clause-cost g c tells =
+    let cost = c.commit.ensures.cost tells in
+    err_cost _ _ _ c.from_residual.result DiskFault c.from_residual.ensures.1 cost.least cost.most
+
+pub returns-in_err-say_answer-clause-cost : goal.returns-in_err-say_answer-clause-cost
+returns-in_err-say_answer-clause-cost g c tells =
+    let cost = c.in_ok-commit.ensures.cost tells in
+    let same = c.say_answer.ensures.cost tells in
+    err_cost _ _ _ c.from_residual-in_err-say_answer.result SayFault c.from_residual-in_err-say_answer.ensures.1 (omega (arith, cost.least, same)) (omega (arith, cost.most, same))
+
+pub returns-clause-cost : goal.returns-clause-cost
+returns-clause-cost g c tells =
+    let cost = c.in_ok-commit.ensures.cost tells in
+    let same = c.say_answer.ensures.cost tells in
+    record { exact = same ∙ cost.exact; least = omega (arith, cost.least, same); most = omega (arith, cost.most, same) }
+
+pub returns-in_err-commit-clause-below : goal.returns-in_err-commit-clause-below
+returns-in_err-commit-clause-below g c tells = below_of g.H.Host c.args.host.now c.commit.new.host (c.commit.ensures.below tells)
+
+pub returns-in_err-say_answer-clause-below : goal.returns-in_err-say_answer-clause-below
+returns-in_err-say_answer-clause-below g c tells =
+    let h = g.H.Host in
+    let old = c.args.host.now in
+    let mid = c.commit.new.host in
+    let below = below_of h old mid (c.commit.ensures.below tells) in
+    below_then h old mid c.say_answer.new.host (g.met.H.Host.read_is_image mid Left tells) (g.met.H.Host.read_is_image mid Right tells) below
+    (λ l r left right. below.each l r (h.said mid) (g.met.H.Host.counts_now mid (h.moment old) l r (h.said mid) tells below.later (left, right, refl)))
+    (below_said h mid c.say_answer.new.host c.args.text.now (c.say_answer.ensures.any_moment tells))
+
+pub returns-clause-below : goal.returns-clause-below
+returns-clause-below g c tells =
+    let h = g.H.Host in
+    let old = c.args.host.now in
+    let mid = c.commit.new.host in
+    let below = below_of h old mid (c.commit.ensures.below tells) in
+    below_then h old mid c.say_answer.new.host (g.met.H.Host.read_is_image mid Left tells) (g.met.H.Host.read_is_image mid Right tells) below
+    (λ l r left right. below.each l r (h.said mid) (g.met.H.Host.counts_now mid (h.moment old) l r (h.said mid) tells below.later (left, right, refl)))
+    (below_said h mid c.say_answer.new.host c.args.text.now (c.say_answer.ensures.any_moment tells))

@@ -1,15 +1,19 @@
 -- A line with a command does it, and one without is answered alone.
-use Rattle.std.proofs.Common.{◌≡◌, ◌≢◌, List, ℕ, ◌++◌, OnOk, ap, sym, ◌∙◌, refl, subst, rules}
+use Rattle.std.proofs.Common.{◌≡◌, ◌≢◌, List, ℕ, ◌++◌, OnOk, ap, ◌∙◌, refl, subst, arith, rules}
 use Rattle.client_core.specs.Clients.{state_of, end_of}
-use Rattle.client_core.specs.Places.{IsFullFor}
+use Rattle.gate_journal.specs.Costs.{HasCost}
+use Rattle.client_core.specs.Places.{bytes_for}
 use Rattle.client_core.specs.Settings.{setting}
-use Rattle.client_core.proofs.Placing.{place_same}
+use Rattle.host_model.proofs.Meeting.{started}
+use Rattle.client_core.proofs.Holding.{all_kept}
+use Rattle.client_core.proofs.Placing.{place_same, bytes_same}
 use Rattle.client_words.specs.declared.command.LineFault.TheVariants.{OutOfMemory}
 use Rattle.client_words.specs.Commands.{command_of}
 use Rattle.session_run.specs.Steps.{RunState, run_of}
 use Rattle.session_run.proofs.Answering.{met_as, ends_as}
-use Rattle.session_run.proofs.Outcomes.{always_ok, on_ok, both_ok, run_same, read_ok, read_err, after-command, answer-command, after-fault, answer-fault}
-use Rattle.session_run.proofs.Values.{typed_line, refused_line}
+use Rattle.session_run.proofs.Outcomes.{unwritten_met, always_ok, both_ok, run_same, read_ok, read_err, after-command, answer-command, after-fault, answer-fault}
+use Rattle.session_run.specs.Writes.{IsBelowMark}
+use Rattle.session_run.proofs.Writing.{at_each}
 use Rattle.session_run.proofs.line.run_line.Goals as goal
 
 -- ---- a command
@@ -50,27 +54,18 @@ returns-in-Ok-clause-state g c shelf_tells =
     both_ok c.run_command.result (c.run_command.ensures.state shelf_tells) (c.run_command.ensures.session shelf_tells)
     (λ state session. run_same (run_of c.run_command.new.client) _ state session ∙ after-command at (run_of client) line c.in-Ok.command is)
 
-pub returns-in-Ok-clause-full : goal.returns-in-Ok-clause-full
-returns-in-Ok-clause-full g c full shelf_tells =
+pub returns-in-Ok-clause-cost : goal.returns-in-Ok-clause-cost
+returns-in-Ok-clause-cost g c shelf_tells tells =
+    let h = g.H.Host in
     let at = setting g.F.Shelf c.args.shelf.now c.args.now in
     let client = c.args.client.now in
     let line = c.args.line.now in
     let is = read_ok c.in-Ok.command (command_of line) c.in-Ok.ensures in
-    subst (λ (run : RunState). IsFullFor (end_of client) (state_of client) run.state) (after-command at (run_of client) line c.in-Ok.command is) (c.run_command.ensures.full full shelf_tells)
+    subst (λ (run : RunState). HasCost (bytes_for (end_of client) (state_of client) run.state) (h.written c.args.host.now) (h.written c.run_command.new.host) c.run_command.result)
+    (after-command at (run_of client) line c.in-Ok.command is) (c.run_command.ensures.cost shelf_tells tells)
 
-pub returns-in-Ok-clause-fits : goal.returns-in-Ok-clause-fits
-returns-in-Ok-clause-fits g c shelf_tells =
-    let at = setting g.F.Shelf c.args.shelf.now c.args.now in
-    let client = c.args.client.now in
-    let line = c.args.line.now in
-    let is = read_ok c.in-Ok.command (command_of line) c.in-Ok.ensures in
-    on_ok c.run_command.result (c.run_command.ensures.fits shelf_tells)
-    (λ fits full. fits (subst (λ (run : RunState). IsFullFor (end_of client) (state_of client) run.state) (sym (after-command at (run_of client) line c.in-Ok.command is)) full))
-
-pub returns-in-Ok-clause-typed : goal.returns-in-Ok-clause-typed
-returns-in-Ok-clause-typed g c shelf_tells answered =
-    let line = c.args.line.now in
-    typed_line (setting g.F.Shelf c.args.shelf.now c.args.now) (run_of c.args.client.now) line c.in-Ok.command (read_ok c.in-Ok.command (command_of line) c.in-Ok.ensures) (c.run_command.ensures.typed shelf_tells answered)
+pub returns-in-Ok-clause-named : goal.returns-in-Ok-clause-named
+returns-in-Ok-clause-named g c is = record { command = c.in-Ok.command; is_command = read_ok c.in-Ok.command (command_of c.args.line.now) c.in-Ok.ensures; names = c.run_command.ensures.named is }
 
 -- ---- no command
 
@@ -111,24 +106,38 @@ returns-in-Err-clause-state g c shelf_tells =
     let is = read_err c.in-Err.fault (command_of line) c.in-Err.ensures other in
     always_ok c.refuse.result (after-fault (setting g.F.Shelf c.args.shelf.now c.args.now) (run_of c.args.client.now) line c.in-Err.fault is)
 
-pub returns-in-Err-clause-sound : goal.returns-in-Err-clause-sound
-returns-in-Err-clause-sound g c = always_ok c.refuse.result c.requires.sound
-
 pub returns-in-Err-clause-gate_made : goal.returns-in-Err-clause-gate_made
 returns-in-Err-clause-gate_made g c = always_ok c.refuse.result (λ tells changed. absurd (changed refl))
 
 pub returns-in-Err-clause-place : goal.returns-in-Err-clause-place
 returns-in-Err-clause-place g c = always_ok c.refuse.result (place_same (end_of c.args.client.now) (state_of c.args.client.now))
 
-pub returns-in-Err-clause-fits : goal.returns-in-Err-clause-fits
-returns-in-Err-clause-fits g c shelf_tells =
+pub returns-in-Err-clause-cost : goal.returns-in-Err-clause-cost
+returns-in-Err-clause-cost g c shelf_tells tells =
+    let client = c.args.client.now in
     let line = c.args.line.now in
     let other : c.in-Err.fault ≢ OutOfMemory = search rules in
     let is = read_err c.in-Err.fault (command_of line) c.in-Err.ensures other in
-    always_ok c.refuse.result (λ full. full.changes (ap (λ (run : RunState). run.state) (after-fault (setting g.F.Shelf c.args.shelf.now c.args.now) (run_of c.args.client.now) line c.in-Err.fault is)))
+    let none = bytes_same (end_of client) (state_of client) ∙ ap (λ (run : RunState). bytes_for (end_of client) (state_of client) run.state) (after-fault (setting g.F.Shelf c.args.shelf.now c.args.now) (run_of client) line c.in-Err.fault is) in
+    let same = c.refuse.ensures.written tells in
+    record { exact = always_ok c.refuse.result (omega (arith, none, same)); least = omega (arith, same); most = omega (arith, same) }
 
-pub returns-in-Err-clause-typed : goal.returns-in-Err-clause-typed
-returns-in-Err-clause-typed g c shelf_tells answered =
-    let line = c.args.line.now in
-    let other : c.in-Err.fault ≢ OutOfMemory = search rules in
-    refused_line (setting g.F.Shelf c.args.shelf.now c.args.now) (run_of c.args.client.now) line c.in-Err.fault (read_err c.in-Err.fault (command_of line) c.in-Err.ensures other)
+pub returns-in-Err-clause-below : goal.returns-in-Err-clause-below
+returns-in-Err-clause-below g c = c.refuse.ensures.below
+
+-- ---- no memory for the command
+
+pub returns-in-Err-OutOfMemory-clause-any_moment : goal.returns-in-Err-OutOfMemory-clause-any_moment
+returns-in-Err-OutOfMemory-clause-any_moment g c shelf_tells tells gate =
+    let h = g.H.Host in
+    let client = c.args.client.now in
+    let start = c.args.host.now in
+    unwritten_met h start (state_of client) _ _ (all_kept h client start (c.requires.holds tells) gate) (λ l r u met. g.met.H.Host.only_now start l r u tells met)
+
+pub returns-in-Err-OutOfMemory-clause-below : goal.returns-in-Err-OutOfMemory-clause-below
+returns-in-Err-OutOfMemory-clause-below g c tells =
+    let h = g.H.Host in
+    let start = c.args.host.now in
+    started h.moment h.might start (IsBelowMark h start) (λ l r u met.
+    let now = g.met.H.Host.only_now start l r u tells met in
+    at_each h start start l r now.0 now.1)

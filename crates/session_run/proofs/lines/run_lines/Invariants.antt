@@ -1,14 +1,15 @@
 -- After the first lines: the store holds their state, and their answers are said.
 use Rattle.std.proofs.Common.{◌≡◌, ◌≢◌, ◌+◌, ℕ, ◌≤◌, ◌<◌, List, ◌++◌, map, take}
+use Rattle.host_model.specs.declared.side.Side.TheVariants.{Left, Right}
 use Rattle.host_model.specs.Hosts.{MeetsAll}
-use Rattle.state_codec.specs.Sound.{IsSound}
 use Rattle.client_core.specs.Clients.{state_of, end_of, IsOpenOn, HasGateOn}
 use Rattle.client_core.specs.Settings.{setting}
 use Rattle.client_words.specs.Commands.{part_at}
 use Rattle.session_run.specs.Steps.{run_of, begun, run_at, after, out}
 use Rattle.session_run.specs.Moments.{AfterPrefix}
-use Rattle.session_run.specs.Places.{all_places, IsFullAtLine}
-use Rattle.session_run.specs.Values.{AreTyped}
+use Rattle.session_run.specs.Places.{all_places, all_bytes}
+use Rattle.session_run.specs.Writes.{IsBelowMark}
+use Rattle.session_run.proofs.Starting.{begin}
 use Rattle.session_run.proofs.lines.run_lines.Given as goal
 
 abbrev pub invariant-loop-span : goal.invariant-loop-span
@@ -20,17 +21,17 @@ invariant-loop-span g l =
     let s = state_of l.fn.client in
     let i = l.span-index in
     record {
-      sound : IsSound (state_of l.client);
       holds : h.tells → IsOpenOn h l.client l.host;
       files : f.tells → (name : List ℕ) → f.file l.shelf name ≡ f.file l.fn.shelf name;
       state : f.tells → run_of l.client ≡ run_at at s lines i;
       said : f.tells → h.tells → h.said l.host ≡ h.said l.fn.host ++ out at s lines i;
       gate : h.tells → HasGateOn h l.fn.client l.fn.host → HasGateOn h l.client l.host;
       gate_made : f.tells → h.tells → (k : ℕ) → k < i → after at s lines k ≢ after at s lines (k + 1) → HasGateOn h l.client l.host;
-      any_moment : f.tells → h.tells → HasGateOn h l.fn.client l.fn.host → MeetsAll h l.fn.host l.host (AfterPrefix at s lines (h.said l.fn.host));
-      typed : f.tells → AreTyped at s lines i;
+      any_moment : f.tells → h.tells → HasGateOn h l.fn.client l.fn.host → MeetsAll h l.fn.host l.host (AfterPrefix (begin at s (end_of l.fn.client) lines (h.said l.fn.host) (h.written l.fn.host)));
       place : f.tells → end_of l.client ≡ all_places at (end_of l.fn.client) (begun s) (take i lines);
-      fits : f.tells → (k : ℕ) → k < i → IsFullAtLine at (end_of l.fn.client) s lines k → ⊥;
+      cost : f.tells → h.tells → h.written l.host ≡ h.written l.fn.host + all_bytes at (end_of l.fn.client) (begun s) (take i lines);
+      below : h.tells → MeetsAll h l.fn.host l.host (IsBelowMark h l.fn.host);
+      below_now : h.tells → (left right : List ℕ) → h.images l.host Left left → h.images l.host Right right → IsBelowMark h l.fn.host left right (h.said l.host);
       shelf_faults : f.faults l.fn.shelf ≤ f.faults l.shelf;
       disk_faults : h.disk_faults l.fn.host ≤ h.disk_faults l.host;
       say_faults : h.say_faults l.fn.host ≤ h.say_faults l.host;

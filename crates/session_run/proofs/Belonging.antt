@@ -1,0 +1,209 @@
+-- Which statuses a call has, and which words each belongs to.
+use Rattle.std.proofs.Common.{◌≡◌, ◌⊎◌, inl, inr, ℕ, List, refl, sym, subst, Err}
+use Rattle.host_model.specs.declared.host.Host.{Ghosts}
+use Rattle.enrol_states.specs.declared.state.State.{State}
+use Rattle.client_core.specs.Finds.{MakeFinds}
+use Rattle.client_core.specs.declared.faults.ClientFault.{ClientFault}
+use Rattle.client_core.specs.declared.faults.ClientFault.TheVariants as client
+use Rattle.client_core.specs.declared.faults.MakeFault.{MakeFault}
+use Rattle.client_core.specs.declared.faults.MakeFault.TheVariants as make
+use Rattle.session_run.specs.declared.faults.RunFault.{RunFault}
+use Rattle.session_run.specs.declared.faults.RunFault.TheVariants as run
+use Rattle.session_run.specs.declared.script.ScriptFault.{ScriptFault}
+use Rattle.session_run.specs.declared.script.ScriptFault.TheVariants as script
+use Rattle.session_run.specs.declared.status.RunStatus.{RunStatus}
+use Rattle.session_run.specs.declared.status.RunStatus.TheVariants as status
+use Rattle.session_run.specs.Causes.{BelongsTo, IsUnreached}
+use Rattle.session_run.specs.Finds.{RunFinds, MakingFinds}
+use Rattle.session_run.specs.Making.{MakingEnds}
+use Rattle.session_run.specs.Statuses.{of_script, of_store, of_making, of_run, of_drill, IsOfLines, IsOfRun, IsOfDrill, IsOfMaking}
+use Rattle.session_run.specs.Words.{IsRun, IsInit, IsDrill}
+
+pub lines_are_of : (fault : RunFault) → IsOfLines (of_run fault)
+lines_are_of run.ShelfFault = tt
+lines_are_of run.DiskFault = tt
+lines_are_of run.SayFault = tt
+lines_are_of run.OutOfMemory = tt
+
+pub store_is_of : (fault : ClientFault) → IsOfLines (of_store fault)
+store_is_of client.NoStore = tt
+store_is_of client.BadStore = tt
+store_is_of client.DiskFault = tt
+store_is_of client.OutOfMemory = tt
+
+pub making_is_of : (fault : MakeFault) → IsOfMaking (of_making fault)
+making_is_of make.AlreadyStore = tt
+making_is_of make.BadStore = tt
+making_is_of make.DiskFault = tt
+making_is_of make.OutOfMemory = tt
+
+-- a run is one of lines, where it has a script
+pub run_is_of : (answered : RunStatus) → IsOfLines answered → IsOfRun answered
+run_is_of status.Done is = tt
+run_is_of status.NoStore is = tt
+run_is_of status.BadStore is = tt
+run_is_of status.ShelfFault is = tt
+run_is_of status.DiskFault is = tt
+run_is_of status.SayFault is = tt
+run_is_of status.OutOfMemory is = tt
+run_is_of status.Usage is = is
+run_is_of status.AlreadyStore is = is
+run_is_of status.ScriptTooLong is = absurd is
+run_is_of status.SourceFault is = absurd is
+
+-- the lines of a drill
+pub drill_status : (answered : RunStatus) → (answered ≡ status.NoStore → ⊥) → answered ≡ of_drill answered
+drill_status status.NoStore other = absurd (other refl)
+drill_status status.Done other = refl
+drill_status status.BadStore other = refl
+drill_status status.ShelfFault other = refl
+drill_status status.DiskFault other = refl
+drill_status status.SayFault other = refl
+drill_status status.OutOfMemory other = refl
+drill_status status.Usage other = refl
+drill_status status.AlreadyStore other = refl
+drill_status status.ScriptTooLong other = refl
+drill_status status.SourceFault other = refl
+
+pub status_was : (answered is : RunStatus) → (is ≡ status.BadStore → ⊥) → of_drill answered ≡ is → answered ≡ is
+status_was status.NoStore is other same = absurd (other (sym same))
+status_was status.Done is other same = same
+status_was status.BadStore is other same = same
+status_was status.ShelfFault is other same = same
+status_was status.DiskFault is other same = same
+status_was status.SayFault is other same = same
+status_was status.OutOfMemory is other same = same
+status_was status.Usage is other same = same
+status_was status.AlreadyStore is other same = same
+status_was status.ScriptTooLong is other same = same
+status_was status.SourceFault is other same = same
+
+pub drill_is_of : (answered : RunStatus) → IsOfLines answered → (answered ≡ status.ShelfFault → ⊥) → IsOfDrill (of_drill answered)
+drill_is_of status.Done is shelf = tt
+drill_is_of status.NoStore is shelf = tt
+drill_is_of status.BadStore is shelf = tt
+drill_is_of status.ShelfFault is shelf = shelf refl
+drill_is_of status.DiskFault is shelf = tt
+drill_is_of status.SayFault is shelf = tt
+drill_is_of status.OutOfMemory is shelf = tt
+drill_is_of status.Usage is shelf = is
+drill_is_of status.AlreadyStore is shelf = absurd is
+drill_is_of status.ScriptTooLong is shelf = is
+drill_is_of status.SourceFault is shelf = is
+
+-- the making of a store is the beginning of a drill
+pub making_in_drill : (answered : RunStatus) → IsOfMaking answered → IsOfDrill answered
+making_in_drill status.Done is = tt
+making_in_drill status.AlreadyStore is = tt
+making_in_drill status.BadStore is = tt
+making_in_drill status.DiskFault is = tt
+making_in_drill status.SayFault is = tt
+making_in_drill status.OutOfMemory is = tt
+making_in_drill status.NoStore is = is
+making_in_drill status.ShelfFault is = is
+making_in_drill status.Usage is = is
+making_in_drill status.ScriptTooLong is = is
+making_in_drill status.SourceFault is = is
+
+-- ---- the words of a status
+
+module _ (words : List (List ℕ)) where
+  pub run_belongs : IsRun words → (answered : RunStatus) → IsOfRun answered → BelongsTo words answered
+  run_belongs is_run status.Done is = inl is_run
+  run_belongs is_run status.NoStore is = is_run
+  run_belongs is_run status.BadStore is = inl is_run
+  run_belongs is_run status.ShelfFault is = is_run
+  run_belongs is_run status.DiskFault is = inl is_run
+  run_belongs is_run status.SayFault is = inl is_run
+  run_belongs is_run status.OutOfMemory is = inl is_run
+  run_belongs is_run status.ScriptTooLong is = is_run
+  run_belongs is_run status.SourceFault is = is_run
+  run_belongs is_run status.Usage is = absurd is
+  run_belongs is_run status.AlreadyStore is = absurd is
+
+  pub drill_belongs : IsDrill words → (answered : RunStatus) → IsOfDrill answered → BelongsTo words answered
+  drill_belongs is_drill status.Done is = inr (inr is_drill)
+  drill_belongs is_drill status.AlreadyStore is = inr is_drill
+  drill_belongs is_drill status.BadStore is = inr (inr is_drill)
+  drill_belongs is_drill status.DiskFault is = inr (inr is_drill)
+  drill_belongs is_drill status.SayFault is = inr (inr is_drill)
+  drill_belongs is_drill status.OutOfMemory is = inr (inr is_drill)
+  drill_belongs is_drill status.NoStore is = absurd is
+  drill_belongs is_drill status.ShelfFault is = absurd is
+  drill_belongs is_drill status.ScriptTooLong is = absurd is
+  drill_belongs is_drill status.SourceFault is = absurd is
+  drill_belongs is_drill status.Usage is = absurd is
+
+  pub making_belongs : IsInit words → (answered : RunStatus) → IsOfMaking answered → BelongsTo words answered
+  making_belongs is_init status.Done is = inr (inl is_init)
+  making_belongs is_init status.AlreadyStore is = inl is_init
+  making_belongs is_init status.BadStore is = inr (inl is_init)
+  making_belongs is_init status.DiskFault is = inr (inl is_init)
+  making_belongs is_init status.SayFault is = inr (inl is_init)
+  making_belongs is_init status.OutOfMemory is = inr (inl is_init)
+  making_belongs is_init status.NoStore is = absurd is
+  making_belongs is_init status.ShelfFault is = absurd is
+  making_belongs is_init status.ScriptTooLong is = absurd is
+  making_belongs is_init status.SourceFault is = absurd is
+  making_belongs is_init status.Usage is = absurd is
+
+-- ---- a run without a script
+
+pub script_is_of : (fault : ScriptFault) → IsOfRun (of_script fault)
+script_is_of script.TooLong = tt
+script_is_of script.SourceFault = tt
+script_is_of script.OutOfMemory = tt
+
+pub script_not_done : (fault : ScriptFault) → of_script fault ≡ status.Done → ⊥
+script_not_done script.TooLong is = absurd cc
+script_not_done script.SourceFault is = absurd cc
+script_not_done script.OutOfMemory is = absurd cc
+
+pub script_finds : (l r : List ℕ) (fault : ScriptFault) → RunFinds l r (of_script fault)
+script_finds l r script.TooLong = tt
+script_finds l r script.SourceFault = tt
+script_finds l r script.OutOfMemory = tt
+
+-- ---- the making of a store
+
+pub making_finds : (l r : List ℕ) (fault : MakeFault) → MakeFinds {T = Unit {0}} l r (Err fault) → MakingFinds l r (of_making fault)
+making_finds l r make.AlreadyStore finds = finds
+making_finds l r make.BadStore finds = finds
+making_finds l r make.DiskFault finds = tt
+making_finds l r make.OutOfMemory finds = tt
+
+pub making_not_done : {H : Type 0} (h : Ghosts H) (s : State) (text said : List ℕ) (host : H) (fault : MakeFault) → h.said host ≡ said → MakingEnds h s text said host (of_making fault)
+making_not_done h s text said host make.AlreadyStore same = same
+making_not_done h s text said host make.BadStore same = same
+making_not_done h s text said host make.DiskFault same = same
+making_not_done h s text said host make.OutOfMemory same = same
+
+pub making_memory : (fault : MakeFault) → of_making fault ≡ status.OutOfMemory → fault ≡ make.OutOfMemory
+making_memory make.AlreadyStore is = absurd cc
+making_memory make.BadStore is = absurd cc
+making_memory make.DiskFault is = absurd cc
+making_memory make.OutOfMemory is = refl
+
+-- a summary is said
+pub summary_is_of : (answered : RunStatus) → (answered ≡ status.Done) ⊎ (answered ≡ status.SayFault) ⊎ (answered ≡ status.OutOfMemory) → IsOfDrill answered
+summary_is_of answered (inl is) = subst IsOfDrill (sym is) tt
+summary_is_of answered (inr (inl is)) = subst IsOfDrill (sym is) tt
+summary_is_of answered (inr (inr is)) = subst IsOfDrill (sym is) tt
+
+-- ---- the store is reached
+
+pub making_reaches : (answered : RunStatus) → IsOfMaking answered → IsUnreached answered → ⊥
+making_reaches answered is (inl other) = subst IsOfMaking other is
+making_reaches answered is (inr (inl other)) = subst IsOfMaking other is
+making_reaches answered is (inr (inr other)) = subst IsOfMaking other is
+
+pub drill_reaches : (answered : RunStatus) → IsOfDrill answered → IsUnreached answered → ⊥
+drill_reaches answered is (inl other) = subst IsOfDrill other is
+drill_reaches answered is (inr (inl other)) = subst IsOfDrill other is
+drill_reaches answered is (inr (inr other)) = subst IsOfDrill other is
+
+pub making_never : (fault : MakeFault) → of_making fault ≡ status.Done → ⊥
+making_never make.AlreadyStore is = absurd cc
+making_never make.BadStore is = absurd cc
+making_never make.DiskFault is = absurd cc
+making_never make.OutOfMemory is = absurd cc

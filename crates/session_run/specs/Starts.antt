@@ -1,0 +1,55 @@
+-- What the lines of a run begin with, and what is known after the first of them.
+use Rattle.std.specs.Prelude.{◌≢◌, ◌+◌, ◌<◌, ℕ, List, length, take}
+use Rattle.host_model.specs.declared.side.Side.TheVariants.{Left, Right}
+use Rattle.host_model.specs.declared.host.Host.{Ghosts}
+use Rattle.host_model.specs.declared.shelf.Shelf as shelves
+use Rattle.pair_store.specs.Repair.{repair_cost}
+use Rattle.enrol_states.specs.declared.state.State.{State}
+use Rattle.client_core.specs.Settings.{Setting, setting}
+use Rattle.session_run.specs.Places.{all_places, all_bytes}
+use Rattle.session_run.specs.Steps.{begun, after, out}
+
+-- the files and the moment, the client's state, where its store's next record begins, the lines, the text that was said, and how many bytes were written
+pub record Start : Type 0 where
+  pub at : Setting
+  pub state : State
+  pub place : ℕ
+  pub lines : List (List ℕ)
+  pub said : List ℕ
+  pub written : ℕ
+
+-- the lines are done over this shelf and this host
+abbrev pub start_on : {F H : Type 0} → shelves.Ghosts F → Ghosts H → ℕ → F → H → List (List ℕ) → State → ℕ → Start
+start_on f h now shelf host lines s place = record { at = setting f shelf now; state = s; place = place; lines = lines; said = h.said host; written = h.written host }
+
+-- so they are behind an opening, which writes a byte where both sides were open
+abbrev pub opened_on : {F H : Type 0} → shelves.Ghosts F → Ghosts H → ℕ → F → H → List (List ℕ) → State → ℕ → Start
+opened_on f h now shelf host lines s place = record { at = setting f shelf now; state = s; place = place; lines = lines; said = h.said host; written = h.written host + repair_cost (h.reads host Left) (h.reads host Right) }
+
+-- how many lines there are
+abbrev pub line_count : Start → ℕ
+line_count start = length start.lines
+
+-- the state after the first k lines
+abbrev pub state_at : Start → ℕ → State
+state_at start k = after start.at start.state start.lines k
+
+-- the state after all lines
+abbrev pub last_state : Start → State
+last_state start = state_at start (line_count start)
+
+-- the joined answers to the first k lines
+abbrev pub answers : Start → ℕ → List ℕ
+answers start k = out start.at start.state start.lines k
+
+-- where the next record begins after the first k lines
+abbrev pub place_at : Start → ℕ → ℕ
+place_at start k = all_places start.at start.place (begun start.state) (take k start.lines)
+
+-- how many bytes were written after the first k lines
+abbrev pub written_at : Start → ℕ → ℕ
+written_at start k = start.written + all_bytes start.at start.place (begun start.state) (take k start.lines)
+
+-- one of the lines changes the state
+abbrev pub Changes : Start → Type 0
+Changes start = (k : ℕ) × (k < line_count start) × (state_at start k ≢ state_at start (k + 1))
