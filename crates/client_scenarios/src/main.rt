@@ -1,10 +1,14 @@
 //! Scenarios of the client's program, which stand on standard input: each calls it over two sides, files and a script in
 //! memory, and says which status it ends with and what is said. A line tells of each scenario that it passes, or what was
-//! found and what was wanted. `directive` says how a scenario is written.
+//! found and what was wanted, and the last one how many passed. `directive` says how a scenario is written.
 #![tactic(auto)]
 
 mod directive;
+mod host;
 mod inputs;
+mod judging;
+mod outside;
+mod program;
 mod scenario;
 
 use directive::Directive;
@@ -17,28 +21,32 @@ fn step(rt: &HostRuntime, scenario: &mut Scenario, line: &str) -> anyhow::Result
         println!(rt; "no line of a scenario: {line}")?;
         return Ok(());
     };
-    if matches!(&directive, Directive::Begin(_)) {
-        tell(rt, scenario)?;
-    }
     if let Some(difference) = scenario.does(rt.alloc(), directive)? {
         println!(rt; "{}: {}", scenario.name(), difference.as_str())?;
     }
     Ok(())
 }
 
-// Tells that the scenario passes, where there is one and it does.
-fn tell(rt: &HostRuntime, scenario: &Scenario) -> anyhow::Result<()> {
-    if !scenario.name().is_empty() && scenario.passes() {
-        println!(rt; "{}: passed", scenario.name())?;
+// Tells that the scenario passes, where it does, and gives the number of those that have passed.
+fn tell(rt: &HostRuntime, scenario: &Scenario, passed: u64) -> anyhow::Result<u64> {
+    if !scenario.passes() {
+        return Ok(passed);
     }
-    Ok(())
+    println!(rt; "{}: passed", scenario.name())?;
+    Ok(passed.saturating_add(1))
 }
 
 fn main(rt: HostRuntime) -> anyhow::Result<()> {
     let input = io::read_to_string(rt.alloc(), rt.reader())?;
-    let mut scenario = Scenario::new(rt.alloc())?;
+    let mut scenario = Scenario::new(rt.alloc());
+    let mut passed = 0;
     for line in input.lines() {
+        if line.starts_with("== ") {
+            passed = tell(&rt, &scenario, passed)?;
+        }
         step(&rt, &mut scenario, line)?;
     }
-    tell(&rt, &scenario)
+    let passed = tell(&rt, &scenario, passed)?;
+    println!(rt; "{passed} scenarios passed")?;
+    Ok(())
 }

@@ -1,41 +1,25 @@
 //! A scenario as far as it is done.
-use crate::directive::Directive;
-use crate::inputs::{File, payload, record, shelf_of};
-use host_model::{Choice, MemHost, MemSource, Side};
-use jexl_transforms::{
-    Transform, TransformTable, bucket_transform, date_transform, version_transform,
+use crate::directive::{Call, Check, Directive, Images};
+use crate::inputs::Inputs;
+use crate::judging::{
+    difference, difference_of, difference_of_end, failing, is_end_at_fault, sum_behind_first, tail,
 };
-use jexl_value::{Attributes, Value};
-use session_run::{RunStatus, nimbus};
+use crate::outside::{Faults, Outside};
+use crate::program::{Ended, call};
+use host_model::{Choice, MemSource, Side};
 use std::alloc::{AllocError, Global};
-
-/// The moment of calls, unless a scenario says another.
-const NOW: u64 = 1_700_000_000;
-
-/// The last moment at which the program may be called.
-const LAST_MOMENT: u64 = 253_402_300_799;
-
-/// How many bytes a side may have, and how many may be written and said, unless a scenario says another number.
-const ROOM: usize = 65_536;
-
-/// How many bytes of the script the source gives at once.
-const PIECE: usize = 4096;
 
 #[derive(Drop)]
 pub(crate) struct Scenario {
     name: String,
     passes: bool,
-    /// The files, of which so many stood there before the first scenario.
-    files: Vec<File>,
-    shared: usize,
-    records: Vec<String>,
-    text: Vec<u8>,
-    moment: u64,
-    host: MemHost,
-    room: usize,
-    /// The sides before the last call, and how it ended.
-    before: (Vec<u8>, Vec<u8>),
-    status: RunStatus,
+    inputs: Inputs,
+    outside: Outside,
+    /// The sides before the last call, what the call before it has said, and how it has ended.
+    left_before: Vec<u8>,
+    right_before: Vec<u8>,
+    said_before: Vec<u8>,
+    last: Option<Ended>,
     /// What the last call has said, and what it is to have said.
     said: Vec<u8>,
     wanted: Vec<u8>,
@@ -43,31 +27,28 @@ pub(crate) struct Scenario {
 
 impl Scenario {
     /// Nothing is done. The files that come now are those of each scenario.
-    pub(crate) fn new(alloc: Global) -> Result<Scenario, AllocError> {
-        Ok(Scenario {
+    pub(crate) fn new(alloc: Global) -> Scenario {
+        Scenario {
             name: String::new(alloc),
             passes: true,
-            files: Vec::new(alloc),
-            shared: 0,
-            records: Vec::new(alloc),
-            text: Vec::new(alloc),
-            moment: NOW,
-            host: MemHost::new(alloc, b"", b"", ROOM, &[])?,
-            room: ROOM,
-            before: (Vec::new(alloc), Vec::new(alloc)),
-            status: RunStatus::Done,
+            inputs: Inputs::new(alloc),
+            outside: Outside::new(alloc),
+            left_before: Vec::new(alloc),
+            right_before: Vec::new(alloc),
+            said_before: Vec::new(alloc),
+            last: None,
             said: Vec::new(alloc),
             wanted: Vec::new(alloc),
-        })
+        }
     }
 
     pub(crate) fn name(&self) -> &str {
         &self.name
     }
 
-    /// Whether all was so far as it is wanted.
+    /// Whether there is a scenario, and all was so far as it is wanted.
     pub(crate) fn passes(&self) -> bool {
-        self.passes
+        self.passes && !self.name.is_empty()
     }
 
     /// Does what a line says, and gives what differs from what is wanted.
@@ -79,250 +60,313 @@ impl Scenario {
         match directive {
             Directive::Nothing => {}
             Directive::Begin(name) => self.begin(alloc, name)?,
-            Directive::Line(text) => self.line(text)?,
-            Directive::Part(text) => self.text.extend_from_slice(text.as_bytes())?,
-            Directive::Repeat(count, text) => self.repeat(count, text)?,
-            Directive::Byte(byte, count) => self.fill(byte, count)?,
-            Directive::File(name) => self.file(alloc, name)?,
-            Directive::Record(words) => self.records.push(record(alloc, words)?)?,
-            Directive::Json(text) => self.records.push(String::from_str(alloc, text)?)?,
-            Directive::Payload(name) => self.payload(alloc, name)?,
-            Directive::At(moment) => self.moment = moment.min(LAST_MOMENT),
-            Directive::Room(room) => self.empty(alloc, room)?,
-            Directive::Put(side, place, byte) => self.put(alloc, side, place, byte)?,
-            Directive::Cut(side, length) => self.cut(alloc, side, length)?,
-            Directive::Call(words) => self.call(alloc, words)?,
-            Directive::Said(text) => self.wants(text)?,
-            Directive::Tail(text) => self.wants_at_end(alloc, text)?,
-            Directive::Ends(status) => return self.judge_end(alloc, status),
-            Directive::Unchanged => return self.judge_change(alloc),
-            Directive::Holds(left, right) => return self.judge_sides(alloc, left, right),
+            Directive::Input(input) => self.inputs.write(alloc, input)?,
+            Directive::Change(change) => self.outside.change(alloc, change),
+            Directive::Call(Call::Script(words)) => self.call(alloc, words)?,
+            Directive::Call(Call::Again(words)) => self.call_again(alloc, words)?,
+            Directive::Check(check) => return self.judge(alloc, check),
         }
         Ok(None)
     }
 
     fn begin(&mut self, alloc: Global, name: &str) -> Result<(), AllocError> {
         if self.name.is_empty() {
-            self.shared = self.files.len();
+            self.inputs.share();
         }
         self.name = String::from_str(alloc, name)?;
         self.passes = true;
-        self.files.truncate(self.shared);
-        self.records = Vec::new(alloc);
-        self.text = Vec::new(alloc);
-        self.moment = NOW;
-        self.empty(alloc, ROOM)
-    }
-
-    fn line(&mut self, text: &str) -> Result<(), AllocError> {
-        self.text.extend_from_slice(text.as_bytes())?;
-        self.text.push(b'\n')?;
+        self.inputs.begin(alloc);
+        self.outside = Outside::new(alloc);
+        self.last = None;
         Ok(())
     }
 
-    fn fill(&mut self, byte: u8, count: usize) -> Result<(), AllocError> {
-        for _ in 0..count {
-            self.text.push(byte)?;
-        }
-        Ok(())
-    }
-
-    fn repeat(&mut self, count: usize, text: &str) -> Result<(), AllocError> {
-        for _ in 0..count {
-            self.text.extend_from_slice(text.as_bytes())?;
-        }
-        Ok(())
-    }
-
-    fn file(&mut self, alloc: Global, name: &str) -> Result<(), AllocError> {
-        let name = String::from_str(alloc, name)?;
-        let bytes = std::mem::replace(&mut self.text, Vec::new(alloc));
-        self.files.push(File { name, bytes })?;
-        Ok(())
-    }
-
-    fn payload(&mut self, alloc: Global, name: &str) -> Result<(), AllocError> {
-        let name = String::from_str(alloc, name)?;
-        let bytes = payload(alloc, &self.records)?;
-        self.records = Vec::new(alloc);
-        self.files.push(File { name, bytes })?;
-        Ok(())
-    }
-
-    fn empty(&mut self, alloc: Global, room: usize) -> Result<(), AllocError> {
-        self.host = MemHost::new(alloc, b"", b"", room, &[])?;
-        self.room = room;
-        Ok(())
-    }
-
-    fn put(&mut self, alloc: Global, side: Side, place: usize, byte: u8) -> Result<(), AllocError> {
-        let mut bytes = self.host.image(alloc, side, Choice::New)?;
-        if let Some(there) = bytes.get_mut(place) {
-            *there = byte;
-        }
-        self.replace(alloc, side, &bytes)
-    }
-
-    fn cut(&mut self, alloc: Global, side: Side, length: usize) -> Result<(), AllocError> {
-        let mut bytes = self.host.image(alloc, side, Choice::New)?;
-        bytes.truncate(length);
-        self.replace(alloc, side, &bytes)
-    }
-
-    // A side has these bytes, and the other one what it had.
-    fn replace(&mut self, alloc: Global, side: Side, bytes: &[u8]) -> Result<(), AllocError> {
-        let (left, right) = match side {
-            Side::Left => {
-                let right = self.host.image(alloc, Side::Right, Choice::New)?;
-                (bytes.to_vec(alloc)?, right)
-            }
-            Side::Right => {
-                let left = self.host.image(alloc, Side::Left, Choice::New)?;
-                (left, bytes.to_vec(alloc)?)
-            }
-        };
-        if left.len() <= self.room && right.len() <= self.room {
-            self.host = MemHost::new(alloc, &left, &right, self.room, &[])?;
-        }
-        Ok(())
-    }
-
-    // Calls the program with the standard transforms of targeting.
     fn call(&mut self, alloc: Global, words: &str) -> Result<(), AllocError> {
-        let script = std::mem::replace(&mut self.text, Vec::new(alloc));
-        let mut source = MemSource::new(alloc, &script, PIECE, &[])?;
-        let before = self.host.said().len();
-        self.before = (
-            self.host.image(alloc, Side::Left, Choice::New)?,
-            self.host.image(alloc, Side::Right, Choice::New)?,
-        );
-        self.status = self.answer(alloc, words, &mut source)?;
-        let said = self.host.said();
-        self.said = said.get(before..).unwrap_or(said).to_vec(alloc)?;
-        self.wanted = Vec::new(alloc);
-        Ok(())
+        let script = self.inputs.take_text(alloc);
+        let faults = self.outside.take_faults();
+        let source = self.outside.source(alloc, &script, faults)?;
+        self.call_over(alloc, words, source, faults)
     }
 
-    fn answer(
+    fn call_again(&mut self, alloc: Global, words: &str) -> Result<(), AllocError> {
+        let faults = self.outside.take_faults();
+        match self.last.take() {
+            Some(ended) => self.call_over(alloc, words, ended.source, faults),
+            None => Ok(()),
+        }
+    }
+
+    fn call_over(
         &mut self,
         alloc: Global,
         words: &str,
-        source: &mut MemSource,
-    ) -> Result<RunStatus, AllocError> {
-        let version: Transform = Box::new(
-            alloc,
-            |attributes: &Attributes, subject: &Value, arguments: &[Value]| {
-                version_transform(attributes, subject, arguments)
-            },
-        )?;
-        let date: Transform = Box::new(
-            alloc,
-            |attributes: &Attributes, subject: &Value, arguments: &[Value]| {
-                date_transform(attributes, subject, arguments)
-            },
-        )?;
-        let bucket: Transform = Box::new(
-            alloc,
-            move |attributes: &Attributes, subject: &Value, arguments: &[Value]| {
-                bucket_transform(alloc, attributes, subject, arguments)
-            },
-        )?;
-        let mut table = TransformTable::new(alloc);
-        let (Ok(()), Ok(()), Ok(())) = (
-            table.push(alloc, "versionCompare", version),
-            table.push(alloc, "date", date),
-            table.push(alloc, "bucketSample", bucket),
-        ) else {
-            return Ok(RunStatus::OutOfMemory);
-        };
-        let mut shelf = shelf_of(alloc, &self.files)?;
-        let words = words_of(alloc, words)?;
-        let moment = self.moment.min(LAST_MOMENT);
-        Ok(nimbus(
-            alloc,
-            &words,
-            moment,
-            &table,
-            source,
-            &mut shelf,
-            &mut self.host,
-        ))
+        source: MemSource,
+        faults: Faults,
+    ) -> Result<(), AllocError> {
+        let shelf = self.inputs.shelf(alloc, faults.of_shelf())?;
+        let host = self.outside.host(alloc, faults)?;
+        let ended = call(alloc, words, self.outside.moment(), source, shelf, host)?;
+        self.take_over(alloc, ended)
     }
 
-    fn wants(&mut self, text: &str) -> Result<(), AllocError> {
-        self.wanted.extend_from_slice(text.as_bytes())?;
-        self.wanted.push(b'\n')?;
+    // The sides, and what was said, are now as the call has left them.
+    fn take_over(&mut self, alloc: Global, ended: Ended) -> Result<(), AllocError> {
+        let left = ended.host.image(alloc, Side::Left, Choice::New)?;
+        let right = ended.host.image(alloc, Side::Right, Choice::New)?;
+        let said = ended.host.said().to_vec(alloc)?;
+        self.left_before = std::mem::replace(&mut self.outside.left, left);
+        self.right_before = std::mem::replace(&mut self.outside.right, right);
+        self.said_before = std::mem::replace(&mut self.said, said);
+        self.wanted = Vec::new(alloc);
+        self.last = Some(ended);
         Ok(())
     }
 
-    // Forgets what the call has said before the last line that is this one.
-    fn wants_at_end(&mut self, alloc: Global, text: &str) -> Result<(), AllocError> {
-        let line = format!(in alloc; "{text}\n")?;
-        if let Some(place) = last_place(&self.said, line.as_bytes()) {
-            let end = self.said.get(place..).unwrap_or(&self.said).to_vec(alloc)?;
-            self.said = end;
+    // Gives what differs from what is wanted.
+    fn judge(&mut self, alloc: Global, check: Check<'_>) -> Result<Option<String>, AllocError> {
+        let difference = self.difference(alloc, check)?;
+        if difference.is_some() {
+            self.passes = false;
         }
-        self.wants(text)
+        Ok(difference)
     }
 
-    fn judge_end(&mut self, alloc: Global, status: &str) -> Result<Option<String>, AllocError> {
-        let found = format!(in alloc; "{}", self.status)?;
-        if found.as_str() == status && self.said == self.wanted {
-            return Ok(None);
-        }
-        self.passes = false;
-        let difference = format!(in alloc;
-            "ends {}, wanted {status}; says {}, wanted {}",
-            found.as_str(),
-            self.said.escape_ascii(),
-            self.wanted.escape_ascii()
-        )?;
-        Ok(Some(difference))
-    }
-
-    fn judge_change(&mut self, alloc: Global) -> Result<Option<String>, AllocError> {
-        let left = self.host.image(alloc, Side::Left, Choice::Torn)?;
-        let right = self.host.image(alloc, Side::Right, Choice::Torn)?;
-        if left == self.before.0 && right == self.before.1 {
-            return Ok(None);
-        }
-        self.passes = false;
-        Ok(Some(String::from_str(alloc, "the sides have changed")?))
-    }
-
-    fn judge_sides(
+    fn difference(
         &mut self,
+        alloc: Global,
+        check: Check<'_>,
+    ) -> Result<Option<String>, AllocError> {
+        match check {
+            Check::Said(text) => self.want(text),
+            Check::Tail(text) => self.want_at_end(alloc, text),
+            Check::Ends(status) => self.judge_end(alloc, status),
+            Check::Exit(code) => self.judge_code(alloc, code),
+            Check::Same => difference(alloc, &self.said, &self.said_before),
+            Check::Sum(sum, line) => self.judge_sum(alloc, sum, line),
+            Check::Unchanged => self.judge_change(alloc),
+            Check::Grown => self.judge_growth(alloc),
+            Check::Holds(left, right) => self.judge_lengths(alloc, left, right),
+            Check::Bytes(side) => self.judge_bytes(alloc, side),
+            Check::Images(left, right) => self.judge_images(alloc, left, right),
+            Check::Faults(count, words) => self.judge_faults(alloc, count, words),
+        }
+    }
+
+    fn want(&mut self, text: &str) -> Result<Option<String>, AllocError> {
+        self.wanted.extend_from_slice(text.as_bytes())?;
+        self.wanted.push(b'\n')?;
+        Ok(None)
+    }
+
+    // Forgets what the call has said before the last line that is this one.
+    fn want_at_end(&mut self, alloc: Global, text: &str) -> Result<Option<String>, AllocError> {
+        let line = format!(in alloc; "{text}\n")?;
+        if let Some(end) = tail(&self.said, line.as_bytes()) {
+            self.said = end.to_vec(alloc)?;
+        }
+        self.want(text)
+    }
+
+    fn judge_end(&self, alloc: Global, status: &str) -> Result<Option<String>, AllocError> {
+        match &self.last {
+            Some(ended) => {
+                difference_of_end(alloc, ended.status, status, &self.said, &self.wanted)
+            }
+            None => failing(alloc, false, "there was no call"),
+        }
+    }
+
+    fn judge_code(&self, alloc: Global, code: u8) -> Result<Option<String>, AllocError> {
+        match &self.last {
+            Some(ended) => {
+                let found = u64::from(ended.status.code());
+                difference_of(alloc, "the number is", found, u64::from(code))
+            }
+            None => failing(alloc, false, "there was no call"),
+        }
+    }
+
+    fn judge_sum(&self, alloc: Global, sum: u64, line: &str) -> Result<Option<String>, AllocError> {
+        let line = format!(in alloc; "{line}\n")?;
+        match tail(&self.said, line.as_bytes()) {
+            Some(end) => difference_of(alloc, "the sum is", sum_behind_first(end), sum),
+            None => failing(alloc, false, "no line begins the numbers"),
+        }
+    }
+
+    fn judge_change(&self, alloc: Global) -> Result<Option<String>, AllocError> {
+        match &self.last {
+            Some(ended) => {
+                let left = ended.host.image(alloc, Side::Left, Choice::Torn)?;
+                let right = ended.host.image(alloc, Side::Right, Choice::Torn)?;
+                let is_same = left == self.left_before && right == self.right_before;
+                failing(alloc, is_same, "the sides have changed")
+            }
+            None => failing(alloc, false, "there was no call"),
+        }
+    }
+
+    fn judge_growth(&self, alloc: Global) -> Result<Option<String>, AllocError> {
+        let has_grown = self.outside.left.len() > self.left_before.len();
+        failing(alloc, has_grown, "the left side has not grown")
+    }
+
+    fn judge_lengths(
+        &self,
         alloc: Global,
         left: usize,
         right: usize,
     ) -> Result<Option<String>, AllocError> {
-        let left_found = self.host.image(alloc, Side::Left, Choice::Old)?.len();
-        let right_found = self.host.image(alloc, Side::Right, Choice::Old)?.len();
+        let (left_found, right_found) = (self.outside.left.len(), self.outside.right.len());
         if left_found == left && right_found == right {
             return Ok(None);
         }
-        self.passes = false;
         let difference = format!(in alloc;
             "holds {left_found} and {right_found}, wanted {left} and {right}"
         )?;
         Ok(Some(difference))
     }
+
+    fn judge_bytes(&mut self, alloc: Global, side: Side) -> Result<Option<String>, AllocError> {
+        let wanted = self.inputs.take_text(alloc);
+        difference(alloc, self.outside.bytes(side), &wanted)
+    }
+
+    fn judge_images(
+        &mut self,
+        alloc: Global,
+        left: Images,
+        right: Images,
+    ) -> Result<Option<String>, AllocError> {
+        let wanted = self.inputs.take_text(alloc);
+        match &self.last {
+            Some(ended) => self.judge_images_of(alloc, ended, left, right, &wanted),
+            None => failing(alloc, false, "there was no call"),
+        }
+    }
+
+    // What differs in what the first pair of images shows that shows another text.
+    fn judge_images_of(
+        &self,
+        alloc: Global,
+        ended: &Ended,
+        left: Images,
+        right: Images,
+        wanted: &[u8],
+    ) -> Result<Option<String>, AllocError> {
+        for left_choice in choices(left) {
+            for right_choice in choices(right) {
+                let shown = self.shown(alloc, ended, *left_choice, *right_choice)?;
+                let said = shown.host.said();
+                let found = difference_of_end(alloc, shown.status, "Done", said, wanted)?;
+                if let Some(found) = found {
+                    let text = format!(in alloc; "{left_choice:?} and {right_choice:?}: {found}")?;
+                    return Ok(Some(text));
+                }
+            }
+        }
+        Ok(None)
+    }
+
+    // A run of `show` over a pair of images that a call has left.
+    fn shown(
+        &self,
+        alloc: Global,
+        ended: &Ended,
+        left: Choice,
+        right: Choice,
+    ) -> Result<Ended, AllocError> {
+        let left = ended.host.image(alloc, Side::Left, left)?;
+        let right = ended.host.image(alloc, Side::Right, right)?;
+        let source = self.outside.source(alloc, b"show\n", Faults::none())?;
+        let shelf = self.inputs.shelf(alloc, 0)?;
+        let host = self.outside.host_of(alloc, &left, &right, Faults::none())?;
+        call(alloc, "run", self.outside.moment(), source, shelf, host)
+    }
+
+    fn judge_faults(
+        &mut self,
+        alloc: Global,
+        count: u64,
+        words: &str,
+    ) -> Result<Option<String>, AllocError> {
+        let script = self.inputs.take_text(alloc);
+        for number in 1..=count {
+            if let Some(found) = self.judge_fault(alloc, number, words, &script)? {
+                let text = format!(in alloc; "call {number} fails: {found}")?;
+                return Ok(Some(text));
+            }
+        }
+        Ok(None)
+    }
+
+    // What differs where this call of the host fails.
+    fn judge_fault(
+        &self,
+        alloc: Global,
+        number: u64,
+        words: &str,
+        script: &[u8],
+    ) -> Result<Option<String>, AllocError> {
+        let ended = self.ended_at_fault(alloc, number, words, script)?;
+        if is_end_at_fault(ended.status) {
+            return self.judge_states(alloc, &ended);
+        }
+        let text = format!(in alloc; "ends {}", ended.status)?;
+        Ok(Some(text))
+    }
+
+    // A call of the program in which this call of the host fails.
+    fn ended_at_fault(
+        &self,
+        alloc: Global,
+        number: u64,
+        words: &str,
+        script: &[u8],
+    ) -> Result<Ended, AllocError> {
+        let source = self.outside.source(alloc, script, Faults::none())?;
+        let shelf = self.inputs.shelf(alloc, 0)?;
+        let host = self.outside.host(alloc, Faults::of_host(number))?;
+        call(alloc, words, self.outside.moment(), source, shelf, host)
+    }
+
+    // What differs in what the first pair of images shows that shows neither state.
+    fn judge_states(&self, alloc: Global, ended: &Ended) -> Result<Option<String>, AllocError> {
+        for left in choices(Images::Each) {
+            for right in choices(Images::Each) {
+                let found = self.judge_state(alloc, ended, *left, *right)?;
+                if found.is_some() {
+                    return Ok(found);
+                }
+            }
+        }
+        Ok(None)
+    }
+
+    // What differs between the state that a pair of images shows and the new one, or the old one where it may show that.
+    fn judge_state(
+        &self,
+        alloc: Global,
+        ended: &Ended,
+        left: Choice,
+        right: Choice,
+    ) -> Result<Option<String>, AllocError> {
+        let before = self.inputs.bytes_of("before");
+        let after = self.inputs.bytes_of("after");
+        let shown = self.shown(alloc, ended, left, right)?;
+        let said = shown.host.said();
+        let is_old = ended.host.said().is_empty() && said == before;
+        let wanted = if is_old { before } else { after };
+        difference_of_end(alloc, shown.status, "Done", said, wanted)
+    }
 }
 
-// The words, between which there is one space each.
-fn words_of(alloc: Global, text: &str) -> Result<Vec<String>, AllocError> {
-    let mut words = Vec::new(alloc);
-    if text.is_empty() {
-        return Ok(words);
+// The images that are meant.
+fn choices(images: Images) -> &'static [Choice] {
+    match images {
+        Images::One(Choice::Old) => &[Choice::Old],
+        Images::One(Choice::New) => &[Choice::New],
+        Images::One(Choice::Torn) => &[Choice::Torn],
+        Images::Each => &[Choice::Old, Choice::New, Choice::Torn],
     }
-    for word in text.split(' ') {
-        words.push(String::from_str(alloc, word)?)?;
-    }
-    Ok(words)
-}
-
-// Where the last of these parts begins in a text.
-fn last_place(text: &[u8], part: &[u8]) -> Option<usize> {
-    text.windows(part.len().max(1))
-        .rposition(|window| window == part)
 }

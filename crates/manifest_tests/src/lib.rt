@@ -1,18 +1,7 @@
-//! Tests of feature manifests: of the texts of types, modules, linked files, values of types, and
-//! defaults laid over one another.
+//! Tests of the lists by name of manifests and values, called by hand; all else of manifests is tested by `manifest_scenarios`.
 #![tactic(auto)]
 
 #[cfg(test)]
-mod checks;
+mod entries;
 #[cfg(test)]
-mod layers;
-#[cfg(test)]
-mod links;
-#[cfg(test)]
-mod modules;
-#[cfg(test)]
-mod tables;
-#[cfg(test)]
-mod typed_values;
-#[cfg(test)]
-mod types;
+mod features;

@@ -1,0 +1,88 @@
+//! Calls of the program with the standard transforms of targeting.
+use crate::host::FailingHost;
+use host_model::{MemShelf, MemSource};
+use jexl_transforms::{
+    Transform, TransformTable, bucket_transform, date_transform, version_transform,
+};
+use jexl_value::{Attributes, Value};
+use session_run::{RunStatus, nimbus};
+use std::alloc::{AllocError, Global};
+
+/// The last moment at which the program may be called.
+const LAST_MOMENT: u64 = 253_402_300_799;
+
+/// A call of the program that has ended, and what it has left.
+#[derive(Drop)]
+pub(crate) struct Ended {
+    pub(crate) status: RunStatus,
+    pub(crate) source: MemSource,
+    pub(crate) host: FailingHost,
+}
+
+/// Calls the program with these words, between which there is one space each.
+pub(crate) fn call(
+    alloc: Global,
+    words: &str,
+    moment: u64,
+    source: MemSource,
+    shelf: MemShelf,
+    host: FailingHost,
+) -> Result<Ended, AllocError> {
+    let words = words_of(alloc, words)?;
+    let (mut source, mut shelf, mut host) = (source, shelf, host);
+    let status = answer(alloc, &words, moment, &mut source, &mut shelf, &mut host)?;
+    Ok(Ended {
+        status,
+        source,
+        host,
+    })
+}
+
+fn answer(
+    alloc: Global,
+    words: &[String],
+    moment: u64,
+    source: &mut MemSource,
+    shelf: &mut MemShelf,
+    host: &mut FailingHost,
+) -> Result<RunStatus, AllocError> {
+    let version: Transform = Box::new(
+        alloc,
+        |attributes: &Attributes, subject: &Value, arguments: &[Value]| {
+            version_transform(attributes, subject, arguments)
+        },
+    )?;
+    let date: Transform = Box::new(
+        alloc,
+        |attributes: &Attributes, subject: &Value, arguments: &[Value]| {
+            date_transform(attributes, subject, arguments)
+        },
+    )?;
+    let bucket: Transform = Box::new(
+        alloc,
+        move |attributes: &Attributes, subject: &Value, arguments: &[Value]| {
+            bucket_transform(alloc, attributes, subject, arguments)
+        },
+    )?;
+    let mut table = TransformTable::new(alloc);
+    let (Ok(()), Ok(()), Ok(())) = (
+        table.push(alloc, "versionCompare", version),
+        table.push(alloc, "date", date),
+        table.push(alloc, "bucketSample", bucket),
+    ) else {
+        return Ok(RunStatus::OutOfMemory);
+    };
+    let moment = moment.min(LAST_MOMENT);
+    Ok(nimbus(alloc, words, moment, &table, source, shelf, host))
+}
+
+fn words_of(alloc: Global, text: &str) -> Result<Vec<String>, AllocError> {
+    let mut words = Vec::new(alloc);
+    if text.is_empty() {
+        return Ok(words);
+    }
+    for word in text.split(' ') {
+        words.push(String::from_str(alloc, word)?)?;
+    }
+    Ok(words)
+}

@@ -1,0 +1,50 @@
+//! Statuses and rows in words.
+use anyhow::Result;
+use enrol_states::{State, Status};
+use std::alloc::Global;
+
+pub(crate) fn status_text(alloc: Global, status: &Status) -> Result<String> {
+    Ok(match status {
+        Status::Enrolled { reason, branch } => {
+            format!(in alloc; "Enrolled {reason:?} {}", branch.text())?
+        }
+        Status::NotEnrolled { reason } => format!(in alloc; "NotEnrolled {reason:?}")?,
+        Status::Disqualified { reason, branch } => {
+            format!(in alloc; "Disqualified {reason:?} {}", branch.text())?
+        }
+        Status::WasEnrolled { branch, ended } => {
+            format!(in alloc; "WasEnrolled {} {ended}", branch.text())?
+        }
+        Status::Error { cause } => format!(in alloc; "Error {cause:?}")?,
+    })
+}
+
+/// The opt-outs and the rows of a state, each with a comma before it, or `nothing`.
+pub(crate) fn state_text(alloc: Global, state: &State) -> Result<String> {
+    let mut line = String::new(alloc);
+    for slug in state.opted_out.as_slice() {
+        let text = format!(in alloc; ", out {}", slug.text())?;
+        line.push_str(text.as_str())?;
+    }
+    for row in state.rows.as_slice() {
+        let status = status_text(alloc, &row.status)?;
+        let text = format!(in alloc; ", {} {status}", row.slug.text())?;
+        line.push_str(text.as_str())?;
+    }
+    if line.is_empty() {
+        line.push_str("nothing")?;
+    }
+    Ok(line)
+}
+
+/// The lines of a text in one, with a bar between them.
+pub(crate) fn one_line(alloc: Global, text: &str) -> Result<String> {
+    let mut line = String::new(alloc);
+    for part in text.lines() {
+        if !line.is_empty() {
+            line.push_str(" | ")?;
+        }
+        line.push_str(part)?;
+    }
+    Ok(line)
+}

@@ -1,0 +1,111 @@
+//! Rows on what follows from a verdict, and on what stays without a live recipe.
+use crate::inputs::{cut, halves, recipe, slug};
+use crate::shown::status_text;
+use anyhow::{Context, Result, bail};
+use enrol_states::{
+    DisqualifiedReason, EnrolledReason, ErrorCause, NotEnrolledReason, Outcome, Status, Verdict,
+    candidate, ended,
+};
+use plain_text::read_number;
+use recipe_reader::Recipe;
+use std::alloc::Global;
+
+// A recipe with the branches `control` and `treatment`.
+const RECORD: &str =
+    "{\"slug\":\"alpha\",\"schemaVersion\":\"1.12.0\",\"bucketConfig\":{\"randomizationUnit\":\"nimbus_id\",\"namespace\":\"ns\",\"start\":0,\"count\":10000,\"total\":10000},\"branches\":[{\"slug\":\"control\",\"ratio\":0},{\"slug\":\"treatment\",\"ratio\":1}]}";
+
+/// What follows from a verdict on the recipe. Row: the status before, or `none`, and the verdict.
+pub(crate) fn outcome_of(alloc: Global, input: &str) -> Result<String> {
+    let (old, verdict) = halves(input)?;
+    let old = old_status(alloc, old)?;
+    next(
+        alloc,
+        old.as_ref(),
+        &verdict_of(alloc, verdict)?,
+        &recipe(alloc, RECORD)?,
+    )
+}
+
+// What follows, but for a pause where the client is enrolled.
+fn next(alloc: Global, old: Option<&Status>, verdict: &Verdict, recipe: &Recipe) -> Result<String> {
+    match (old, verdict) {
+        (Some(Status::Enrolled { .. }), Verdict::EnrollmentsPaused) => {
+            Ok(String::from_str(alloc, "never")?)
+        }
+        _ => outcome_text(alloc, &candidate(alloc, old, verdict, recipe)?),
+    }
+}
+
+fn outcome_text(alloc: Global, outcome: &Outcome) -> Result<String> {
+    match outcome {
+        Outcome::Keep(status) => status_text(alloc, status),
+        Outcome::Wish { won, lost } => {
+            let (won, lost) = (status_text(alloc, won)?, status_text(alloc, lost)?);
+            Ok(format!(in alloc; "{won}, or {lost}")?)
+        }
+    }
+}
+
+/// What stays of a status without a live recipe. Row: a moment, and the status.
+pub(crate) fn end_of(alloc: Global, input: &str) -> Result<String> {
+    let (now, status) = cut(input);
+    let now = read_number(now.as_bytes()).context("no moment")?;
+    let old = old_status(alloc, status)?.context("no status")?;
+    match ended(alloc, &old, now)? {
+        Some(status) => status_text(alloc, &status),
+        None => Ok(String::from_str(alloc, "dropped")?),
+    }
+}
+
+fn verdict_of(alloc: Global, text: &str) -> Result<Verdict> {
+    Ok(match text {
+        "DifferentAppName" => Verdict::DifferentAppName,
+        "DifferentChannel" => Verdict::DifferentChannel,
+        "OptOut" => Verdict::OptOut,
+        "EnrollmentsPaused" => Verdict::EnrollmentsPaused,
+        "NotTargeted" => Verdict::NotTargeted,
+        "NotSelected" => Verdict::NotSelected,
+        "Unparsed" => Verdict::Failed(ErrorCause::Unparsed),
+        "Faulted" => Verdict::Failed(ErrorCause::Faulted),
+        "NotTruth" => Verdict::Failed(ErrorCause::NotTruth),
+        "NoUnit" => Verdict::Failed(ErrorCause::NoUnit),
+        branch => Verdict::Qualified(slug(alloc, branch)?),
+    })
+}
+
+// A status of each kind, the reason and the causes of which don't matter.
+fn old_status(alloc: Global, text: &str) -> Result<Option<Status>> {
+    let (word, branch) = cut(text);
+    if word == "none" {
+        return Ok(None);
+    }
+    Ok(Some(match word {
+        "NotEnrolled" => Status::NotEnrolled {
+            reason: NotEnrolledReason::NotSelected,
+        },
+        "Error" => Status::Error {
+            cause: ErrorCause::NoUnit,
+        },
+        _ => old_enrolment(alloc, word, branch)?,
+    }))
+}
+
+fn old_enrolment(alloc: Global, word: &str, branch: &str) -> Result<Status> {
+    let branch = slug(alloc, branch)?;
+    Ok(match word {
+        "Enrolled" => Status::Enrolled {
+            reason: EnrolledReason::Qualified,
+            branch,
+        },
+        "OptedIn" => Status::Enrolled {
+            reason: EnrolledReason::OptIn,
+            branch,
+        },
+        "Disqualified" => Status::Disqualified {
+            reason: DisqualifiedReason::OptOut,
+            branch,
+        },
+        "WasEnrolled" => Status::WasEnrolled { branch, ended: 5 },
+        _ => bail!("no status: {word}"),
+    })
+}

@@ -1,0 +1,122 @@
+//! Trees and values of types, and what is laid over them.
+use crate::scenario::word_of;
+use crate::tables::{tree_of, type_of};
+use anyhow::Context;
+use fml_merge::{DefaultFault, check_defaults, default_of, overlay, overlay_feature, zero};
+use fml_types::{FieldType, Manifest, TypeTable};
+use fml_value::{Value, check, fits, takes, to_tree};
+use json_tree::{Tree, write};
+use std::alloc::{AllocError, Global};
+
+// The type and the text behind it in a row.
+fn typed_row<'a>(alloc: Global, row: &'a str) -> anyhow::Result<(FieldType, &'a str)> {
+    let (of, rest) = row.split_once(": ").context("a row has no type")?;
+    Ok((type_of(alloc, of)?, rest))
+}
+
+/// Whether a type takes a tree, and whether the tree fits it.
+pub(crate) fn takes_and_fits(
+    alloc: Global,
+    types: &TypeTable,
+    row: &str,
+) -> anyhow::Result<String> {
+    let (of, text) = typed_row(alloc, row)?;
+    let tree = tree_of(alloc, text)?;
+    let taken = word_of(takes(types, &of, &tree));
+    let fitting = word_of(fits(types, &of, &tree));
+    Ok(format!(in alloc; "takes {taken}, fits {fitting}")?)
+}
+
+/// The kind of the value whose tree this is. Where a copy of the value has another tree, that tree.
+pub(crate) fn kind_text(alloc: Global, types: &TypeTable, row: &str) -> anyhow::Result<String> {
+    let (of, text) = typed_row(alloc, row)?;
+    let tree = tree_of(alloc, text)?;
+    match check(alloc, types, &of, &tree)? {
+        Some(value) => Ok(kind_of_copy(alloc, &value, &tree)?),
+        None => Ok(String::from_str(alloc, "none")?),
+    }
+}
+
+fn kind_of_copy(alloc: Global, value: &Value, tree: &Tree) -> Result<String, AllocError> {
+    let copy = value.clone()?;
+    let found = to_tree(alloc, &copy)?;
+    if found == *tree {
+        String::from_str(alloc, kind_of(value))
+    } else {
+        text_of(alloc, &found)
+    }
+}
+
+fn text_of(alloc: Global, tree: &Tree) -> Result<String, AllocError> {
+    Ok(write(alloc, tree)?.into_string())
+}
+
+fn kind_of(value: &Value) -> &str {
+    match value {
+        Value::Truth(_) => "truth",
+        Value::Whole(_) => "whole",
+        Value::Text(_) => "text",
+        Value::Absent => "absent",
+        Value::Present(_) => "present",
+        Value::List(_) => "list",
+        Value::Map(_) => "map",
+        Value::Variant(_) => "variant",
+        Value::Object(_) => "object",
+    }
+}
+
+// The text of the value's tree.
+fn written(alloc: Global, value: &Value) -> Result<String, AllocError> {
+    text_of(alloc, &to_tree(alloc, value)?)
+}
+
+/// The tree that comes of it where a patch is laid over a value or over the type's zero.
+pub(crate) fn laid_text(alloc: Global, types: &TypeTable, row: &str) -> anyhow::Result<String> {
+    let (of, rest) = typed_row(alloc, row)?;
+    let (base, patch) = rest.split_once(": ").context("a row has no patch")?;
+    let base = if base == "zero" {
+        zero(alloc, types, &of)?
+    } else {
+        check(alloc, types, &of, &tree_of(alloc, base)?)?.context("no value has the base")?
+    };
+    let value = overlay(alloc, types, &of, base, &tree_of(alloc, patch)?)?;
+    Ok(written(alloc, &value)?)
+}
+
+/// The tree of a feature's default.
+pub(crate) fn default_text(
+    alloc: Global,
+    manifest: &Manifest,
+    name: &str,
+) -> anyhow::Result<String> {
+    let feature = manifest.features.get(name).context("no such feature")?;
+    let value = default_of(alloc, manifest, feature)?;
+    Ok(written(alloc, &value)?)
+}
+
+/// The tree of a feature's default with a patch laid over it.
+pub(crate) fn laid_feature(
+    alloc: Global,
+    manifest: &Manifest,
+    name: &str,
+    patch: &str,
+) -> anyhow::Result<String> {
+    let feature = manifest.features.get(name).context("no such feature")?;
+    let value = default_of(alloc, manifest, feature)?;
+    let patch = tree_of(alloc, patch)?;
+    let value = overlay_feature(alloc, manifest, feature, value, &patch)?;
+    Ok(written(alloc, &value)?)
+}
+
+/// `ok`, or the owner and the place of the first default that doesn't fit.
+pub(crate) fn default_verdict(alloc: Global, manifest: &Manifest) -> anyhow::Result<String> {
+    match check_defaults(alloc, manifest) {
+        Ok(()) => Ok(String::from_str(alloc, "ok")?),
+        Err(DefaultFault::BadDefault { owner, place }) => {
+            let owner = owner.as_str();
+            let place = place.as_str();
+            Ok(format!(in alloc; "{owner} {place}")?)
+        }
+        Err(DefaultFault::OutOfMemory) => Ok(String::from_str(alloc, "OutOfMemory")?),
+    }
+}

@@ -1,0 +1,19 @@
+//! Tables of rows that a program of tests reads, and what it tells of them.
+//!
+//! | Line | Meaning |
+//! |---|---|
+//! | an empty one, or one that begins with `#` | nothing |
+//! | `== KIND TITLE` | a table begins, whose rows are of this kind; nothing is given |
+//! | `given TEXT` | this text is given for the rows from here on |
+//! | `>> TEXT` | the input of the next row begins with this text, behind those of earlier lines |
+//! | `repeat COUNT TEXT` | so it does with this text, so many times |
+//! | `byte NUMBER COUNT` | so it does with this byte, so many times |
+//! | `INPUT => WANTED` | a row |
+//!
+//! Any other line is no row, and counts as one that differs.
+#![tactic(auto)]
+
+mod line;
+mod tables;
+
+pub use tables::{Row, Tables};

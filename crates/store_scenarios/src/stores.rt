@@ -1,0 +1,448 @@
+//! Calls on journals, pairs and row stores.
+ghost use Rattle.std.specs.Prelude.{◌≤◌, length, IfOk, IsTrue};
+ghost use Rattle.gate_journal.specs.declared.frame.TheConstants.{MAX_PAYLOAD};
+ghost use Rattle.pair_store.specs.declared.mark.TheConstants.{MAX_WHOLE};
+ghost use Rattle.row_batches.specs.Batch.{applied, batch_text, whole_of};
+
+use crate::batches::{bytes_of_rows, read_batch};
+use crate::hosts::{HostCall, ScenarioHost, done_text, number_text};
+use crate::text::{bytes_of, cut, number, payload_of, side};
+use gate_journal::{AppendFault, Frame, FrameFault, Journal, MAX_PAYLOAD};
+use host_model::Side;
+use pair_store::{MAX_WHOLE, PairStore};
+use row_batches::Batch;
+use row_store::RowStore;
+use sequences::Sequence;
+use std::alloc::{AllocError, Global};
+
+/// The journal, the pair and the row store of a scenario, where it has one.
+#[derive(Drop)]
+pub(crate) struct Stores {
+    journal: Option<Journal>,
+    pair: Option<PairStore>,
+    rows: Option<RowStore>,
+}
+
+/// A layer that keeps a list or a map on sides.
+#[derive(Clone, Copy, Debug, PartialEq, Eq)]
+pub(crate) enum Layer {
+    Journal,
+    Pair,
+    Rows,
+}
+
+/// A call on a store or on the host.
+#[derive(Clone, Copy)]
+pub(crate) enum Call<'a> {
+    Host(HostCall<'a>),
+    JournalMake(Side, u8, &'a str),
+    JournalOpen(Side),
+    JournalAppend(&'a str),
+    JournalClose(Side),
+    JournalGeneration,
+    JournalEndAfter(&'a str),
+    PairMake(&'a str),
+    PairOpen,
+    PairAppend(&'a str),
+    PairCheckpoint(&'a str),
+    PairWants(&'a str),
+    RowsMake(&'a str),
+    RowsOpen,
+    RowsPrepare(&'a str),
+    RowsCommit(&'a str),
+    RowsGet(&'a str),
+    RowsAll,
+}
+
+impl<'a> Call<'a> {
+    /// The call that a line names.
+    pub(crate) fn of(word: &str, rest: &'a str) -> Option<Call<'a>> {
+        let (call, behind) = cut(rest);
+        match word {
+            "host" => Some(Call::Host(HostCall::of(rest)?)),
+            "journal" => journal_call(call, behind),
+            "pair" => pair_call(call, behind),
+            "rows" => rows_call(call, behind),
+            _ => None,
+        }
+    }
+
+    /// The layer on which it is a call.
+    pub(crate) fn layer(&self) -> Option<Layer> {
+        match self {
+            Call::Host(_) => None,
+            Call::JournalMake(..)
+            | Call::JournalOpen(_)
+            | Call::JournalAppend(_)
+            | Call::JournalClose(_)
+            | Call::JournalGeneration
+            | Call::JournalEndAfter(_) => Some(Layer::Journal),
+            Call::PairMake(_)
+            | Call::PairOpen
+            | Call::PairAppend(_)
+            | Call::PairCheckpoint(_)
+            | Call::PairWants(_) => Some(Layer::Pair),
+            Call::RowsMake(_)
+            | Call::RowsOpen
+            | Call::RowsPrepare(_)
+            | Call::RowsCommit(_)
+            | Call::RowsGet(_)
+            | Call::RowsAll => Some(Layer::Rows),
+        }
+    }
+}
+
+fn journal_call<'a>(call: &str, rest: &'a str) -> Option<Call<'a>> {
+    let (name, behind) = cut(rest);
+    let (generation, first) = cut(behind);
+    match call {
+        "make" => Some(Call::JournalMake(
+            side(name)?,
+            u8::try_from(number(generation)?).ok()?,
+            first,
+        )),
+        "open" => Some(Call::JournalOpen(side(name)?)),
+        "append" => Some(Call::JournalAppend(rest)),
+        "close" => Some(Call::JournalClose(side(name)?)),
+        "generation" => Some(Call::JournalGeneration),
+        "end" => Some(Call::JournalEndAfter(rest)),
+        _ => None,
+    }
+}
+
+fn pair_call<'a>(call: &str, rest: &'a str) -> Option<Call<'a>> {
+    match call {
+        "make" => Some(Call::PairMake(rest)),
+        "open" => Some(Call::PairOpen),
+        "append" => Some(Call::PairAppend(rest)),
+        "checkpoint" => Some(Call::PairCheckpoint(rest)),
+        "wants" => Some(Call::PairWants(rest)),
+        _ => None,
+    }
+}
+
+fn rows_call<'a>(call: &str, rest: &'a str) -> Option<Call<'a>> {
+    match call {
+        "make" => Some(Call::RowsMake(rest)),
+        "open" => Some(Call::RowsOpen),
+        "prepare" => Some(Call::RowsPrepare(rest)),
+        "commit" => Some(Call::RowsCommit(rest)),
+        "get" => Some(Call::RowsGet(rest)),
+        "all" => Some(Call::RowsAll),
+        _ => None,
+    }
+}
+
+impl Stores {
+    /// None is there.
+    pub(crate) fn new() -> Stores {
+        Stores {
+            journal: None,
+            pair: None,
+            rows: None,
+        }
+    }
+
+    /// Makes a call, and gives its answer.
+    pub(crate) fn answer(
+        &mut self,
+        alloc: Global,
+        host: &mut ScenarioHost,
+        call: Call<'_>,
+    ) -> Result<Vec<u8>, AllocError> {
+        match call {
+            Call::Host(call) => call.answer(alloc, host),
+            Call::JournalMake(side, generation, first) => {
+                self.make_journal(alloc, host, side, generation, first)
+            }
+            Call::JournalOpen(side) => self.open_journal(alloc, host, side),
+            Call::JournalAppend(next) => self.append_to_journal(alloc, host, next),
+            Call::JournalClose(side) => done_text(alloc, Journal::close(host, side).is_ok()),
+            Call::JournalGeneration => self.generation(alloc),
+            Call::JournalEndAfter(next) => self.end_after(alloc, next),
+            Call::PairMake(first) => self.make_pair(alloc, host, first),
+            Call::PairOpen => self.open_pair(alloc, host),
+            Call::PairAppend(next) => self.append_to_pair(alloc, host, next),
+            Call::PairCheckpoint(whole) => self.turn_pair(alloc, host, whole),
+            Call::PairWants(next) => self.wants_checkpoint(alloc, next),
+            Call::RowsMake(changes) => make_rows(alloc, host, changes),
+            Call::RowsOpen => self.open_rows(alloc, host),
+            Call::RowsPrepare(changes) => self.prepare(alloc, changes),
+            Call::RowsCommit(changes) => self.commit(alloc, host, changes),
+            Call::RowsGet(key) => self.get(alloc, key),
+            Call::RowsAll => self.all_rows(alloc),
+        }
+    }
+
+    /// Opens what stands on the sides, and gives the answer.
+    pub(crate) fn open(
+        &mut self,
+        alloc: Global,
+        host: &mut ScenarioHost,
+        layer: Layer,
+    ) -> Result<Vec<u8>, AllocError> {
+        match layer {
+            Layer::Journal => self.open_journal(alloc, host, Side::Left),
+            Layer::Pair => self.open_pair(alloc, host),
+            Layer::Rows => self.open_rows(alloc, host),
+        }
+    }
+
+    fn make_journal(
+        &mut self,
+        alloc: Global,
+        host: &mut ScenarioHost,
+        side: Side,
+        generation: u8,
+        first: &str,
+    ) -> Result<Vec<u8>, AllocError> {
+        let Some(first) = frame_of(alloc, first)? else {
+            return b"TooLong".to_vec(alloc);
+        };
+        if generation > 2 || first.bytes() > MAX_WHOLE as u64 {
+            return b"no such making".to_vec(alloc);
+        }
+        self.journal = Journal::make(host, side, generation, &first).ok();
+        done_text(alloc, self.journal.is_some())
+    }
+
+    fn open_journal(
+        &mut self,
+        alloc: Global,
+        host: &mut ScenarioHost,
+        side: Side,
+    ) -> Result<Vec<u8>, AllocError> {
+        match Journal::open(alloc, host, side) {
+            Ok((journal, payloads)) => {
+                let mut text = number_text(alloc, u64::from(journal.generation()))?;
+                self.journal = Some(journal);
+                add_payloads(&mut text, &payloads)?;
+                Ok(text)
+            }
+            Err(fault) => Ok(format!(in alloc; "{fault:?}")?.into_bytes()),
+        }
+    }
+
+    fn append_to_journal(
+        &mut self,
+        alloc: Global,
+        host: &mut ScenarioHost,
+        next: &str,
+    ) -> Result<Vec<u8>, AllocError> {
+        let Some(next) = frame_of(alloc, next)? else {
+            return b"no payload".to_vec(alloc);
+        };
+        let Some(journal) = &mut self.journal else {
+            return b"no journal".to_vec(alloc);
+        };
+        match journal.append(host, &next) {
+            Ok(()) => b"Ok".to_vec(alloc),
+            Err(AppendFault::SideFull) => b"SideFull".to_vec(alloc),
+            Err(AppendFault::DiskFault) => b"Failed".to_vec(alloc),
+        }
+    }
+
+    fn generation(&self, alloc: Global) -> Result<Vec<u8>, AllocError> {
+        match &self.journal {
+            Some(journal) => number_text(alloc, u64::from(journal.generation())),
+            None => b"no journal".to_vec(alloc),
+        }
+    }
+
+    fn end_after(&self, alloc: Global, next: &str) -> Result<Vec<u8>, AllocError> {
+        let Some(next) = frame_of(alloc, next)? else {
+            return b"no payload".to_vec(alloc);
+        };
+        let Some(journal) = &self.journal else {
+            return b"no journal".to_vec(alloc);
+        };
+        number_text(alloc, journal.end_after(&next))
+    }
+
+    fn make_pair(
+        &mut self,
+        alloc: Global,
+        host: &mut ScenarioHost,
+        first: &str,
+    ) -> Result<Vec<u8>, AllocError> {
+        let Some(first) = frame_of(alloc, first)? else {
+            return b"TooLong".to_vec(alloc);
+        };
+        if first.bytes() > MAX_WHOLE as u64 {
+            return b"TooLong".to_vec(alloc);
+        }
+        self.pair = PairStore::make(host, &first).ok();
+        done_text(alloc, self.pair.is_some())
+    }
+
+    fn open_pair(&mut self, alloc: Global, host: &mut ScenarioHost) -> Result<Vec<u8>, AllocError> {
+        match PairStore::open(alloc, host) {
+            Ok((pair, payloads)) => {
+                self.pair = Some(pair);
+                let mut text = b"has".to_vec(alloc)?;
+                add_payloads(&mut text, &payloads)?;
+                Ok(text)
+            }
+            Err(fault) => Ok(format!(in alloc; "{fault:?}")?.into_bytes()),
+        }
+    }
+
+    fn append_to_pair(
+        &mut self,
+        alloc: Global,
+        host: &mut ScenarioHost,
+        next: &str,
+    ) -> Result<Vec<u8>, AllocError> {
+        let Some(next) = frame_of(alloc, next)? else {
+            return b"no payload".to_vec(alloc);
+        };
+        let Some(pair) = &mut self.pair else {
+            return b"no pair".to_vec(alloc);
+        };
+        if pair.wants_checkpoint(&next) {
+            return b"past the mark".to_vec(alloc);
+        }
+        done_text(alloc, pair.append(host, &next).is_ok())
+    }
+
+    fn turn_pair(
+        &mut self,
+        alloc: Global,
+        host: &mut ScenarioHost,
+        whole: &str,
+    ) -> Result<Vec<u8>, AllocError> {
+        let Some(whole) = frame_of(alloc, whole)? else {
+            return b"no payload".to_vec(alloc);
+        };
+        let Some(pair) = &mut self.pair else {
+            return b"no pair".to_vec(alloc);
+        };
+        if whole.bytes() > MAX_WHOLE as u64 {
+            return b"TooLong".to_vec(alloc);
+        }
+        done_text(alloc, pair.checkpoint(host, &whole).is_ok())
+    }
+
+    fn wants_checkpoint(&self, alloc: Global, next: &str) -> Result<Vec<u8>, AllocError> {
+        let Some(next) = frame_of(alloc, next)? else {
+            return b"no payload".to_vec(alloc);
+        };
+        let Some(pair) = &self.pair else {
+            return b"no pair".to_vec(alloc);
+        };
+        if pair.wants_checkpoint(&next) {
+            b"yes".to_vec(alloc)
+        } else {
+            b"no".to_vec(alloc)
+        }
+    }
+
+    fn open_rows(&mut self, alloc: Global, host: &mut ScenarioHost) -> Result<Vec<u8>, AllocError> {
+        match RowStore::open(alloc, host) {
+            Ok(rows) => {
+                self.rows = Some(rows);
+                self.all_rows(alloc)
+            }
+            Err(fault) => Ok(format!(in alloc; "{fault:?}")?.into_bytes()),
+        }
+    }
+
+    fn all_rows(&self, alloc: Global) -> Result<Vec<u8>, AllocError> {
+        match &self.rows {
+            Some(rows) => bytes_of_rows(alloc, rows.rows()),
+            None => b"no rows".to_vec(alloc),
+        }
+    }
+
+    fn get(&self, alloc: Global, key: &str) -> Result<Vec<u8>, AllocError> {
+        let key = bytes_of(alloc, key)?;
+        match &self.rows {
+            Some(rows) => match rows.get(&key) {
+                Some(value) => value.to_vec(alloc),
+                None => b"none".to_vec(alloc),
+            },
+            None => b"no rows".to_vec(alloc),
+        }
+    }
+
+    // Makes a batch ready, and lets it go.
+    fn prepare(&mut self, alloc: Global, changes: &str) -> Result<Vec<u8>, AllocError> {
+        let Some(batch) = read_batch(alloc, changes)? else {
+            return b"no batch".to_vec(alloc);
+        };
+        let Some(rows) = &mut self.rows else {
+            return b"no rows".to_vec(alloc);
+        };
+        if !fits(alloc, rows, &batch)? {
+            return b"TooLong".to_vec(alloc);
+        }
+        match rows.prepare(alloc, batch) {
+            Ok(_ready) => b"Ok".to_vec(alloc),
+            Err(AllocError) => b"OutOfMemory".to_vec(alloc),
+        }
+    }
+
+    // Makes a batch ready, and commits it.
+    fn commit(
+        &mut self,
+        alloc: Global,
+        host: &mut ScenarioHost,
+        changes: &str,
+    ) -> Result<Vec<u8>, AllocError> {
+        let Some(batch) = read_batch(alloc, changes)? else {
+            return b"no batch".to_vec(alloc);
+        };
+        let Some(rows) = &mut self.rows else {
+            return b"no rows".to_vec(alloc);
+        };
+        if !fits(alloc, rows, &batch)? {
+            return b"TooLong".to_vec(alloc);
+        }
+        match rows.prepare(alloc, batch) {
+            Ok(ready) => done_text(alloc, rows.commit(host, ready).is_ok()),
+            Err(AllocError) => b"OutOfMemory".to_vec(alloc),
+        }
+    }
+}
+
+// Makes a row store of the puts behind a clear.
+fn make_rows(alloc: Global, host: &mut ScenarioHost, changes: &str) -> Result<Vec<u8>, AllocError> {
+    let Some(whole) = read_batch(alloc, changes)? else {
+        return b"no batch".to_vec(alloc);
+    };
+    if !whole.is_clear() || whole.size() > MAX_WHOLE as u128 {
+        return b"no such making".to_vec(alloc);
+    }
+    match RowStore::make(alloc, host, &whole) {
+        Ok(()) => b"Ok".to_vec(alloc),
+        Err(fault) => Ok(format!(in alloc; "{fault:?}")?.into_bytes()),
+    }
+}
+
+// Whether a batch and the whole of the rows behind it are short enough.
+fn fits(alloc: Global, rows: &RowStore, batch: &Batch) -> Result<bool, AllocError>
+    ensures size { IfOk result (λ fits. IsTrue fits → length (batch_text batch.now) ≤ MAX_PAYLOAD) }
+    ensures whole_size { IfOk result (λ fits. IsTrue fits → length (batch_text (whole_of (applied batch.now rows.now.rows))) ≤ MAX_WHOLE) }
+{
+    let whole = batch.whole_after(alloc, rows.rows())?;
+    Ok(batch.size() <= MAX_PAYLOAD as u128 && whole.len() <= MAX_WHOLE)
+}
+
+// The frame of a payload, where it isn't too long.
+fn frame_of(alloc: Global, payload: &str) -> Result<Option<Frame>, AllocError> {
+    let payload = payload_of(alloc, payload)?;
+    match Frame::new(alloc, &payload) {
+        Ok(frame) => Ok(Some(frame)),
+        Err(FrameFault::TooLong) => Ok(None),
+        Err(FrameFault::OutOfMemory) => Err(AllocError),
+    }
+}
+
+// Adds the payloads, each behind a space.
+fn add_payloads(text: &mut Vec<u8>, payloads: &Sequence<Sequence<u8>>) -> Result<(), AllocError> {
+    for payload in payloads.as_slice() {
+        text.push(b' ')?;
+        text.extend_from_slice(payload.as_slice())?;
+    }
+    Ok(())
+}
