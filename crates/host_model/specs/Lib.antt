@@ -10,5 +10,6 @@ pub mod MemSource
 pub mod Memory
 pub mod Moments
 pub mod Shelf
+pub mod ShelfLaws
 pub mod SideBytes
 pub mod Sides

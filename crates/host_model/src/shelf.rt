@@ -34,13 +34,17 @@ pub trait Shelf {
     /// How often it has failed.
     ghost faults: { Self → ℕ };
 
+    /// Holds of two shelves where asking the first one for the file of a name may leave the second.
+    ghost asks: { Self → List ℕ → Self → Type 0 };
+
     /// A copy of the file of this name.
     fn take(&mut self, alloc: Global, name: &str) -> ShelfAnswer
         ensures answer { tells → IsShelved (file self.old name.now) result }
         ensures same { tells → (other : List ℕ) → file self.new other ≡ file self.old other }
         ensures later { faults self.old ≤ faults self.new }
         ensures fits { faults self.new < 2 ^ 64 }
-        ensures failed { result ≡ ShelfAnswer.Failed → Rose (faults self.old) (faults self.new) };
+        ensures failed { result ≡ ShelfAnswer.Failed → Rose (faults self.old) (faults self.new) }
+        ensures asked { asks self.old name.now self.new };
 }
 
 /// The most bytes of a file that is given.
@@ -88,7 +92,7 @@ impl MemShelf {
 
 impl Shelf for MemShelf {
     ghost use Rattle.host_model.specs.FailingCalls.{IsNextFailing, counted};
-    ghost use Rattle.host_model.specs.MemShelf.{file_on, calls_of};
+    ghost use Rattle.host_model.specs.MemShelf.{file_on, calls_of, AsksOf};
     ghost use Rattle.host_model.specs.Shelf.{IsShelved};
 
     ghost tells = { Unit {0} };
@@ -96,6 +100,8 @@ impl Shelf for MemShelf {
     ghost file = { file_on };
 
     ghost faults = { λ s. s.faults };
+
+    ghost asks = { AsksOf };
 
     fn take(&mut self, alloc: Global, name: &str) -> ShelfAnswer
         ensures answer { IsShelved (file_on self.old name.now) result }

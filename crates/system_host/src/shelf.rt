@@ -1,5 +1,5 @@
 // The files of the current folder.
-ghost use Rattle.std.specs.Prelude.{◌≡◌, ◌≢◌, ◌↔◌, Ok, None, IfOk, IfSome, IsTrue, option_map};
+ghost use Rattle.std.specs.Prelude.{◌≡◌, ◌≤◌, ◌≢◌, ◌↔◌, Ok, None, IfOk, IfSome, IsTrue, option_map};
 ghost use Rattle.system_host.specs.FileNames.{IsFileName};
 ghost use Rattle.system_host.specs.ShelfAnswers.{IsWithinLimit, FitsBytes};
 
@@ -116,6 +116,8 @@ impl<R: Files> Shelf for FolderShelf<'_, R> {
     ghost file = { λ _ _. None };
 
     ghost faults = { λ s. s.faults.count };
+
+    ghost asks = { λ shelf name asked. shelf.faults.count ≤ asked.faults.count };
 
     fn take(&mut self, alloc: Global, name: &str) -> ShelfAnswer {
         match take_file(self.rt, alloc, name) {
