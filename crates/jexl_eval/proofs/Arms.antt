@@ -24,12 +24,12 @@ then_ok m x k e = ap (λ r. r >>= k) e
 goes : {A B : Type 0} (P : Result B Fault → Type 0) (m : Result A Fault) (x : A) (k : A → Result B Fault) → m ≡ Ok x → P (k x) → P (m >>= k)
 goes P m x k e h = subst P (sym (then_ok m x k e)) h
 
-module _ (names : List (List ℕ)) (attributes : Members) (current : Json) where
+module _ (has : List ℕ → Bool) (attributes : Members) (current : Json) where
   abbrev m : Tree → Result Json Fault
-  m t = meaning names attributes current t
+  m t = meaning has attributes current t
 
   abbrev condition : Tree → Json → Result Json Fault
-  condition t x = meaning names attributes x t
+  condition t x = meaning has attributes x t
 
   abbrev filter_kept : Tree → Items → Result Json Fault
   filter_kept b xs = kept (condition b) xs >>= λ ys. Ok (list (items_of ys))
@@ -38,7 +38,7 @@ module _ (names : List (List ℕ)) (attributes : Members) (current : Json) where
   filter_on b x = filter_items x >>= λ xs. filter_kept b xs
 
   abbrev transform_on : List ℕ → Trees → Json → Result Json Fault
-  transform_on name ts x = meanings names attributes current ts >>= λ xs. transformed names name x xs
+  transform_on name ts x = meanings has attributes current ts >>= λ xs. transformed has name x xs
 
   abbrev index_on : Tree → Json → Result Json Fault
   index_on b x = m b >>= λ key. Ok (index x key)
@@ -52,21 +52,21 @@ module _ (names : List (List ℕ)) (attributes : Members) (current : Json) where
   abbrev or_else_on : Tree → Json → Result Json Fault
   or_else_on c x = if is_truthy x then Ok x else m c
 
-  pub items_fail : (ts : Trees) (f : EvalFault) → Fails f (meanings names attributes current ts) → Fails f (m (trees.Items ts))
-  items_fail ts f h = fails_then f (meanings names attributes current ts) (λ xs. Ok (list (items_of xs))) h
+  pub items_fail : (ts : Trees) (f : EvalFault) → Fails f (meanings has attributes current ts) → Fails f (m (trees.Items ts))
+  items_fail ts f h = fails_then f (meanings has attributes current ts) (λ xs. Ok (list (items_of xs))) h
 
-  pub items_ok : (ts : Trees) (xs : List Json) → meanings names attributes current ts ≡ Ok xs → m (trees.Items ts) ≡ Ok (list (items_of xs))
-  items_ok ts xs e = then_ok (meanings names attributes current ts) xs (λ xs. Ok (list (items_of xs))) e
+  pub items_ok : (ts : Trees) (xs : List Json) → meanings has attributes current ts ≡ Ok xs → m (trees.Items ts) ≡ Ok (list (items_of xs))
+  items_ok ts xs e = then_ok (meanings has attributes current ts) xs (λ xs. Ok (list (items_of xs))) e
 
   into_object : (r : Result (List (List ℕ × Json)) Fault) → (into [] r >>= λ ms. Ok (object (members_of ms))) ≡ (r >>= λ ms. Ok (object (members_of (with_members [] ms))))
   into_object (Ok ms) = refl
   into_object (Err f) = refl
 
-  pub members_fail : (ps : Pairs) (f : EvalFault) → Fails f (into [] (pair_meanings names attributes current ps)) → Fails f (m (trees.Members ps))
-  members_fail ps f h = subst (Fails f) (into_object (pair_meanings names attributes current ps)) (fails_then f (into [] (pair_meanings names attributes current ps)) (λ ms. Ok (object (members_of ms))) h)
+  pub members_fail : (ps : Pairs) (f : EvalFault) → Fails f (into [] (pair_meanings has attributes current ps)) → Fails f (m (trees.Members ps))
+  members_fail ps f h = subst (Fails f) (into_object (pair_meanings has attributes current ps)) (fails_then f (into [] (pair_meanings has attributes current ps)) (λ ms. Ok (object (members_of ms))) h)
 
-  pub members_ok : (ps : Pairs) (ms : List (List ℕ × Json)) → into [] (pair_meanings names attributes current ps) ≡ Ok ms → m (trees.Members ps) ≡ Ok (object (members_of ms))
-  members_ok ps ms e = sym (into_object (pair_meanings names attributes current ps)) ∙ then_ok (into [] (pair_meanings names attributes current ps)) ms (λ ms. Ok (object (members_of ms))) e
+  pub members_ok : (ps : Pairs) (ms : List (List ℕ × Json)) → into [] (pair_meanings has attributes current ps) ≡ Ok ms → m (trees.Members ps) ≡ Ok (object (members_of ms))
+  members_ok ps ms e = sym (into_object (pair_meanings has attributes current ps)) ∙ then_ok (into [] (pair_meanings has attributes current ps)) ms (λ ms. Ok (object (members_of ms))) e
 
   pub member_fail : (a : Tree) (name : List ℕ) (f : EvalFault) → Fails f (m a) → Fails f (m (Member a name))
   member_fail a name f h = fails_then f (m a) (λ x. Ok (member name x)) h
@@ -98,12 +98,12 @@ module _ (names : List (List ℕ)) (attributes : Members) (current : Json) where
   pub transform_fail : (a : Tree) (name : List ℕ) (ts : Trees) (f : EvalFault) → Fails f (m a) → Fails f (m (Transform a name ts))
   transform_fail a name ts f h = fails_then f (m a) (transform_on name ts) h
 
-  pub arguments_fail : (a : Tree) (name : List ℕ) (ts : Trees) (x : Json) (f : EvalFault) → m a ≡ Ok x → Fails f (meanings names attributes current ts) → Fails f (m (Transform a name ts))
-  arguments_fail a name ts x f e h = goes (Fails f) (m a) x (transform_on name ts) e (fails_then f (meanings names attributes current ts) (λ xs. transformed names name x xs) h)
+  pub arguments_fail : (a : Tree) (name : List ℕ) (ts : Trees) (x : Json) (f : EvalFault) → m a ≡ Ok x → Fails f (meanings has attributes current ts) → Fails f (m (Transform a name ts))
+  arguments_fail a name ts x f e h = goes (Fails f) (m a) x (transform_on name ts) e (fails_then f (meanings has attributes current ts) (λ xs. transformed has name x xs) h)
 
-  pub transform_goes : (a : Tree) (name : List ℕ) (ts : Trees) (x : Json) (xs : List Json) (r : Result Found EvalFault) → m a ≡ Ok x → meanings names attributes current ts ≡ Ok xs
-      → Gives found_as_json r (transformed names name x xs) → Gives found_as_json r (m (Transform a name ts))
-  transform_goes a name ts x xs r e d h = goes (Gives found_as_json r) (m a) x (transform_on name ts) e (goes (Gives found_as_json r) (meanings names attributes current ts) xs (λ xs. transformed names name x xs) d h)
+  pub transform_goes : (a : Tree) (name : List ℕ) (ts : Trees) (x : Json) (xs : List Json) (r : Result Found EvalFault) → m a ≡ Ok x → meanings has attributes current ts ≡ Ok xs
+      → Gives found_as_json r (transformed has name x xs) → Gives found_as_json r (m (Transform a name ts))
+  transform_goes a name ts x xs r e d h = goes (Gives found_as_json r) (m a) x (transform_on name ts) e (goes (Gives found_as_json r) (meanings has attributes current ts) xs (λ xs. transformed has name x xs) d h)
 
   pub not_fail : (a : Tree) (f : EvalFault) → Fails f (m a) → Fails f (m (Not a))
   not_fail a f h = fails_then f (m a) (λ x. Ok (truth (not (is_truthy x)))) h

@@ -1,5 +1,5 @@
 -- The exits of `?`, and the meaning of a node by its tree.
-use Rattle.std.proofs.Common.{◌≡◌, ℕ, List, Result, sym, ap, subst, ◌∙◌}
+use Rattle.std.proofs.Common.{◌≡◌, ℕ, Bool, List, Result, sym, ap, subst, ◌∙◌}
 use Rattle.std.specs.Result.{IsErrAnd}
 use Rattle.std.proofs.lemmas.Result.{err_from_is_err_and}
 use Rattle.json_tree.specs.Json.{Json, Members}
@@ -21,12 +21,12 @@ pub exit_memory : (meant : Result Json Fault) (r : Result Found EvalFault) → I
 exit_memory meant r h = exit meant r faults.OutOfMemory h tt
 
 -- along the tree that a node is: a fault, an answer, a value
-module _ (names : List (List ℕ)) (attributes : Members) (current : Json) (t u : Tree) where
-  pub fails_at : (r : Result Found EvalFault) (f : EvalFault) → IsErrAnd r (λ e. e ≡ f) → t ≡ u → Fails f (meaning names attributes current u) → Gives found_as_json r (meaning names attributes current t)
-  fails_at r f h e fails = exit (meaning names attributes current t) r f h (subst (λ v. Fails f (meaning names attributes current v)) (sym e) fails)
+module _ (has : List ℕ → Bool) (attributes : Members) (current : Json) (t u : Tree) where
+  pub fails_at : (r : Result Found EvalFault) (f : EvalFault) → IsErrAnd r (λ e. e ≡ f) → t ≡ u → Fails f (meaning has attributes current u) → Gives found_as_json r (meaning has attributes current t)
+  fails_at r f h e fails = exit (meaning has attributes current t) r f h (subst (λ v. Fails f (meaning has attributes current v)) (sym e) fails)
 
-  pub gives_at : (r : Result Found EvalFault) → t ≡ u → Gives found_as_json r (meaning names attributes current u) → Gives found_as_json r (meaning names attributes current t)
-  gives_at r e h = subst (λ v. Gives found_as_json r (meaning names attributes current v)) (sym e) h
+  pub gives_at : (r : Result Found EvalFault) → t ≡ u → Gives found_as_json r (meaning has attributes current u) → Gives found_as_json r (meaning has attributes current t)
+  gives_at r e h = subst (λ v. Gives found_as_json r (meaning has attributes current v)) (sym e) h
 
-  pub is_at : (r : Result Json Fault) → t ≡ u → meaning names attributes current u ≡ r → meaning names attributes current t ≡ r
-  is_at r e h = ap (meaning names attributes current) e ∙ h
+  pub is_at : (r : Result Json Fault) → t ≡ u → meaning has attributes current u ≡ r → meaning has attributes current t ≡ r
+  is_at r e h = ap (meaning has attributes current) e ∙ h

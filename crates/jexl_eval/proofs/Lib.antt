@@ -6,3 +6,4 @@ pub mod Faulting
 pub mod Lists
 pub mod Arms
 pub mod Exits
+pub mod Readable

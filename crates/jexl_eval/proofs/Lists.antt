@@ -36,27 +36,27 @@ into_more : (so_far : List (List ℕ × Json)) (m : List ℕ × Json) (r : Resul
 into_more so_far m (Ok ms) = refl
 into_more so_far m (Err f) = refl
 
-module _ (names : List (List ℕ)) (attributes : Members) (current : Json) where
+module _ (has : List ℕ → Bool) (attributes : Members) (current : Json) where
   abbrev pub of_nodes : List Node → Result (List Json) Fault
-  of_nodes ns = meanings names attributes current (views ns)
+  of_nodes ns = meanings has attributes current (views ns)
 
   abbrev pub of_pairs : List (List ℕ × Node) → Result (List (List ℕ × Json)) Fault
-  of_pairs ps = pair_meanings names attributes current (view_pairs ps)
+  of_pairs ps = pair_meanings has attributes current (view_pairs ps)
 
   pub nodes_begin : (ns : List Node) (xs : List Json) → xs ≡ [] → of_nodes ns ≡ onto xs (of_nodes ns)
   nodes_begin ns xs e = onto_none (of_nodes ns) ∙ ap (λ ys. onto ys (of_nodes ns)) (sym e)
 
-  pub nodes_turn : (ns : List Node) (i : ℕ) (n : Node) (xs new : List Json) (x : Json) → i < length ns → n ≡ get_or ns i n → meaning names attributes current (view n) ≡ Ok x → new ≡ xs ++ x ∷ []
+  pub nodes_turn : (ns : List Node) (i : ℕ) (n : Node) (xs new : List Json) (x : Json) → i < length ns → n ≡ get_or ns i n → meaning has attributes current (view n) ≡ Ok x → new ≡ xs ++ x ∷ []
       → onto xs (of_nodes (drop i ns)) ≡ onto new (of_nodes (drop (i + 1) ns))
   nodes_turn ns i n xs new x h is e pushed =
       ap (λ l. onto xs (of_nodes l)) (drop_next ns i n h is) ∙ ap (λ r. onto xs (r >>= λ y. of_nodes (drop (i + 1) ns) >>= λ ys. Ok (y ∷ ys))) e ∙ onto_more xs x (of_nodes (drop (i + 1) ns))
       ∙ ap (λ ys. onto ys (of_nodes (drop (i + 1) ns))) (sym pushed)
 
-  pub nodes_fail : (ns : List Node) (i : ℕ) (n : Node) (xs : List Json) (f : EvalFault) → i < length ns → n ≡ get_or ns i n → Fails f (meaning names attributes current (view n))
+  pub nodes_fail : (ns : List Node) (i : ℕ) (n : Node) (xs : List Json) (f : EvalFault) → i < length ns → n ≡ get_or ns i n → Fails f (meaning has attributes current (view n))
       → Fails f (onto xs (of_nodes (drop i ns)))
   nodes_fail ns i n xs f h is e =
       subst (λ l. Fails f (onto xs (of_nodes l))) (sym (drop_next ns i n h is))
-      (fails_then f (of_nodes (n ∷ drop (i + 1) ns)) (λ ys. Ok (xs ++ ys)) (fails_then f (meaning names attributes current (view n)) (λ y. of_nodes (drop (i + 1) ns) >>= λ ys. Ok (y ∷ ys)) e))
+      (fails_then f (of_nodes (n ∷ drop (i + 1) ns)) (λ ys. Ok (xs ++ ys)) (fails_then f (meaning has attributes current (view n)) (λ y. of_nodes (drop (i + 1) ns) >>= λ ys. Ok (y ∷ ys)) e))
 
   pub nodes_end : (ns : List Node) (i : ℕ) (xs : List Json) → length ns ≤ i → onto xs (of_nodes (drop i ns)) ≡ Ok xs
   nodes_end ns i xs h = ap (λ l. onto xs (of_nodes l)) (drop_all i ns h) ∙ ap Ok (append-nil xs)
@@ -64,17 +64,17 @@ module _ (names : List (List ℕ)) (attributes : Members) (current : Json) where
   pub pairs_begin : (ps : List (List ℕ × Node)) (ms : List (List ℕ × Json)) → ms ≡ [] → into [] (of_pairs ps) ≡ into ms (of_pairs ps)
   pairs_begin ps ms e = ap (λ m. into m (of_pairs ps)) (sym e)
 
-  pub pairs_turn : (ps : List (List ℕ × Node)) (i : ℕ) (p : List ℕ × Node) (so_far new : List (List ℕ × Json)) (x : Json) → i < length ps → p ≡ get_or ps i p → meaning names attributes current (view p.1) ≡ Ok x
+  pub pairs_turn : (ps : List (List ℕ × Node)) (i : ℕ) (p : List ℕ × Node) (so_far new : List (List ℕ × Json)) (x : Json) → i < length ps → p ≡ get_or ps i p → meaning has attributes current (view p.1) ≡ Ok x
       → new ≡ with_member p.0 x so_far → into so_far (of_pairs (drop i ps)) ≡ into new (of_pairs (drop (i + 1) ps))
   pairs_turn ps i p so_far new x h is e put =
       ap (λ l. into so_far (of_pairs l)) (drop_next ps i p h is) ∙ ap (λ r. into so_far (r >>= λ y. of_pairs (drop (i + 1) ps) >>= λ ms. Ok ((p.0, y) ∷ ms))) e ∙ into_more so_far (p.0, x) (of_pairs (drop (i + 1) ps))
       ∙ ap (λ ms. into ms (of_pairs (drop (i + 1) ps))) (sym put)
 
-  pub pairs_fail : (ps : List (List ℕ × Node)) (i : ℕ) (p : List ℕ × Node) (so_far : List (List ℕ × Json)) (f : EvalFault) → i < length ps → p ≡ get_or ps i p → Fails f (meaning names attributes current (view p.1))
+  pub pairs_fail : (ps : List (List ℕ × Node)) (i : ℕ) (p : List ℕ × Node) (so_far : List (List ℕ × Json)) (f : EvalFault) → i < length ps → p ≡ get_or ps i p → Fails f (meaning has attributes current (view p.1))
       → Fails f (into so_far (of_pairs (drop i ps)))
   pairs_fail ps i p so_far f h is e =
       subst (λ l. Fails f (into so_far (of_pairs l))) (sym (drop_next ps i p h is))
-      (fails_then f (of_pairs (p ∷ drop (i + 1) ps)) (λ ms. Ok (with_members so_far ms)) (fails_then f (meaning names attributes current (view p.1)) (λ y. of_pairs (drop (i + 1) ps) >>= λ ms. Ok ((p.0, y) ∷ ms)) e))
+      (fails_then f (of_pairs (p ∷ drop (i + 1) ps)) (λ ms. Ok (with_members so_far ms)) (fails_then f (meaning has attributes current (view p.1)) (λ y. of_pairs (drop (i + 1) ps) >>= λ ms. Ok ((p.0, y) ∷ ms)) e))
 
   pub pairs_end : (ps : List (List ℕ × Node)) (i : ℕ) (so_far : List (List ℕ × Json)) → length ps ≤ i → into so_far (of_pairs (drop i ps)) ≡ Ok so_far
   pairs_end ps i so_far h = ap (λ l. into so_far (of_pairs l)) (drop_all i ps h)

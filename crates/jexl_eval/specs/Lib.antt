@@ -5,3 +5,4 @@ pub mod Operations
 pub mod Meaning
 pub mod Gives
 pub mod Seen
+pub mod Expressions

@@ -5,7 +5,7 @@ ghost use Rattle.jexl_parser.specs.View.{view, constant as literal_of};
 ghost use Rattle.jexl_value.specs.Meaning.{is_truthy};
 ghost use Rattle.jexl_value.specs.Names.{with_member};
 ghost use Rattle.jexl_value.specs.Value.{as_json};
-ghost use Rattle.jexl_transforms.specs.Table.{names_of};
+ghost use Rattle.jexl_transforms.specs.Table.{has_transform};
 ghost use Rattle.jexl_eval.specs.Gives.{Gives};
 ghost use Rattle.jexl_eval.specs.Seen.{found_as_json};
 ghost use Rattle.jexl_eval.specs.Meaning.{meaning, constant, truth_of, truth_meant};
@@ -35,7 +35,7 @@ pub fn eval(
     attributes: &Attributes,
     table: &TransformTable,
 ) -> Result<Value, EvalFault>
-    ensures { Gives as_json result (meaning (names_of table.now) (members_of attributes.now.pairs) null (view expr.now.root)) }
+    ensures { Gives as_json result (meaning (has_transform table.now) (members_of attributes.now.pairs) null (view expr.now.root)) }
 {
     let nothing = Value::Null;
     match evaluate(alloc, &expr.root, attributes, table, &nothing) {
@@ -57,7 +57,7 @@ pub fn eval_truth(
     attributes: &Attributes,
     table: &TransformTable,
 ) -> Result<Option<bool>, EvalFault>
-    ensures { Gives (λ t. t) result (truth_meant (meaning (names_of table.now) (members_of attributes.now.pairs) null (view expr.now.root))) }
+    ensures { Gives (λ t. t) result (truth_meant (meaning (has_transform table.now) (members_of attributes.now.pairs) null (view expr.now.root))) }
 {
     let nothing = Value::Null;
     match evaluate(alloc, &expr.root, attributes, table, &nothing) {
@@ -85,7 +85,7 @@ fn evaluate<'a>(
     table: &TransformTable,
     current: &'a Value,
 ) -> Result<Found<'a>, EvalFault>
-    ensures { Gives found_as_json result (meaning (names_of table.now) (members_of attributes.now.pairs) (as_json current.now) (view node.now)) }
+    ensures { Gives found_as_json result (meaning (has_transform table.now) (members_of attributes.now.pairs) (as_json current.now) (view node.now)) }
 {
     match node {
         Node::Literal(literal) => constant(literal),

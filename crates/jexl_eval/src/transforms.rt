@@ -1,7 +1,7 @@
 // Calls of the transforms of a table.
 ghost use Rattle.std.specs.Prelude.{map};
 ghost use Rattle.jexl_value.specs.Value.{as_json};
-ghost use Rattle.jexl_transforms.specs.Table.{names_of};
+ghost use Rattle.jexl_transforms.specs.Table.{has_transform};
 ghost use Rattle.jexl_eval.specs.Gives.{Gives};
 ghost use Rattle.jexl_eval.specs.Seen.{found_as_json};
 ghost use Rattle.jexl_eval.specs.Meaning.{transformed};
@@ -20,7 +20,7 @@ pub(crate) fn transformed<'a>(
     subject: &Value,
     arguments: &[Value],
 ) -> Result<Found<'a>, EvalFault>
-    ensures { Gives found_as_json result (transformed (names_of table.now) name.now (as_json subject.now) (map as_json arguments.now)) }
+    ensures { Gives found_as_json result (transformed (has_transform table.now) name.now (as_json subject.now) (map as_json arguments.now)) }
 {
     match table.call(name, attributes, subject, arguments) {
         Ok(value) => Ok(Found::Owned(value)),

@@ -1,12 +1,15 @@
 -- The inside of quotes by a character at a time.
-use Rattle.std.proofs.Common.{◌≡◌, ℕ, suc, ◌<◌, ◌≤◌, Bool, true, false, cond, List, [], ◌∷◌, ◌++◌, length, Option, Some, None, refl, sym, ap, subst, ◌∙◌, arith, append_assoc, append-nil, get_or}
-use Rattle.std.specs.Prelude.{◌==◌, nat_lt, option_map, encode_utf8}
+use Rattle.std.proofs.Common.{◌≡◌, ℕ, zero, suc, ◌<◌, ◌≤◌, Bool, true, false, cond, List, [], ◌∷◌, ◌++◌, length, take, drop, Option, Some, None, refl, sym, ap, subst, ◌∙◌, arith, append_assoc, append-nil, get_or, length-drop}
+use Rattle.std.specs.Prelude.{◌==◌, ◌||◌, nat_lt, not, option_map, encode_utf8}
+use Rattle.std.specs.Option.{unwrap_or}
+use Rattle.std.specs.Str.{IsCharBoundary}
+use Rattle.memchr.specs.Find.{IsFirstByte, is_byte2}
 use Rattle.std.proofs.lemmas.Bool.{eqb-true, eq-eqb, ltb-true, ltb-false}
-use Rattle.std.proofs.lemmas.Str.{encode_ascii, inside_one}
+use Rattle.std.proofs.lemmas.Bool.Decides.{nat_tests}
+use Rattle.std.proofs.lemmas.Str.{encode_ascii, inside_one, IsCharBoundary-end, IsCharBoundary-before_ascii}
 use Rattle.jexl_lexer.proofs.Bytes.{char_long}
-use Rattle.jexl_lexer.specs.Scanning.{with_bytes}
-use Rattle.sequences.specs.Runs.{prepend}
-use Rattle.jexl_lexer.specs.Scanning.{inside}
+use Rattle.jexl_lexer.specs.Scanning.{is_plain, with_bytes, inside}
+use Rattle.sequences.specs.Runs.{prepend, run}
 
 -- each byte is at least 128
 abbrev pub AllPastAscii : List ℕ → Type 0
@@ -120,7 +123,69 @@ pub inside_cut : (q c : ℕ) (bs rest : List ℕ) → q < 92 → bs ≡ encode_u
 unfolding inside
 inside_cut q c bs rest l e f g = backslash q c bs rest l e f ∙ ap (inside q true) g
 
--- the loop's goals
+-- ---- what stands before the first quote or backslash
+
+-- a run ends where the test fails first
+pub run_up_to : (p : ℕ → Bool) (bs : List ℕ) (end : ℕ) → end ≤ length bs → ((k : ℕ) → k < end → p (get_or bs k 0) ≡ true) → (end < length bs → p (get_or bs end 0) ≡ false)
+    → run p bs ≡ (take end bs, drop end bs)
+unfolding run
+run_up_to p [] zero le pass stop = refl
+run_up_to p [] (suc n) le pass stop = absurd (omega arith)
+run_up_to p (b ∷ bs) zero le pass stop = ap (λ (t : Bool). cond t (prepend b (run p bs)) ([], b ∷ bs)) (stop (omega arith))
+run_up_to p (b ∷ bs) (suc n) le pass stop =
+    ap (λ (t : Bool). cond t (prepend b (run p bs)) ([], b ∷ bs)) (pass 0 (omega arith))
+    ∙ ap (prepend b) (run_up_to p bs n (omega arith) (λ k l. pass (suc k) (omega arith)) (λ l. stop (omega arith)))
+
+not_true : (t : Bool) → (t ≡ true → ⊥) → not t ≡ true
+not_true true n = absurd (n refl)
+not_true false n = refl
+
+-- up to what `memchr2` finds, or the end
+pub plain_cut : (q : ℕ) (bs : List ℕ) (r : Option ℕ) (end : ℕ) → IsFirstByte (is_byte2 q 92) bs r → end ≡ unwrap_or r (length bs) → (take end bs, drop end bs) ≡ run (is_plain q) bs
+plain_cut q bs None end h e =
+    sym (run_up_to (is_plain q) bs end (omega arith) (λ k l. not_true (is_byte2 q 92 (get_or bs k 0)) (h k (omega arith) (omega arith))) (λ l. absurd (omega arith)))
+plain_cut q bs (Some i) end h e =
+    let bounded = h.0.high in
+    sym (run_up_to (is_plain q) bs end (omega arith) (λ k l. not_true (is_byte2 q 92 (get_or bs k 0)) (h.0.before k (omega arith) (omega arith))) (λ l. ap (λ (n : ℕ). not (is_byte2 q 92 (get_or bs n 0))) e ∙ ap (λ (t : Bool). not t) h.1))
+
+plain_low : (q b : ℕ) → q < 92 → is_byte2 q 92 b ≡ true → b < 128
+plain_low q b l e = grind (arith, nat_tests)
+
+-- a text may be cut there
+pub plain_boundary : (q : ℕ) (bs : List ℕ) (r : Option ℕ) (end : ℕ) → q < 92 → IsFirstByte (is_byte2 q 92) bs r → end ≡ unwrap_or r (length bs) → IsCharBoundary bs end
+plain_boundary q bs None end l h e = subst (λ (n : ℕ). IsCharBoundary bs n) (sym e) (IsCharBoundary-end bs)
+plain_boundary q bs (Some i) end l h e = subst (λ (n : ℕ). IsCharBoundary bs n) (sym e) (IsCharBoundary-before_ascii bs i h.0.high (plain_low q (get_or bs i 0) l h.1))
+
+pub cut_short : (bs : List ℕ) (end : ℕ) → length (drop end bs) ≤ length bs
+cut_short bs end = omega (arith, length-drop end bs)
+
+plain_not : (q c : ℕ) (s t : Bool) → (c == q) ≡ s → (c == 92) ≡ t → not (s || t) ≡ true → (s ≡ false) × (t ≡ false)
+plain_not q c true t es et h = absurd cc
+plain_not q c false true es et h = absurd cc
+plain_not q c false false es et h = (refl, refl)
+
+plain_turn : (q c : ℕ) (cs : List ℕ) (t : Bool) → is_plain q c ≡ t → inside q false cs ≡ option_map (with_bytes (run (is_plain q) cs).0) (inside q false (run (is_plain q) cs).1)
+    → inside q false (c ∷ cs) ≡ option_map (with_bytes (cond t (prepend c (run (is_plain q) cs)) ([], c ∷ cs)).0) (inside q false (cond t (prepend c (run (is_plain q) cs)) ([], c ∷ cs)).1)
+unfolding inside
+plain_turn q c cs true e h =
+    let n = plain_not q c (c == q) (c == 92) refl refl e in
+    ap (λ (t : Bool). cond t (Some ([], cs)) (cond (c == 92) (inside q true cs) (option_map (prepend c) (inside q false cs)))) n.0
+    ∙ ap (λ (t : Bool). cond t (inside q true cs) (option_map (prepend c) (inside q false cs))) n.1
+    ∙ ap (option_map (prepend c)) h ∙ map_one c (run (is_plain q) cs).0 (inside q false (run (is_plain q) cs).1)
+plain_turn q c cs false e h = sym (map_none (inside q false (c ∷ cs)))
+
+-- what is plain stands in quotes as it is
+plain_run : (q : ℕ) (bs : List ℕ) → inside q false bs ≡ option_map (with_bytes (run (is_plain q) bs).0) (inside q false (run (is_plain q) bs).1)
+unfolding run
+plain_run q [] = sym (map_none (inside q false []))
+plain_run q (c ∷ cs) = plain_turn q c cs (is_plain q c) refl (plain_run q cs)
+
+pub inside_after_plain : (q : ℕ) (bs plain rest : List ℕ) → (plain, rest) ≡ run (is_plain q) bs → inside q false bs ≡ option_map (with_bytes plain) (inside q false rest)
+inside_after_plain q bs plain rest e =
+    subst (λ (x : List ℕ × List ℕ). inside q false bs ≡ option_map (with_bytes x.0) (inside q false x.1)) (sym e) (plain_run q bs)
+
+-- ---- the loop's goals
+
 pub gather : (o p r : Found) (w v : List ℕ) → o ≡ option_map (with_bytes w) p → p ≡ option_map (with_bytes v) r → o ≡ option_map (with_bytes (w ++ v)) r
 gather o p r w v e f = e ∙ ap (option_map (with_bytes w)) f ∙ map_two w v r
 
@@ -129,6 +194,3 @@ gather_end o p w e f = sym (e ∙ ap (option_map (with_bytes w)) f)
 
 pub gather_close : (o p : Found) (w rest : List ℕ) → o ≡ option_map (with_bytes w) p → p ≡ Some ([], rest) → Some (w, rest) ≡ o
 gather_close o p w rest e f = sym (e ∙ ap (option_map (with_bytes w)) f ∙ ap (λ (y : List ℕ). Some (y, rest)) (append-nil w))
-
-pub gather_start : (o : Found) → o ≡ option_map (with_bytes []) o
-gather_start o = sym (map_none o)

@@ -1,5 +1,5 @@
 -- Scanning a text from the left, as functions on its bytes: what the functions of the lexer give.
-use Rattle.std.specs.Prelude.{◌≡◌, ◌≢◌, ℕ, ◌≤◌, Bool, true, false, cond, ◌==◌, List, [], ◌∷◌, ◌++◌, length, Option, Some, None, option_map}
+use Rattle.std.specs.Prelude.{◌≡◌, ◌≢◌, ℕ, ◌≤◌, Bool, true, false, cond, not, ◌||◌, ◌==◌, List, [], ◌∷◌, ◌++◌, length, Option, Some, None, option_map}
 use Rattle.sequences.specs.Runs.{prepend}
 use Rattle.jexl_lexer.specs.declared.token.Sign.{Sign}
 use Rattle.jexl_lexer.specs.declared.token.Sign.TheVariants as signs
@@ -14,6 +14,10 @@ NoAsciiFront (b ∷ bs) = 128 ≤ b
 abbrev pub Starts : (ℕ → Bool) → List ℕ → Type 0
 Starts p [] = ⊥
 Starts p (b ∷ bs) = p b ≡ true
+
+-- the byte is neither the quote q nor a backslash
+abbrev pub is_plain : ℕ → ℕ → Bool
+is_plain q c = not ((c == q) || (c == 92))
 
 -- bytes put before the first part
 abbrev pub with_bytes : List ℕ → List ℕ × List ℕ → List ℕ × List ℕ

@@ -1,8 +1,10 @@
 // Texts in quotes.
-ghost use Rattle.std.specs.Prelude.{◌≡◌, ◌<◌, [], None, Some, false, length, IfOk, IfSome, MatchOption, encode_utf8, option_map};
-ghost use Rattle.jexl_lexer.specs.Scanning.{inside, with_bytes};
+ghost use Rattle.std.specs.Prelude.{◌≡◌, ◌<◌, ◌≤◌, [], None, Some, false, length, IfOk, IfSome, MatchOption, encode_utf8, option_map};
+ghost use Rattle.sequences.specs.Runs.{run};
+ghost use Rattle.jexl_lexer.specs.Scanning.{inside, is_plain, with_bytes};
 
 use crate::front::first_char;
+use memchr::memchr2;
 use sequences::Text;
 use std::alloc::{AllocError, Global};
 
@@ -32,20 +34,33 @@ fn quoted_char(quote: u8, text: &str) -> Option<(Option<char>, &str)>
     }
 }
 
+/// What stands before the first quote or backslash, and the text from there on.
+fn split_plain(quote: u8, text: &str) -> (&str, &str)
+    requires { quote < 92 }
+    ensures cut { (result.0.now, result.1.now) ≡ run (is_plain quote) text.now }
+    ensures short { length result.1.now ≤ length text.now }
+{
+    let end = memchr2(quote, b'\\', text.as_bytes()).unwrap_or(text.len());
+    text.split_at(end)
+}
+
 /// The text up to the closing quote without its backslashes, and the text after it.
-#[tactic(auto, using(crate::proofs::Quoting::gather, crate::proofs::Quoting::gather_end, crate::proofs::Quoting::gather_close, crate::proofs::Quoting::gather_start))]
+#[tactic(auto, using(crate::proofs::Quoting::gather_end, crate::proofs::Quoting::gather_close))]
 pub fn quoted_text(alloc: Global, quote: u8, text: &str) -> Result<Option<(Text, &str)>, AllocError>
     requires { quote < 92 }
     ensures { IfOk result (λ o. option_map (λ x. (x.0, x.1.now)) o ≡ inside quote false text.now) }
 {
     let mut inner = String::new(alloc);
-    let mut rest = text;
+    let (plain, mut rest) = split_plain(quote, text);
+    inner.push_str(plain)?;
     while let Some((found, after)) = quoted_char(quote, rest) {
         match found {
             None => return Ok(Some((Text::from_string(inner), after))),
             Some(c) => {
+                let (plain, next) = split_plain(quote, after);
                 inner.push(c)?;
-                rest = after;
+                inner.push_str(plain)?;
+                rest = next;
             }
         }
     }

@@ -1,5 +1,5 @@
 -- What the fact kept with a stored transform says of an answer.
-use Rattle.std.proofs.Common.{◌≡◌, ℕ, List, true, map, Some, None, subst, Bor}
+use Rattle.std.proofs.Common.{◌≡◌, ℕ, Bool, List, true, map, Some, None, subst, Bor}
 use Rattle.std.proofs.Math.Logic.{∥∥₁_elim}
 use Rattle.std.specs.Coded.{Coded-set, coded_option}
 use Rattle.json_tree.specs.Json.{json_code}
@@ -7,7 +7,7 @@ use Rattle.jexl_value.specs.Value.{as_json}
 use Rattle.jexl_value.specs.declared.attributes.Attributes.{Attributes}
 use Rattle.jexl_value.specs.declared.value.Value.{Value}
 use Rattle.jexl_transforms.specs.Meaning.{meaning}
-use Rattle.jexl_transforms.specs.Answering.{AnswersAs, Calls, has_name, result_of}
+use Rattle.jexl_transforms.specs.Answering.{AnswersAs, Calls, result_of}
 use Rattle.jexl_transforms.specs.declared.answer.TransformAnswer.{TransformAnswer}
 use Rattle.jexl_transforms.specs.declared.answer.TransformAnswer.TheVariants.{Gives, Refused, OutOfMemory}
 
@@ -25,8 +25,8 @@ module _ {post : Bor Attributes → Bor Value → Bor (List Value) → Transform
       (∥∥₁_elim kept (Coded-set (coded_option json_code) _ _) (λ facts. facts attributes subject arguments Refused (subst (post attributes subject arguments) is done)))
 
   -- a call of a table that has the name
-  pub called_so : (names : List (List ℕ)) → has_name called names ≡ true → ∥ AnswersAs name post ∥₁ → name ≡ called → post attributes subject arguments answer
-      → (a : TransformAnswer) → answer ≡ a → Calls names called (as_json subject.now) (map as_json arguments.now) (result_of a)
-  called_so names has kept same done (Gives v) is = (has, given v kept same done is)
-  called_so names has kept same done Refused is = (has, refused kept same done is)
-  called_so names has kept same done OutOfMemory is = tt
+  pub called_so : (has : List ℕ → Bool) → has called ≡ true → ∥ AnswersAs name post ∥₁ → name ≡ called → post attributes subject arguments answer
+      → (a : TransformAnswer) → answer ≡ a → Calls has called (as_json subject.now) (map as_json arguments.now) (result_of a)
+  called_so has known kept same done (Gives v) is = (known, given v kept same done is)
+  called_so has known kept same done Refused is = (known, refused kept same done is)
+  called_so has known kept same done OutOfMemory is = tt

@@ -1,7 +1,7 @@
 -- A name among those of some items, from one of them on.
 use Rattle.std.proofs.Common.{◌≡◌, ℕ, zero, suc, ◌+◌, ◌<◌, ◌≤◌, List, [], ◌∷◌, map, length, drop, Bool, true, false, ◌||◌, bytes_eq, slice_index_or, Contains, refl, sym, ap, ◌∙◌, subst, arith}
 use Rattle.std.specs.Cmp.Lexicographic.{bytes_decides}
-use Rattle.jexl_transforms.specs.Answering.{has_name}
+use Rattle.jexl_transforms.specs.Meaning.{has_name}
 
 module _ {X : Type 0} (label : X → List ℕ) (name : List ℕ) where
   abbrev pub has_from : List X → ℕ → Bool

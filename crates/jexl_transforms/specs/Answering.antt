@@ -1,6 +1,5 @@
 -- What an answer says of a transform's meaning.
-use Rattle.std.specs.Prelude.{◌≡◌, ℕ, Bool, true, false, List, map, bytes_eq, Option, Some, None, Result, Ok, Err, ⊤}
-use Rattle.std.specs.List.{list_any}
+use Rattle.std.specs.Prelude.{◌≡◌, ℕ, Bool, true, false, List, map, Option, Some, None, Result, Ok, Err, ⊤}
 use Rattle.json_tree.specs.Json.{Json}
 use Rattle.jexl_value.specs.Value.{as_json}
 use Rattle.jexl_value.specs.declared.attributes.Attributes.{Attributes}
@@ -23,17 +22,13 @@ abbrev pub AnswersAs : List ℕ → (Bor Attributes → Bor Value → Bor (List 
 AnswersAs name post = (attributes : Bor Attributes) (subject : Bor Value) (arguments : Bor (List Value)) (answer : TransformAnswer)
     → post attributes subject arguments answer → Answers (meaning name (as_json subject.now) (map as_json arguments.now)) answer
 
--- the name is one of these
-abbrev pub has_name : List ℕ → List (List ℕ) → Bool
-has_name name names = list_any (bytes_eq name) names
-
--- what a call says of a table with these names. The first three lines exclude one another, so each
+-- what a call says of a table that has the transforms of which `has` is true. The first three lines exclude one another, so each
 -- comes exactly where it says; memory may be wanting at any call
-abbrev pub Calls : List (List ℕ) → List ℕ → Json → List Json → Result Value CallFault → Type 0
-Calls names name subject arguments (Ok v) = (has_name name names ≡ true) × (meaning name subject arguments ≡ Some (as_json v))
-Calls names name subject arguments (Err faults.UnknownTransform) = has_name name names ≡ false
-Calls names name subject arguments (Err faults.BadArguments) = (has_name name names ≡ true) × (meaning name subject arguments ≡ None)
-Calls names name subject arguments (Err faults.OutOfMemory) = ⊤
+abbrev pub Calls : (List ℕ → Bool) → List ℕ → Json → List Json → Result Value CallFault → Type 0
+Calls has name subject arguments (Ok v) = (has name ≡ true) × (meaning name subject arguments ≡ Some (as_json v))
+Calls has name subject arguments (Err faults.UnknownTransform) = has name ≡ false
+Calls has name subject arguments (Err faults.BadArguments) = (has name ≡ true) × (meaning name subject arguments ≡ None)
+Calls has name subject arguments (Err faults.OutOfMemory) = ⊤
 
 -- what a call says where its transform gives this answer
 abbrev pub result_of : TransformAnswer → Result Value CallFault

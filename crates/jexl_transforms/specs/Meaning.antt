@@ -1,5 +1,6 @@
 -- What a transform of each standard name gives for a subject and arguments.
 use Rattle.std.specs.Prelude.{ℕ, ℤ, pos, negsuc, neg_ℤ, Bool, nat_le, ◌&&◌, List, [], ◌∷◌, codes, Option, Some, None, option_map, option_and_then, bytes_eq, if◌then◌else◌}
+use Rattle.std.specs.List.{list_any}
 use Rattle.std.specs.declared.cmp.Ordering.{Ordering}
 use Rattle.std.specs.declared.cmp.Ordering.TheVariants.{Less, Equal, Greater}
 use Rattle.json_tree.specs.Json.{Json, truth, whole, text}
@@ -61,3 +62,10 @@ meaning name subject arguments =
 -- the names that have a meaning
 abbrev pub standard_names : List (List ℕ)
 standard_names = codes "versionCompare" ∷ codes "date" ∷ codes "bucketSample" ∷ []
+
+-- the name is one of these
+abbrev pub has_name : List ℕ → List (List ℕ) → Bool
+has_name name names = list_any (bytes_eq name) names
+
+abbrev pub is_standard : List ℕ → Bool
+is_standard name = has_name name standard_names

@@ -16,9 +16,9 @@ pub struct TransformTable {
 
 impl TransformTable {
     ghost use Rattle.jexl_value.specs.Value.{as_json};
-    ghost use Rattle.jexl_transforms.specs.Meaning.{standard_names};
-    ghost use Rattle.jexl_transforms.specs.Answering.{AnswersAs, Calls, has_name, result_of};
-    ghost use Rattle.jexl_transforms.specs.Table.{names_of};
+    ghost use Rattle.jexl_transforms.specs.Meaning.{has_name, is_standard};
+    ghost use Rattle.jexl_transforms.specs.Answering.{AnswersAs, Calls, result_of};
+    ghost use Rattle.jexl_transforms.specs.Table.{names_of, has_transform};
 
     /// A table without transforms. It takes no memory.
     pub fn new(alloc: Global) -> TransformTable
@@ -44,13 +44,13 @@ impl TransformTable {
     /// `DuplicateName` exactly where the table has the name, and `OutOfMemory` where memory is
     /// wanting. Each hands the box back, and the table stays as it was.
     pub fn push(&mut self, alloc: Global, name: &str, transform: Transform) -> Result<(), PushFault>
-        requires standard { IsTrue (has_name name.now standard_names) }
+        requires standard { IsTrue (is_standard name.now) }
         requires callable { Transform.IsAlwaysCallable transform }
         requires answers { AnswersAs name.now (Transform.post transform) }
         ensures ok { OnOk result (names_of self.new ≡ names_of self.old ++ name.now ∷ []) }
         ensures err { OnErr result (self.new.entries.items ≡ self.old.entries.items) }
         ensures stored { OnOk result (map (λ e. e.run) self.new.entries.items ≡ map (λ e. e.run) self.old.entries.items ++ transform ∷ []) }
-        ensures duplicate { (result ≡ Err (PushFault.DuplicateName transform)) ↔ IsTrue (has_name name.now (names_of self.old)) }
+        ensures duplicate { (result ≡ Err (PushFault.DuplicateName transform)) ↔ IsTrue (has_transform self.old name.now) }
         ensures handed_back { IfErr result (λ f. (f ≡ PushFault.DuplicateName transform) ⊎ (f ≡ PushFault.OutOfMemory transform)) }
     {
         if self.find(name).is_some() {
@@ -70,7 +70,7 @@ impl TransformTable {
 
     // The first transform of this name.
     fn find(&self, name: &str) -> Option<&Entry>
-        ensures { MatchOption result (has_name name.now (names_of self.now) ≡ false) (λ e. (has_name name.now (names_of self.now) ≡ true) × (e.now.name ≡ name.now) × Contains self.now.entries.items e.now) }
+        ensures { MatchOption result (has_transform self.now name.now ≡ false) (λ e. (has_transform self.now name.now ≡ true) × (e.now.name ≡ name.now) × Contains self.now.entries.items e.now) }
     {
         for entry in &self.entries {
             if name == entry.name.as_str() {
@@ -95,7 +95,7 @@ impl TransformTable {
         subject: &Value,
         arguments: &[Value],
     ) -> Result<Value, CallFault>
-        ensures answer { Calls (names_of self.now) name.now (as_json subject.now) (map as_json arguments.now) result }
+        ensures answer { Calls (has_transform self.now) name.now (as_json subject.now) (map as_json arguments.now) result }
         ensures stored { (result ≡ Err CallFault.UnknownTransform) ⊎ ((e : _) × Contains self.now.entries.items e × (e.name ≡ name.now) × (answer : TransformAnswer) × Transform.post e.run attributes.entry subject.entry arguments.entry answer × (result ≡ result_of answer)) }
     {
         match self.find(name) {

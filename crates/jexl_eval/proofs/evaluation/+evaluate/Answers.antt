@@ -3,7 +3,7 @@ use Rattle.json_tree.specs.Json.{members_of, items_of, get_member}
 use Rattle.jexl_parser.specs.Tree as trees
 use Rattle.jexl_parser.specs.View.{view, views, view_pairs}
 use Rattle.jexl_parser.proofs.Views.{view_list, view_members, view_transform}
-use Rattle.jexl_transforms.specs.Table.{names_of}
+use Rattle.jexl_transforms.specs.Table.{has_transform}
 use Rattle.jexl_value.specs.Value.{as_json}
 use Rattle.jexl_value.specs.Meaning.{is_truthy}
 use Rattle.jexl_eval.specs.Gives.{Fails, Gives}
@@ -34,7 +34,7 @@ returns-in-Relative g t c =
     (ap Ok (sym (c.member_of.ensures ∙ ap (λ n. member n (as_json c.args.current.now)) c.as_str-in-Relative.ensures.text)))
 
 pub loop-node-init : goal.loop-node-init
-loop-node-init g t c = nodes_begin (names_of c.args.table.now) (members_of c.args.attributes.now.pairs) (as_json c.args.current.now) c.as_slice-nodes.result.now _ c.new-values.ensures
+loop-node-init g t c = nodes_begin (has_transform c.args.table.now) (members_of c.args.attributes.now.pairs) (as_json c.args.current.now) c.as_slice-nodes.result.now _ c.new-values.ensures
 
 pub returns-in_err-value-in-List : goal.returns-in_err-value-in-List
 returns-in_err-value-in-List g t c =
@@ -55,7 +55,7 @@ returns-in-List g t c =
     (items_ok _ _ _ (views c.as_slice-nodes.result.now) c.loop-node.values (c.loop-node.invariant ∙ nodes_end _ _ _ c.as_slice-nodes.result.now c.loop-node.node-index c.loop-node.values c.loop-node-test.false))
 
 pub loop-name-init : goal.loop-name-init
-loop-name-init g t c = pairs_begin (names_of c.args.table.now) (members_of c.args.attributes.now.pairs) (as_json c.args.current.now) c.as_slice-pairs.result.now _ c.new-members.ensures
+loop-name-init g t c = pairs_begin (has_transform c.args.table.now) (members_of c.args.attributes.now.pairs) (as_json c.args.current.now) c.as_slice-pairs.result.now _ c.new-members.ensures
 
 pub returns-in_err-member-in-Members : goal.returns-in_err-member-in-Members
 returns-in_err-member-in-Members g t c =
@@ -113,29 +113,29 @@ returns-in_err-items-in-Filter g t c =
     (subst (λ x. Fails c.in_err-items-in-Filter.field-0.0 (filter_items x)) c.value-in-Filter.ensures c.in_err-items-in-Filter.ensures))
 
 pub loop-item-init : goal.loop-item-init
-loop-item-init g t c = kept_begin (λ x. meaning (names_of c.args.table.now) (members_of c.args.attributes.now.pairs) x (view c.in-Filter.condition.value)) c.in_ok-items-in-Filter.items.now _ c.new-kept.ensures
+loop-item-init g t c = kept_begin (λ x. meaning (has_transform c.args.table.now) (members_of c.args.attributes.now.pairs) x (view c.in-Filter.condition.value)) c.in_ok-items-in-Filter.items.now _ c.new-kept.ensures
 
 pub returns-in_err-verdict-in-Filter : goal.returns-in_err-verdict-in-Filter
 returns-in_err-verdict-in-Filter g t c =
     fails_at _ _ _ _ _ c.from_residual-in_err-verdict-in-Filter.result c.in_err-verdict-in-Filter.field-0.0 c.from_residual-in_err-verdict-in-Filter.ensures.1 (ap view c.in-Filter.is ∙ ap (λ n. trees.Filter (view n) (view c.in-Filter.condition.value)) (sym c.deref-in-Filter.ensures))
     (kept_fails _ _ _ (view c.deref-in-Filter.result.now) (view c.in-Filter.condition.value) (found_as_json c.in_ok-subject-in-Filter.subject) (items_of (map as_json c.in_ok-items-in-Filter.items.now)) c.in_err-verdict-in-Filter.field-0.0 c.in_ok-subject-in-Filter.ensures (ap filter_items (sym c.value-in-Filter.ensures) ∙ c.in_ok-items-in-Filter.ensures)
     (subst (Fails c.in_err-verdict-in-Filter.field-0.0) (sym c.loop-item.invariant)
-    (kept_fail (λ x. meaning (names_of c.args.table.now) (members_of c.args.attributes.now.pairs) x (view c.in-Filter.condition.value)) c.in_ok-items-in-Filter.items.now c.loop-item.item-index c.item-item.result c.loop-item.kept c.in_err-verdict-in-Filter.field-0.0 c.loop-item-test.true c.item-item.is
-    (subst (λ n. Fails c.in_err-verdict-in-Filter.field-0.0 (meaning (names_of c.args.table.now) (members_of c.args.attributes.now.pairs) (as_json c.item-item.result) (view n))) c.deref-in-loop-item.ensures c.in_err-verdict-in-Filter.ensures))))
+    (kept_fail (λ x. meaning (has_transform c.args.table.now) (members_of c.args.attributes.now.pairs) x (view c.in-Filter.condition.value)) c.in_ok-items-in-Filter.items.now c.loop-item.item-index c.item-item.result c.loop-item.kept c.in_err-verdict-in-Filter.field-0.0 c.loop-item-test.true c.item-item.is
+    (subst (λ n. Fails c.in_err-verdict-in-Filter.field-0.0 (meaning (has_transform c.args.table.now) (members_of c.args.attributes.now.pairs) (as_json c.item-item.result) (view n))) c.deref-in-loop-item.ensures c.in_err-verdict-in-Filter.ensures))))
 
 pub returns-in_err-keep_if-in-Filter : goal.returns-in_err-keep_if-in-Filter
 returns-in_err-keep_if-in-Filter g t c = exit_memory _ c.from_residual-in_err-keep_if-in-Filter.result c.from_residual-in_err-keep_if-in-Filter.ensures.1
 
 pub loop-item-preserved : goal.loop-item-preserved
 loop-item-preserved g t c =
-    c.loop-item.invariant ∙ kept_turn (λ x. meaning (names_of c.args.table.now) (members_of c.args.attributes.now.pairs) x (view c.in-Filter.condition.value)) c.in_ok-items-in-Filter.items.now c.loop-item.item-index c.item-item.result c.loop-item.kept c.keep_if.new.kept (as_json c.value-in-loop-item.result.now) c.loop-item-test.true c.item-item.is
-    (ap (λ n. meaning (names_of c.args.table.now) (members_of c.args.attributes.now.pairs) (as_json c.item-item.result) (view n)) (sym c.deref-in-loop-item.ensures) ∙ c.in_ok-verdict-in-Filter.ensures ∙ ap Ok (sym c.value-in-loop-item.ensures)) c.in_ok-keep_if-in-Filter.ensures
+    c.loop-item.invariant ∙ kept_turn (λ x. meaning (has_transform c.args.table.now) (members_of c.args.attributes.now.pairs) x (view c.in-Filter.condition.value)) c.in_ok-items-in-Filter.items.now c.loop-item.item-index c.item-item.result c.loop-item.kept c.keep_if.new.kept (as_json c.value-in-loop-item.result.now) c.loop-item-test.true c.item-item.is
+    (ap (λ n. meaning (has_transform c.args.table.now) (members_of c.args.attributes.now.pairs) (as_json c.item-item.result) (view n)) (sym c.deref-in-loop-item.ensures) ∙ c.in_ok-verdict-in-Filter.ensures ∙ ap Ok (sym c.value-in-loop-item.ensures)) c.in_ok-keep_if-in-Filter.ensures
 
 pub returns-in-Filter : goal.returns-in-Filter
 returns-in-Filter g t c =
     is_at _ _ _ _ _ _ (ap view c.in-Filter.is ∙ ap (λ n. trees.Filter (view n) (view c.in-Filter.condition.value)) (sym c.deref-in-Filter.ensures))
     (filter_ok _ _ _ (view c.deref-in-Filter.result.now) (view c.in-Filter.condition.value) (found_as_json c.in_ok-subject-in-Filter.subject) (items_of (map as_json c.in_ok-items-in-Filter.items.now)) c.loop-item.kept c.in_ok-subject-in-Filter.ensures (ap filter_items (sym c.value-in-Filter.ensures) ∙ c.in_ok-items-in-Filter.ensures)
-    (c.loop-item.invariant ∙ kept_end (λ x. meaning (names_of c.args.table.now) (members_of c.args.attributes.now.pairs) x (view c.in-Filter.condition.value)) c.in_ok-items-in-Filter.items.now c.loop-item.item-index c.loop-item.kept c.loop-item-test.false))
+    (c.loop-item.invariant ∙ kept_end (λ x. meaning (has_transform c.args.table.now) (members_of c.args.attributes.now.pairs) x (view c.in-Filter.condition.value)) c.in_ok-items-in-Filter.items.now c.loop-item.item-index c.loop-item.kept c.loop-item-test.false))
 
 pub returns-in_err-subject-in-Transform : goal.returns-in_err-subject-in-Transform
 returns-in_err-subject-in-Transform g t c =
@@ -143,7 +143,7 @@ returns-in_err-subject-in-Transform g t c =
     (transform_fail _ _ _ (view c.deref-in-Transform.result.now) c.in-Transform.name (views c.in-Transform.arguments.items) c.in_err-subject-in-Transform.field-0.0 c.in_err-subject-in-Transform.ensures)
 
 pub loop-argument-init : goal.loop-argument-init
-loop-argument-init g t c = record { same = nodes_begin (names_of c.args.table.now) (members_of c.args.attributes.now.pairs) (as_json c.args.current.now) c.as_slice-arguments.result.now _ c.new-values-in-Transform.ensures; subject = refl }
+loop-argument-init g t c = record { same = nodes_begin (has_transform c.args.table.now) (members_of c.args.attributes.now.pairs) (as_json c.args.current.now) c.as_slice-arguments.result.now _ c.new-values-in-Transform.ensures; subject = refl }
 
 pub returns-in_err-value-in-Transform : goal.returns-in_err-value-in-Transform
 returns-in_err-value-in-Transform g t c =
@@ -165,8 +165,8 @@ pub returns-in-Transform : goal.returns-in-Transform
 returns-in-Transform g t c =
     gives_at _ _ _ _ _ c.transformed.result (ap view c.in-Transform.is ∙ view_transform c.in-Transform.subject c.in-Transform.name c.in-Transform.arguments ∙ ap₂ (λ n ns. trees.Transform (view n) c.in-Transform.name (views ns)) (sym c.deref-in-Transform.ensures) (sym c.as_slice-arguments.ensures.value))
     (transform_goes _ _ _ (view c.deref-in-Transform.result.now) c.in-Transform.name (views c.as_slice-arguments.result.now) (found_as_json c.in_ok-subject-in-Transform.subject) c.loop-argument.values c.transformed.result c.in_ok-subject-in-Transform.ensures (c.loop-argument.invariant.same ∙ nodes_end _ _ _ c.as_slice-arguments.result.now c.loop-argument.argument-index c.loop-argument.values c.loop-argument-test.false)
-    (subst (λ n. Gives found_as_json c.transformed.result (transformed (names_of c.args.table.now) n (found_as_json c.in_ok-subject-in-Transform.subject) c.loop-argument.values)) c.as_str-in-Transform.ensures.text (subst (λ xs. Gives found_as_json c.transformed.result (transformed (names_of c.args.table.now) c.as_str-in-Transform.result.now (found_as_json c.in_ok-subject-in-Transform.subject) xs)) c.as_slice.ensures.items
-    (subst (λ x. Gives found_as_json c.transformed.result (transformed (names_of c.args.table.now) c.as_str-in-Transform.result.now x (map as_json c.as_slice.result.now))) (c.value-in-Transform.ensures ∙ ap found_as_json c.loop-argument.invariant.subject) c.transformed.ensures))))
+    (subst (λ n. Gives found_as_json c.transformed.result (transformed (has_transform c.args.table.now) n (found_as_json c.in_ok-subject-in-Transform.subject) c.loop-argument.values)) c.as_str-in-Transform.ensures.text (subst (λ xs. Gives found_as_json c.transformed.result (transformed (has_transform c.args.table.now) c.as_str-in-Transform.result.now (found_as_json c.in_ok-subject-in-Transform.subject) xs)) c.as_slice.ensures.items
+    (subst (λ x. Gives found_as_json c.transformed.result (transformed (has_transform c.args.table.now) c.as_str-in-Transform.result.now x (map as_json c.as_slice.result.now))) (c.value-in-Transform.ensures ∙ ap found_as_json c.loop-argument.invariant.subject) c.transformed.ensures))))
 
 pub returns-in_err-value-in-Not : goal.returns-in_err-value-in-Not
 returns-in_err-value-in-Not g t c =

@@ -1,5 +1,5 @@
 use Rattle.std.proofs.Common.{map, ◌<◌, ◌≤◌, length, Contains, sym, ap, ◌∙◌, subst, arith}
-use Rattle.jexl_transforms.specs.Answering.{has_name}
+use Rattle.jexl_transforms.specs.Meaning.{has_name}
 use Rattle.jexl_transforms.proofs.Named.{goes_on, ends_here, none_after}
 use Rattle.jexl_transforms.proofs.table.TransformTable.find.Goals as goal
 

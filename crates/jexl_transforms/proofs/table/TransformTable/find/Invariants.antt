@@ -1,5 +1,5 @@
 use Rattle.std.proofs.Common.{◌≡◌}
-use Rattle.jexl_transforms.specs.Answering.{has_name}
+use Rattle.jexl_transforms.specs.Meaning.{has_name}
 use Rattle.jexl_transforms.specs.Table.{names_of}
 use Rattle.jexl_transforms.proofs.Named.{has_from}
 use Rattle.jexl_transforms.proofs.table.TransformTable.find.Given as goal
