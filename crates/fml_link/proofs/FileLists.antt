@@ -8,7 +8,7 @@ use Rattle.fml_link.proofs.Maps.{turned, left_false, right_false}
 use Rattle.fml_link.proofs.MetNames.{among_push}
 
 -- what each include keeps is kept by a file
-file_keeps : (P : List (List ℕ) → Type 0) → ((names : List (List ℕ)) (include : List ℕ) (longer : List (List ℕ)) → P names → IsAdded names include longer → P longer)
+pub file_keeps : (P : List (List ℕ) → Type 0) → ((names : List (List ℕ)) (include : List ℕ) (longer : List (List ℕ)) → P names → IsAdded names include longer → P longer)
     → (file : List ℕ → Option (List ℕ)) (names : List (List ℕ)) (name : Option (List ℕ)) (longer : List (List ℕ)) → P names → with_file file names name ≡ Ok longer → P longer
 file_keeps P step file names None longer kept h = let same : names ≡ longer = cc in subst P same kept
 file_keeps P step file names (Some name) longer kept h =
@@ -16,7 +16,7 @@ file_keeps P step file names (Some name) longer kept h =
     includes_keep P step m.0.includes names longer kept m.2
 
 -- what each include keeps holds of the whole list
-names_keep : (P : List (List ℕ) → Type 0) → ((names : List (List ℕ)) (include : List ℕ) (longer : List (List ℕ)) → P names → IsAdded names include longer → P longer)
+pub names_keep : (P : List (List ℕ) → Type 0) → ((names : List (List ℕ)) (include : List ℕ) (longer : List (List ℕ)) → P names → IsAdded names include longer → P longer)
     → (file : List ℕ → Option (List ℕ)) (root : List ℕ) → P (root ∷ []) → (n : ℕ) (names : List (List ℕ)) → names_after file root n ≡ Ok names → P names
 unfolding names_after
 names_keep P step file root kept zero names h = let same : root ∷ [] ≡ names = cc in subst P same kept

@@ -8,3 +8,5 @@ pub mod MetNames
 pub mod Listing
 pub mod FileLists
 pub mod SoundManifests
+pub mod Asking
+pub mod Includes

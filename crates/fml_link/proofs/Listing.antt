@@ -85,7 +85,7 @@ names_stay_failed e file root n (suc d) m is fails =
     (fails_bind e (names_after file root (n + d)) (λ ns. with_file file ns (slice_get ns (n + d))) (names_stay_failed e file root n d (n + d) refl fails))
 
 -- so does a list that no file is left of
-names_stay : (file : List ℕ → Option (List ℕ)) (root : List ℕ) (names : List (List ℕ)) (n d m : ℕ) → m ≡ n + d → length names ≤ n → names_after file root n ≡ Ok names → names_after file root m ≡ Ok names
+pub names_stay : (file : List ℕ → Option (List ℕ)) (root : List ℕ) (names : List (List ℕ)) (n d m : ℕ) → m ≡ n + d → length names ≤ n → names_after file root n ≡ Ok names → names_after file root m ≡ Ok names
 unfolding names_after
 names_stay file root names n zero m is short so_far = let same : n ≡ m = omega arith in subst (λ k. names_after file root k ≡ Ok names) same so_far
 names_stay file root names n (suc d) m is short so_far =
@@ -141,7 +141,7 @@ listed_whole file root place names ms below short so_far read =
     let left : ℕ = 64 - place in
     ap (λ r. r >>= read_each file) (names_stay file root names place left 64 (omega arith) short so_far) ∙ ap (read_each file) (sym (take_all place names short)) ∙ read
 
-absent_short : (names : List (List ℕ)) (place : ℕ) → None ≡ slice_get names place → length names ≤ place
+pub absent_short : (names : List (List ℕ)) (place : ℕ) → None ≡ slice_get names place → length names ≤ place
 absent_short [] place h = omega arith
 absent_short (n ∷ ns) zero h = absurd cc
 absent_short (n ∷ ns) (suc place) h = omega (arith, absent_short ns place h)

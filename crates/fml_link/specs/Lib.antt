@@ -1,5 +1,6 @@
 pub mod Outcome
 pub mod Files
+pub mod Asked
 pub mod Names
 pub mod Sound
 pub mod Tables

@@ -4,6 +4,7 @@ ghost use Rattle.json_tree.specs.Bytes.{tree_of};
 ghost use Rattle.json_tree.specs.Tree.{json_of};
 ghost use Rattle.host_model.specs.Causes.{Rose};
 ghost use Rattle.fml_reader.specs.Modules.{module_of};
+ghost use Rattle.fml_link.specs.Asked.{IsAskedFrom};
 ghost use Rattle.fml_link.specs.Files.{shallow_tree, in_file, file_tree, file_module, modules_of};
 ghost use Rattle.fml_link.specs.Outcome.{Gives, GivesTree};
 ghost use Rattle.fml_link.specs.Sound.{IsReadModule};
@@ -17,7 +18,7 @@ use sequences::{Sequence, Text};
 use std::alloc::Global;
 
 /// What the files of a root say. They are read in the order in which their names are met.
-#[tactic(auto, using(crate::proofs::Listing::listed_fails, crate::proofs::Listing::listed_full))]
+#[tactic(auto, using(crate::proofs::Listing::listed_fails, crate::proofs::Listing::listed_full, crate::proofs::Asking::asked_none, crate::proofs::Asking::asked_all, crate::proofs::Asking::asked_one_more))]
 pub(crate) fn modules_of<F: Shelf>(
     alloc: Global,
     shelf: &mut F,
@@ -28,6 +29,7 @@ pub(crate) fn modules_of<F: Shelf>(
     ensures files { F.tells → (other : List ℕ) → F.file shelf.new other ≡ F.file shelf.old other }
     ensures cause { IsErrOf result LinkFault.ShelfFault → Rose (F.faults shelf.old) (F.faults shelf.new) }
     ensures faults { F.faults shelf.old ≤ F.faults shelf.new }
+    ensures asked { IsAskedFrom F.asks root.now shelf.old shelf.new }
 {
     let mut names = FileNames::of_root(alloc, root)?;
     let mut modules = Sequence::new(alloc);
@@ -52,6 +54,7 @@ fn file_module<F: Shelf>(alloc: Global, shelf: &mut F, name: &Text) -> Result<Mo
     ensures files { F.tells → (other : List ℕ) → F.file shelf.new other ≡ F.file shelf.old other }
     ensures cause { IsErrOf result LinkFault.ShelfFault → Rose (F.faults shelf.old) (F.faults shelf.new) }
     ensures faults { F.faults shelf.old ≤ F.faults shelf.new }
+    ensures asked { F.asks shelf.old name.now shelf.new }
 {
     let tree = file_tree(alloc, shelf, name)?;
     module_in(alloc, name, &tree)
@@ -64,6 +67,7 @@ fn file_tree<F: Shelf>(alloc: Global, shelf: &mut F, name: &Text) -> Result<Tree
     ensures files { F.tells → (other : List ℕ) → F.file shelf.new other ≡ F.file shelf.old other }
     ensures cause { IsErrOf result LinkFault.ShelfFault → Rose (F.faults shelf.old) (F.faults shelf.new) }
     ensures faults { F.faults shelf.old ≤ F.faults shelf.new }
+    ensures asked { F.asks shelf.old name.now shelf.new }
 {
     match shelf.take(alloc, name.as_str()) {
         ShelfAnswer::Bytes(bytes) => tree_in(alloc, name, &bytes),

@@ -2,6 +2,7 @@
 ghost use Rattle.std.specs.Prelude.{◌≡◌, ◌≤◌, List, ℕ, IfOk, IsErrOf};
 ghost use Rattle.host_model.specs.Causes.{Rose};
 ghost use Rattle.fml_types.specs.Sound.{IsSoundManifest};
+ghost use Rattle.fml_link.specs.Asked.{IsAskedFrom};
 ghost use Rattle.fml_link.specs.Files.{is_among};
 ghost use Rattle.fml_link.specs.Linking.{channel_known, joined, linked, root_channels};
 ghost use Rattle.fml_link.specs.Outcome.{Gives};
@@ -34,7 +35,8 @@ use std::alloc::Global;
 /// `fml_types::grounded`. At last the channel has to be among the `channels` of the root; those of
 /// other files count for nothing.
 ///
-/// `ShelfFault` comes only where the shelf failed in this call.
+/// `ShelfFault` comes only where the shelf failed in this call. Whatever comes, the shelf has been
+/// asked for no file, or for some of which the first is the one of this name.
 #[tactic(auto, using(crate::proofs::Linked::fails_bind, crate::proofs::SoundManifests::gives_sound), unfolding(crate::specs::Linking::linked))]
 pub fn link<F: Shelf>(
     alloc: Global,
@@ -47,6 +49,7 @@ pub fn link<F: Shelf>(
     ensures files { F.tells → (other : List ℕ) → F.file shelf.new other ≡ F.file shelf.old other }
     ensures cause { IsErrOf result LinkFault.ShelfFault → Rose (F.faults shelf.old) (F.faults shelf.new) }
     ensures faults { F.faults shelf.old ≤ F.faults shelf.new }
+    ensures asked { IsAskedFrom F.asks name.now shelf.old shelf.new }
 {
     let modules = modules_of(alloc, shelf, name)?;
     joined(alloc, modules, channel)
