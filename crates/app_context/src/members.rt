@@ -14,7 +14,7 @@ use std::alloc::{AllocError, Global};
 
 /// Which texts of an object are wanted.
 #[derive(Clone, Copy, Drop)]
-pub enum Wanted {
+pub(crate) enum Wanted {
     AllTexts,
     /// Those of the keys whose text may be absent.
     OptionalTexts,

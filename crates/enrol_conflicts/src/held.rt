@@ -6,7 +6,7 @@ ghost use Rattle.enrol_states.specs.TextSets.{has_text};
 ghost use Rattle.enrol_conflicts.specs.Held.{of_kind, is_held, is_taken};
 
 use crate::Candidate;
-use crate::names::has_name;
+use crate::names::has_text;
 use recipe_reader::Kind;
 use sequences::Text;
 use std::alloc::{AllocError, Global};
@@ -47,7 +47,7 @@ impl<'a> HeldFeatures<'a> {
         let held = self.of_kind(wish.kind);
         let features = wish.features.as_slice();
         for feature in features {
-            if has_name(held, feature.as_str()) {
+            if has_text(held, feature.as_str()) {
                 return true;
             }
         }
@@ -91,7 +91,7 @@ fn add_feature<'a>(
 ) -> Result<(), AllocError>
     ensures { OnOk result ((f : List ℕ) → has_text held.new f ≡ (has_text held.old f || (bytes_eq feature.now f && not (has_text shared.now f)))) }
 {
-    if has_name(shared, feature) {
+    if has_text(shared, feature) {
         return Ok(());
     }
     held.insert(feature)?;

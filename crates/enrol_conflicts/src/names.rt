@@ -1,4 +1,4 @@
-// Sets of names.
+// Sets of texts.
 ghost use Rattle.std.specs.Prelude.{◌≡◌, ℕ, List, IfOk};
 ghost use Rattle.enrol_states.specs.Order.{is_in};
 ghost use Rattle.enrol_states.specs.TextSets.{has_text};
@@ -18,9 +18,9 @@ pub(crate) fn set_of<'a>(alloc: Global, names: &'a [Text]) -> Result<BTreeSet<&'
     Ok(set)
 }
 
-/// Whether the name is in the set.
-pub(crate) fn has_name<'a>(names: &BTreeSet<&'a str>, name: &'a str) -> bool
-    ensures { result ≡ has_text names.now name.now }
+/// Whether the text is in the set.
+pub(crate) fn has_text<'a>(texts: &BTreeSet<&'a str>, text: &'a str) -> bool
+    ensures { result ≡ has_text texts.now text.now }
 {
-    names.contains(&name)
+    texts.contains(&text)
 }

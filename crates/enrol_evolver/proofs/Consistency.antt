@@ -5,11 +5,13 @@ use Rattle.std.specs.List.{AllByRecursion}
 use Rattle.std.proofs.lemmas.List.Elements.{All-from_recursion}
 use Rattle.plain_text.specs.Names.{is_name}
 use Rattle.recipe_reader.specs.Payloads.{AreValid, has_slug, recipe_with}
+use Rattle.recipe_reader.specs.Kinds.{kind_of}
 use Rattle.recipe_reader.specs.Records.{IsValid}
 use Rattle.recipe_reader.specs.declared.recipe.Recipe.{Recipe}
 use Rattle.app_context.specs.declared.context.Context.{Context}
 use Rattle.enrol_states.specs.Order.{Rise, is_in}
 use Rattle.enrol_states.specs.State.{slugs_of, status_of}
+use Rattle.enrol_states.specs.Participation.{takes_part, may_take_part}
 use Rattle.enrol_states.specs.Recipes.{offers}
 use Rattle.enrol_states.specs.Statuses.{last_moment, IsSlug, IsStatus, is_enrolled, was_enrolled, enrolled_branch}
 use Rattle.enrol_states.specs.Consistent.{AreKept, ArePending, HasRecipe, HasBranch, IsNotOptedOut, IsParticipating, IsConsistent}
@@ -19,8 +21,8 @@ use Rattle.enrol_states.specs.declared.state.Row.{Row}
 use Rattle.enrol_states.specs.declared.status.Status.{Status}
 use Rattle.enrol_states.specs.declared.status.Status.TheVariants.{Enrolled, NotEnrolled, Disqualified, WasEnrolled, Error}
 use Rattle.enrol_evolver.specs.Verdicts.{is_out}
-use Rattle.enrol_evolver.specs.Wishes.{outcome_of, status_by}
-use Rattle.enrol_evolver.specs.Evolution.{version_of, live_after, refreshed, is_slug_granted, status_with, row_of, rows_after, with_new_rows, evolution}
+use Rattle.enrol_evolver.specs.Wishes.{outcome_of, row_of}
+use Rattle.enrol_evolver.specs.Evolution.{version_of, live_after, refreshed, is_slug_granted, new_status, status_with, rows_after, with_new_rows, evolution}
 use Rattle.enrol_evolver.proofs.Validity.{slug_fits}
 use Rattle.enrol_evolver.proofs.RowLists.{rows_where, row_where}
 use Rattle.enrol_evolver.proofs.Evolved.{found_slug, rows_after-rise, status-after}
@@ -59,20 +61,19 @@ taking_part true b e = absurd cc
 taking_part false true e = refl
 taking_part false false e = absurd cc
 
-live_row : (context : Context) (s : State) (now : ℕ) (slug : List ℕ) (r : Recipe) (st : Status) → IsValid r → IsOld (status_of r.slug s.rows) → recipe_with slug s.live ≡ Some r → status_by (outcome_of context s now r) (is_slug_granted context s now slug) ≡ st
-    → IsRowOf (with_new_rows context s now) (row_of slug st)
+live_row : (context : Context) (s : State) (now : ℕ) (slug : List ℕ) (r : Recipe) (st : Status) → IsValid r → IsOld (status_of r.slug s.rows) → recipe_with slug s.live ≡ Some r → new_status context s now r ≡ st → IsRowOf (with_new_rows context s now) (row_of slug st)
 live_row context s now slug r st valid old found e =
     let same : r.slug ≡ slug = found_slug slug s.live r found in
-    let fits : IsFitting r (is_out s r.slug) st =
-    subst (IsFitting r (is_out s r.slug)) e (status-fits r (is_out s r.slug) (outcome_of context s now r) (is_slug_granted context s now slug) (outcome-fits context s now r (status_of r.slug s.rows) (is_out s r.slug) valid old))
+    let fits : IsFitting r (is_out s r) st =
+    subst (IsFitting r (is_out s r)) e (status-fits r (is_out s r) (outcome_of context s now r) (is_slug_granted context s now r.slug) (outcome-fits context s now r (status_of r.slug s.rows) valid old))
     in
     record {
       slug = subst IsSlug same (slug_fits r valid);
       status = fits.status;
       recipe = or_true (was_enrolled st) (has_slug slug s.live) (has_recipe slug s.live r found);
       branch = λ b there. ap (λ o. offers o b) found ∙ fits.branch b there;
-      choice = λ enrolled. subst (λ t. is_in s.opted_out t ≡ false) same (left_false (is_in s.opted_out r.slug) (not s.participating) (fits.choice enrolled));
-      participation = λ enrolled. taking_part (is_in s.opted_out r.slug) s.participating (fits.choice enrolled);
+      choice = λ enrolled. subst (λ t. is_in s.opted_out t ≡ false) same (left_false (is_in s.opted_out r.slug) (not (takes_part s (kind_of r))) (fits.choice enrolled));
+      participation = λ enrolled. ap (may_take_part s) found ∙ taking_part (is_in s.opted_out r.slug) (takes_part s (kind_of r)) (fits.choice enrolled);
     }
 
 -- ---- a slug without one

@@ -1,29 +1,27 @@
 -- The new rows: each slug's status is the one that it has by itself.
-use Rattle.std.proofs.Common.{◌≡◌, ℕ, Bool, true, false, List, [], ◌∷◌, map, Option, None, Some, refl, sym, ap, ap₂, ◌∙◌, subst}
+use Rattle.std.proofs.Common.{◌≡◌, ℕ, Bool, true, false, List, [], ◌∷◌, map, Option, None, Some, refl, sym, ap, ap₂, ◌∙◌}
 use Rattle.std.specs.Prelude.{bytes_eq, ◌||◌, option_map, option_and_then, if◌then◌else◌}
-use Rattle.std.specs.List.{flat_map}
+use Rattle.std.specs.Option.{option_or}
+use Rattle.std.specs.List.{AllByRecursion}
+use Rattle.std.specs.List.Sorted.{IsStrictlySortedBy}
 use Rattle.std.specs.Cmp.Lexicographic.{bytes_decides}
+use Rattle.recipe_reader.specs.Payloads as payloads
 use Rattle.recipe_reader.specs.Payloads.{AreInOrder, recipe_with}
 use Rattle.recipe_reader.specs.declared.recipe.Recipe.{Recipe}
 use Rattle.app_context.specs.declared.context.Context.{Context}
-use Rattle.enrol_states.specs.Order.{Rise, is_in}
+use Rattle.enrol_states.specs.Order.{Rise, AreAbove, is_in}
 use Rattle.enrol_states.specs.State.{slugs_of, status_of}
 use Rattle.enrol_states.specs.Transitions.{status_ended}
 use Rattle.enrol_states.specs.declared.state.State.{State}
 use Rattle.enrol_states.specs.declared.state.Row.{Row}
 use Rattle.enrol_states.specs.declared.status.Status.{Status}
-use Rattle.enrol_states.specs.declared.verdict.Outcome.TheVariants.{Keep}
 use Rattle.enrol_conflicts.specs.Settlement.{Settled}
 use Rattle.enrol_conflicts.specs.declared.candidate.Candidate.{Candidate}
 use Rattle.enrol_conflicts.proofs.Uniqueness.{settleable, settled_at_most_once}
-use Rattle.enrol_evolver.specs.Verdicts.{is_out}
-use Rattle.enrol_evolver.specs.Wishes.{outcome_from, wishes_of, grants_of, is_granted, status_by}
-use Rattle.enrol_evolver.specs.Evolution.{status_after, status_with, is_slug_granted, all_slugs, rows_after}
-use Rattle.enrol_evolver.specs.Slots.{joined}
-use Rattle.enrol_evolver.specs.Plans.{entry_of, rows_by}
-use Rattle.enrol_evolver.proofs.Entries.{entry_slugs, outcome_with, outcome-joined, entries-rise}
-use Rattle.enrol_evolver.proofs.Wishing.{wishes-joined, status-settled, slugs-settled}
+use Rattle.enrol_evolver.specs.Wishes.{grants_of, row_of}
+use Rattle.enrol_evolver.specs.Evolution.{status_after, status_with, status_left, new_status, live_rows, all_slugs, rows_after}
 use Rattle.enrol_evolver.proofs.RowLists.{same_rows, rows-rise, status-rows, rise-fold, in-fold}
+use Rattle.enrol_evolver.proofs.MergedRows.{merged, AreGone, status-ended, status-merged, rise-merged}
 
 -- ---- the one settled list
 
@@ -81,27 +79,66 @@ status-after context s now slug rise =
 
 -- ---- the rows as they are made
 
-kept_itself : (o : Option Status) (g : Bool) → option_map (λ p. status_by p g) (option_map Keep o) ≡ o
-kept_itself None g = refl
-kept_itself (Some st) g = refl
+live-status_at : (f : Recipe → Status) (r : Recipe) (rs : List Recipe) (slug : List ℕ) (b : Bool) → status_of slug (map (λ (q : Recipe). row_of q.slug (f q)) rs) ≡ option_map f (recipe_with slug rs)
+    → (if b then Some (f r) else status_of slug (map (λ (q : Recipe). row_of q.slug (f q)) rs)) ≡ option_map f (if b then Some r else recipe_with slug rs)
+live-status_at f r rs slug true rest = refl
+live-status_at f r rs slug false rest = rest
 
-by_recipe : (context : Context) (s : State) (now : ℕ) (slug : List ℕ) (o : Option Recipe) → recipe_with slug s.live ≡ o
-    → option_map (λ p. status_by p (is_slug_granted context s now slug)) (outcome_with context s now o (status_of slug s.rows) (is_out s slug)) ≡ status_with context s now slug o
-by_recipe context s now slug None e = kept_itself (option_and_then (λ old. status_ended old now) (status_of slug s.rows)) (is_slug_granted context s now slug)
-by_recipe context s now slug (Some r) e = ap (λ t. Some (status_by (outcome_from context s now r (status_of t s.rows) (is_out s t)) (is_slug_granted context s now slug))) (sym (found_slug slug s.live r e))
+live-status : (f : Recipe → Status) (slug : List ℕ) (rs : List Recipe) → status_of slug (map (λ (r : Recipe). row_of r.slug (f r)) rs) ≡ option_map f (recipe_with slug rs)
+live-status f slug [] = refl
+live-status f slug (r ∷ rs) = live-status_at f r rs slug (bytes_eq r.slug slug) (live-status f slug rs)
 
-pub made-is : (context : Context) (s : State) (now : ℕ) (gs : List Bool) → AreInOrder s.live → Rise (slugs_of s.rows) → Settled (wishes_of context s now) s.coenrolling gs
-    → rows_by (flat_map (entry_of context s now) (joined s.opted_out s.live s.rows)) gs ≡ rows_after context s now
-made-is context s now gs order rise settled =
-    same_rows _ _ (subst Rise (sym (slugs-settled (flat_map (entry_of context s now) (joined s.opted_out s.live s.rows)) gs)) in_order) (rows_after-rise context s now rise) each
-  where
-    in_order : Rise (entry_slugs (flat_map (entry_of context s now) (joined s.opted_out s.live s.rows)))
-    in_order = entries-rise context s now s.live s.rows order rise
+-- nothing stays of a row, where there is a live recipe
+none_of : (r : Recipe) (now : ℕ) (old : Option Status) → option_and_then (λ st. status_left (Some r) st now) old ≡ None
+none_of r now None = refl
+none_of r now (Some st) = refl
 
-    each : (slug : List ℕ) → status_of slug (rows_by (flat_map (entry_of context s now) (joined s.opted_out s.live s.rows)) gs) ≡ status_of slug (rows_after context s now)
-    each slug =
-        status-settled context s now slug (joined s.opted_out s.live s.rows) in_order gs
-        ∙ ap₂ (λ ws o. option_map (λ p. status_by p (is_granted ws gs slug)) o) (wishes-joined context s now s.live s.rows order rise) (outcome-joined context s now slug s.live s.rows order rise)
-        ∙ ap (λ hs. option_map (λ p. status_by p (is_granted (wishes_of context s now) hs slug)) (outcome_with context s now (recipe_with slug s.live) (status_of slug s.rows) (is_out s slug))) (only_grants (wishes_of context s now) s.coenrolling gs settled)
-        ∙ by_recipe context s now slug (recipe_with slug s.live) refl
-        ∙ sym (status-after context s now slug rise)
+none_where : (f : Recipe → Status) (now : ℕ) (o : Option Recipe) (old : Option Status) (st : Status) → option_map f o ≡ Some st → option_and_then (λ old. status_left o old now) old ≡ None
+none_where f now None old st e = absurd cc
+none_where f now (Some r) old st e = none_of r now old
+
+in_parts : (context : Context) (s : State) (now : ℕ) (slug : List ℕ) (o : Option Recipe) → option_or (option_map (new_status context s now) o) (option_and_then (λ old. status_left o old now) (status_of slug s.rows)) ≡ status_with context s now slug o
+in_parts context s now slug None = refl
+in_parts context s now slug (Some r) = refl
+
+status-made : (context : Context) (s : State) (now : ℕ) (slug : List ℕ) → Rise (slugs_of s.rows) → status_of slug (merged context s now (live_rows context s now) s.rows) ≡ status_after context s now slug
+status-made context s now slug rise =
+    let live = live-status (new_status context s now) slug s.live in
+    let ended = status-ended context s now slug s.rows rise in
+    status-merged context s now slug (live_rows context s now) s.rows (λ st found. ended ∙ none_where (new_status context s now) now (recipe_with slug s.live) (status_of slug s.rows) st (sym live ∙ found))
+    ∙ ap₂ option_or live ended ∙ in_parts context s now slug (recipe_with slug s.live)
+
+abbrev IsThere : List ℕ → List Recipe → Type 0
+IsThere slug rs = (q : Recipe) × (recipe_with slug rs ≡ Some q)
+
+there_at : (q : Recipe) (qs : List Recipe) (slug : List ℕ) (b : Bool) → IsThere slug qs → (p : Recipe) × ((if b then Some q else recipe_with slug qs) ≡ Some p)
+there_at q qs slug true rest = (q, refl)
+there_at q qs slug false rest = rest
+
+all_later : (q : Recipe) (qs rs : List Recipe) → AllByRecursion (λ (r : Recipe). IsThere r.slug qs) rs → AllByRecursion (λ (r : Recipe). IsThere r.slug (q ∷ qs)) rs
+all_later q qs [] all = tt
+all_later q qs (r ∷ rs) all = (there_at q qs r.slug (bytes_eq q.slug r.slug) all.0, all_later q qs rs all.1)
+
+all_there : (rs : List Recipe) → AllByRecursion (λ (r : Recipe). IsThere r.slug rs) rs
+all_there [] = tt
+all_there (q ∷ qs) = ((q, ap (λ b. if b then Some q else recipe_with q.slug qs) ((bytes_decides q.slug q.slug).1 refl)), all_later q qs qs (all_there qs))
+
+gone_all : (context : Context) (s : State) (now : ℕ) (rs : List Recipe) → Rise (slugs_of s.rows) → AllByRecursion (λ (r : Recipe). IsThere r.slug s.live) rs → AreGone context s now (map (λ (r : Recipe). row_of r.slug (new_status context s now r)) rs) s.rows
+gone_all context s now [] rise all = tt
+gone_all context s now (r ∷ rs) rise all =
+    (status-ended context s now r.slug s.rows rise ∙ ap (λ o. option_and_then (λ old. status_left o old now) (status_of r.slug s.rows)) all.0.1 ∙ none_of all.0.0 now (status_of r.slug s.rows), gone_all context s now rs rise all.1)
+
+live_above : (context : Context) (s : State) (now : ℕ) (a : List ℕ) (rs : List Recipe) → payloads.AreAbove a rs → AreAbove a (slugs_of (map (λ (r : Recipe). row_of r.slug (new_status context s now r)) rs))
+live_above context s now a [] above = tt
+live_above context s now a (r ∷ rs) above = (above.0, live_above context s now a rs above.1)
+
+live_rise : (context : Context) (s : State) (now : ℕ) (rs : List Recipe) → AreInOrder rs → Rise (slugs_of (map (λ (r : Recipe). row_of r.slug (new_status context s now r)) rs))
+unfolding IsStrictlySortedBy
+live_rise context s now [] order = tt
+live_rise context s now (r ∷ rs) order = (live_above context s now r.slug rs order.0, live_rise context s now rs order.1)
+
+-- the merged rows are the new rows
+pub merged-is : (context : Context) (s : State) (now : ℕ) → AreInOrder s.live → Rise (slugs_of s.rows) → merged context s now (live_rows context s now) s.rows ≡ rows_after context s now
+merged-is context s now order rise =
+    same_rows _ _ (rise-merged context s now (live_rows context s now) s.rows (live_rise context s now s.live order) rise (gone_all context s now s.live rise (all_there s.live))) (rows_after-rise context s now rise)
+    (λ slug. status-made context s now slug rise ∙ sym (status-after context s now slug rise))

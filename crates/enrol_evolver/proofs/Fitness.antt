@@ -1,18 +1,20 @@
 -- What the outcome for a valid recipe is like.
 use Rattle.std.proofs.Common.{◌≡◌, ℕ, Bool, true, false, List, Option, None, Some, refl, subst}
 use Rattle.std.specs.Prelude.{◌&&◌, not, IsTrue, ⊤, if◌then◌else◌}
+use Rattle.recipe_reader.specs.Kinds.{kind_of}
 use Rattle.recipe_reader.specs.Records.{IsValid}
 use Rattle.recipe_reader.specs.declared.recipe.Recipe.{Recipe}
 use Rattle.app_context.specs.declared.context.Context.{Context}
 use Rattle.sampling.specs.Sampling.{point_of}
 use Rattle.enrol_states.specs.Recipes.{has_branch}
 use Rattle.enrol_states.specs.Statuses.{IsSlug, IsStatus, is_enrolled, enrolled_branch}
-use Rattle.enrol_states.specs.Transitions.{CanOccur, outcome_outside, outcome_inside, outcome_qualified}
+use Rattle.enrol_states.specs.Transitions.{CanOccur, may_return, outcome_outside, outcome_inside, outcome_qualified, outcome_disqualified}
 use Rattle.enrol_states.specs.declared.state.State.{State}
 use Rattle.enrol_states.specs.declared.status.Status.{Status}
 use Rattle.enrol_states.specs.declared.status.Status.TheVariants.{Enrolled, NotEnrolled, Disqualified, WasEnrolled, Error}
 use Rattle.enrol_states.specs.declared.status.EnrolledReason.{EnrolledReason}
 use Rattle.enrol_states.specs.declared.status.EnrolledReason.TheVariants as enrolled
+use Rattle.enrol_states.specs.declared.status.DisqualifiedReason.{DisqualifiedReason}
 use Rattle.enrol_states.specs.declared.verdict.Verdict.{Verdict}
 use Rattle.enrol_states.specs.declared.verdict.Verdict.TheVariants as verdicts
 use Rattle.enrol_states.specs.declared.verdict.Outcome.{Outcome}
@@ -20,7 +22,7 @@ use Rattle.enrol_states.specs.declared.verdict.Outcome.TheVariants.{Keep, Wish}
 use Rattle.enrol_evolver.specs.declared.targeting.Targeting.{Targeting}
 use Rattle.enrol_evolver.specs.declared.targeting.Targeting.TheVariants as targetings
 use Rattle.enrol_evolver.specs.Targeting.{targeting}
-use Rattle.enrol_evolver.specs.Verdicts.{holds_point, bucket_text, branch_text, branch_at, sampled, targeted, differs, unit_value, id_text, first_line, judged, by_choice, verdict_from}
+use Rattle.enrol_evolver.specs.Verdicts.{holds_point, bucket_text, branch_text, branch_at, sampled, sampled_by, targeted, differs, unit_value, id_text, is_out, first_line, judged, by_choice, verdict_from}
 use Rattle.enrol_evolver.specs.Wishes.{outcome_from, is_wish, status_by}
 use Rattle.enrol_evolver.proofs.Validity.{AreBranches, have_branches}
 use Rattle.enrol_evolver.proofs.Choosing.{branch-offered}
@@ -43,7 +45,7 @@ sampled_at : (r : Recipe) (point : ℕ) (b : Bool) → AreBranches r.branches �
 sampled_at r point true bs = branch-offered point r.branches bs.some bs.slugs
 sampled_at r point false bs = tt
 
-pub sampled-fits : (r : Recipe) (value : Option (List ℕ)) → IsValid r → IsSampled r (sampled r value)
+pub sampled-fits : (r : Recipe) (value : Option (List ℕ)) → IsValid r → IsSampled r (sampled_by r value)
 sampled-fits r None valid = tt
 sampled-fits r (Some value) valid = sampled_at r (point_of (branch_text value r.slug)) (holds_point r.bucket (point_of (bucket_text value r.bucket.namespace))) (have_branches r valid)
 
@@ -70,9 +72,9 @@ line-fits r false false false true false t v h = refl
 line-fits r false false false true true t v h = not_out r true (targeted t v) (targeted-fits r t v h)
 line-fits r false false false false is_enrolled t v h = not_out r is_enrolled (targeted t v) (targeted-fits r t v h)
 
-pub judged-fits : (context : Context) (s : State) (now : ℕ) (r : Recipe) (is_enrolled out : Bool) → IsValid r → IsJudged r is_enrolled out (judged context s now r is_enrolled out)
-judged-fits context s now r is_enrolled out valid =
-    line-fits r (differs r.app_name context.app_name) (differs r.channel context.channel) out r.paused is_enrolled (targeting context s now r) (sampled r (unit_value context (id_text s.id) r.bucket.unit)) (sampled-fits r (unit_value context (id_text s.id) r.bucket.unit) valid)
+pub judged-fits : (context : Context) (s : State) (now : ℕ) (r : Recipe) (is_enrolled : Bool) → IsValid r → IsJudged r is_enrolled (is_out s r) (judged context s now r is_enrolled)
+judged-fits context s now r is_enrolled valid =
+    line-fits r (differs r.app_name context.app_name) (differs r.channel context.channel) (is_out s r) r.paused is_enrolled (targeting context s now r) (sampled context s now r) (sampled-fits r (unit_value context (id_text s.id) r.bucket.unit) valid)
 
 -- ---- outcomes
 
@@ -136,19 +138,38 @@ as_inside r out verdicts.NotTargeted h = tt
 as_inside r out (verdicts.Failed cause) h = tt
 as_inside r out verdicts.NotSelected h = tt
 
-chosen_inside : (branch : List ℕ) (out : Bool) (v : Verdict) → IsInside out (by_choice (Some branch) out v)
-chosen_inside branch true v = tt
-chosen_inside branch false v = refl
+chosen_at : (branch : List ℕ) (out : Bool) → IsInside out (if out then verdicts.OptOut else verdicts.Qualified branch)
+chosen_at branch true = tt
+chosen_at branch false = refl
+
+chosen_inside : (s : State) (r : Recipe) (branch : List ℕ) (v : Verdict) → IsInside (is_out s r) (by_choice s r (Some branch) v)
+chosen_inside s r branch v = chosen_at branch (is_out s r)
+
+returning-fits : (r : Recipe) (out : Bool) (reason : DisqualifiedReason) (branch chosen : List ℕ) (may : Bool) → IsSlug branch → IsSlug chosen × IsTrue (has_branch r chosen) × (out ≡ false)
+    → FitsOutcome r out (if may then Wish (Enrolled enrolled.Qualified chosen) (Disqualified reason branch) else Keep (Disqualified reason branch))
+returning-fits r out reason branch chosen true slug h =
+    (record { status = h.0; branch = λ b e. let same : chosen ≡ b = cc in subst (λ x. IsTrue (has_branch r x)) same h.1; choice = λ en. h.2 }, not_fitting r out _ slug refl refl, refl)
+returning-fits r out reason branch chosen false slug h = (not_fitting r out _ slug refl refl, refl)
+
+disqualified-fits : (r : Recipe) (out : Bool) (reason : DisqualifiedReason) (branch : List ℕ) (v : Verdict) → IsSlug branch → IsJudged r false out v → FitsOutcome r out (outcome_disqualified reason branch v r)
+disqualified-fits r out reason branch (verdicts.Qualified chosen) slug h = returning-fits r out reason branch chosen (may_return reason (kind_of r)) slug h
+disqualified-fits r out reason branch verdicts.OptOut slug h = (not_fitting r out _ slug refl refl, refl)
+disqualified-fits r out reason branch verdicts.DifferentAppName slug h = (not_fitting r out _ slug refl refl, refl)
+disqualified-fits r out reason branch verdicts.DifferentChannel slug h = (not_fitting r out _ slug refl refl, refl)
+disqualified-fits r out reason branch verdicts.NotTargeted slug h = (not_fitting r out _ slug refl refl, refl)
+disqualified-fits r out reason branch verdicts.NotSelected slug h = (not_fitting r out _ slug refl refl, refl)
+disqualified-fits r out reason branch (verdicts.Failed cause) slug h = (not_fitting r out _ slug refl refl, refl)
+disqualified-fits r out reason branch verdicts.EnrollmentsPaused slug h = (not_fitting r out _ slug refl refl, refl)
 
 -- the outcome for a valid recipe
-pub outcome-fits : (context : Context) (s : State) (now : ℕ) (r : Recipe) (old : Option Status) (out : Bool) → IsValid r → IsOld old → FitsOutcome r out (outcome_from context s now r old out)
-outcome-fits context s now r None out valid is_old = outside-fits r out _ (judged-fits context s now r false out valid)
-outcome-fits context s now r (Some (NotEnrolled reason)) out valid is_old = outside-fits r out _ (judged-fits context s now r false out valid)
-outcome-fits context s now r (Some (Error cause)) out valid is_old = outside-fits r out _ (judged-fits context s now r false out valid)
-outcome-fits context s now r (Some (Enrolled enrolled.Qualified branch)) out valid is_old = inside-fits r out enrolled.Qualified branch _ is_old (as_inside r out _ (judged-fits context s now r true out valid))
-outcome-fits context s now r (Some (Enrolled enrolled.OptIn branch)) out valid is_old = inside-fits r out enrolled.OptIn branch _ is_old (chosen_inside branch out (judged context s now r true out))
-outcome-fits context s now r (Some (Disqualified reason branch)) out valid is_old = (not_fitting r out _ is_old refl refl, refl)
-outcome-fits context s now r (Some (WasEnrolled branch ended)) out valid is_old = (not_fitting r out _ is_old refl refl, refl)
+pub outcome-fits : (context : Context) (s : State) (now : ℕ) (r : Recipe) (old : Option Status) → IsValid r → IsOld old → FitsOutcome r (is_out s r) (outcome_from context s now r old)
+outcome-fits context s now r None valid is_old = outside-fits r (is_out s r) _ (judged-fits context s now r false valid)
+outcome-fits context s now r (Some (NotEnrolled reason)) valid is_old = outside-fits r (is_out s r) _ (judged-fits context s now r false valid)
+outcome-fits context s now r (Some (Error cause)) valid is_old = outside-fits r (is_out s r) _ (judged-fits context s now r false valid)
+outcome-fits context s now r (Some (Enrolled enrolled.Qualified branch)) valid is_old = inside-fits r (is_out s r) enrolled.Qualified branch _ is_old (as_inside r (is_out s r) _ (judged-fits context s now r true valid))
+outcome-fits context s now r (Some (Enrolled enrolled.OptIn branch)) valid is_old = inside-fits r (is_out s r) enrolled.OptIn branch _ is_old (chosen_inside s r branch (judged context s now r true))
+outcome-fits context s now r (Some (Disqualified reason branch)) valid is_old = disqualified-fits r (is_out s r) reason branch _ is_old (judged-fits context s now r false valid)
+outcome-fits context s now r (Some (WasEnrolled branch ended)) valid is_old = (not_fitting r (is_out s r) _ is_old refl refl, refl)
 
 -- a pause is no verdict on a client that is enrolled
 can_inside : (v : Verdict) (reason : EnrolledReason) (branch : List ℕ) (out : Bool) → IsInside out v → CanOccur (Some (Enrolled reason branch)) v
@@ -161,14 +182,14 @@ can_inside verdicts.NotTargeted reason branch out h = tt
 can_inside (verdicts.Failed cause) reason branch out h = tt
 can_inside verdicts.NotSelected reason branch out h = tt
 
-pub can-occur : (context : Context) (s : State) (now : ℕ) (r : Recipe) (old : Option Status) (out : Bool) → IsValid r → CanOccur old (verdict_from context s now r old out)
-can-occur context s now r None out valid = tt
-can-occur context s now r (Some (NotEnrolled reason)) out valid = tt
-can-occur context s now r (Some (Error cause)) out valid = tt
-can-occur context s now r (Some (Disqualified reason branch)) out valid = tt
-can-occur context s now r (Some (WasEnrolled branch ended)) out valid = tt
-can-occur context s now r (Some (Enrolled enrolled.Qualified branch)) out valid = can_inside _ enrolled.Qualified branch out (as_inside r out _ (judged-fits context s now r true out valid))
-can-occur context s now r (Some (Enrolled enrolled.OptIn branch)) out valid = can_inside _ enrolled.OptIn branch out (chosen_inside branch out (judged context s now r true out))
+pub can-occur : (context : Context) (s : State) (now : ℕ) (r : Recipe) (old : Option Status) → IsValid r → CanOccur old (verdict_from context s now r old)
+can-occur context s now r None valid = tt
+can-occur context s now r (Some (NotEnrolled reason)) valid = tt
+can-occur context s now r (Some (Error cause)) valid = tt
+can-occur context s now r (Some (Disqualified reason branch)) valid = tt
+can-occur context s now r (Some (WasEnrolled branch ended)) valid = tt
+can-occur context s now r (Some (Enrolled enrolled.Qualified branch)) valid = can_inside _ enrolled.Qualified branch (is_out s r) (as_inside r (is_out s r) _ (judged-fits context s now r true valid))
+can-occur context s now r (Some (Enrolled enrolled.OptIn branch)) valid = can_inside _ enrolled.OptIn branch (is_out s r) (chosen_inside s r branch (judged context s now r true))
 
 -- ---- the status that comes of it
 

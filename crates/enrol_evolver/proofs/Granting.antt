@@ -20,12 +20,12 @@ use Rattle.enrol_states.specs.Statuses.{IsStatus, is_enrolled_now}
 use Rattle.enrol_states.specs.declared.state.State.{State}
 use Rattle.enrol_states.specs.declared.state.Row.{Row}
 use Rattle.enrol_states.specs.declared.status.Status.{Status}
+use Rattle.enrol_states.proofs.Ordered.{greater_texts, turned_up}
 use Rattle.enrol_conflicts.specs.declared.candidate.Candidate.{Candidate}
 use Rattle.enrol_conflicts.proofs.Exclusion.{exclusive, Contains-is_in, is_in-Contains}
 use Rattle.enrol_evolver.specs.Verdicts.{is_out}
 use Rattle.enrol_evolver.specs.Wishes.{with_once, features_of, candidate_of, outcome_of, is_wish, wishes_of, grants_of, is_granted}
 use Rattle.enrol_evolver.specs.Evolution.{is_slug_granted, status_with, rows_after, with_new_rows}
-use Rattle.enrol_evolver.proofs.Entries.{no_recipe}
 use Rattle.enrol_evolver.proofs.Evolved.{settled_grants, found_slug, status-after}
 use Rattle.enrol_evolver.proofs.Fitness.{IsOld, outcome-fits, enrolled-granted}
 
@@ -102,6 +102,10 @@ grant_of (w ∷ ws) (g ∷ gs) slug h = grant_at w ws g gs slug (bytes_eq w.slug
 
 -- ---- the recipe of a wish
 
+no_recipe : (slug : List ℕ) (rs : List Recipe) → payloads.AreAbove slug rs → recipe_with slug rs ≡ None
+no_recipe slug [] above = refl
+no_recipe slug (r ∷ rs) above = ap (λ b. if b then Some r else recipe_with slug rs) (greater_texts r.slug slug (turned_up slug r.slug above.0)) ∙ no_recipe slug rs above.1
+
 later_at : (r : Recipe) (rs : List Recipe) (slug : List ℕ) (q : Recipe) (b : Bool) → bytes_eq r.slug slug ≡ b → payloads.AreAbove r.slug rs → recipe_with slug rs ≡ Some q → (if b then Some r else recipe_with slug rs) ≡ Some q
 later_at r rs slug q true e above found = absurd (let none : recipe_with slug rs ≡ None = no_recipe slug rs (subst (λ t. payloads.AreAbove t rs) ((bytes_decides r.slug slug).0 e) above) in cc)
 later_at r rs slug q false e above found = found
@@ -163,7 +167,8 @@ old-fits rows slug (Some st) h e = h st e
 granted_where : (context : Context) (s : State) (now : ℕ) (slug : List ℕ) (r : Recipe) → IsValid r → IsOld (status_of r.slug s.rows) → Rise (slugs_of s.rows) → recipe_with slug s.live ≡ Some r → IsTrue (is_enrolled_now (status_of slug (rows_after context s now)))
     → is_slug_granted context s now slug ≡ true
 granted_where context s now slug r valid old rise found enrolled =
-    (enrolled-granted r (is_out s r.slug) (outcome_of context s now r) (is_slug_granted context s now slug) (outcome-fits context s now r (status_of r.slug s.rows) (is_out s r.slug) valid old)
+    subst (λ t. is_slug_granted context s now t ≡ true) (found_slug slug s.live r found)
+    (enrolled-granted r (is_out s r) (outcome_of context s now r) (is_slug_granted context s now r.slug) (outcome-fits context s now r (status_of r.slug s.rows) valid old)
     (sym (ap is_enrolled_now (status-after context s now slug rise ∙ ap (status_with context s now slug) found)) ∙ enrolled)).1
 
 -- ---- no feature is shared

@@ -2,14 +2,13 @@ pub mod Saying
 pub mod Trees
 pub mod Results
 pub mod Units
-pub mod Passing
 pub mod Validity
 pub mod Choosing
-pub mod Entries
 pub mod RowLists
-pub mod Wishing
+pub mod SettledRows
+pub mod PlannedWishes
+pub mod MergedRows
 pub mod Evolved
 pub mod Fitness
 pub mod Granting
 pub mod Consistency
-pub mod Counts

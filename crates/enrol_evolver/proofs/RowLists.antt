@@ -12,16 +12,19 @@ use Rattle.enrol_states.specs.Order.{Rise, AreAbove, is_in}
 use Rattle.enrol_states.specs.State.{slugs_of, status_of}
 use Rattle.enrol_states.specs.declared.state.Row.{Row}
 use Rattle.enrol_states.specs.declared.status.Status.{Status}
-use Rattle.enrol_states.proofs.Ordered.{same_texts, turned_down, above_trans, is_in-above}
+use Rattle.enrol_states.proofs.Ordered.{same_texts, greater_texts, turned_up, turned_down, above_trans, is_in-above}
 use Rattle.enrol_states.proofs.OptOuts.{rise-insert}
-use Rattle.enrol_evolver.specs.Evolution.{row_of}
-use Rattle.enrol_evolver.proofs.Entries.{no_status}
+use Rattle.enrol_evolver.specs.Wishes.{row_of}
 
 itself : (t : List ℕ) → bytes_eq t t ≡ true
 itself t = (bytes_decides t t).1 refl
 
 first_status : (r : Row) (rs : List Row) → status_of r.slug (r ∷ rs) ≡ Some r.status
 first_status r rs = ap (λ b. if b then Some r.status else status_of r.slug rs) (itself r.slug)
+
+pub no_status : (slug : List ℕ) (qs : List Row) → AreAbove slug (slugs_of qs) → status_of slug qs ≡ None
+no_status slug [] above = refl
+no_status slug (q ∷ qs) above = ap (λ b. if b then Some q.status else status_of slug qs) (greater_texts q.slug slug (turned_up slug q.slug above.0)) ∙ no_status slug qs above.1
 
 -- ---- rows with the same statuses are the same
 

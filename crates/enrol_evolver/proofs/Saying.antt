@@ -5,7 +5,7 @@ use Rattle.app_context.specs.Attributes.{attributes}
 use Rattle.app_context.specs.declared.context.Context.{Context}
 use Rattle.enrol_states.specs.declared.state.State.{State}
 use Rattle.jexl_parser.specs.Tree.{Tree}
-use Rattle.jexl_transforms.specs.Meaning.{standard_names}
+use Rattle.jexl_transforms.specs.Meaning.{is_standard}
 use Rattle.jexl_eval.specs.Faults.{Fault}
 use Rattle.jexl_eval.specs.Gives as gives
 use Rattle.jexl_eval.specs.Meaning.{meaning, truth_of, truth_meant}
@@ -14,14 +14,14 @@ use Rattle.jexl_eval.specs.declared.fault.EvalFault.TheVariants as faults
 use Rattle.enrol_states.specs.declared.status.ErrorCause.TheVariants.{Faulted}
 use Rattle.enrol_evolver.specs.Expressions.{evaluating_wants_memory}
 use Rattle.enrol_evolver.specs.Targeting.{said, said_by, said_by_truth, meaning_of}
-use Rattle.enrol_evolver.specs.declared.targeting.Targeting.{Targeting}
 use Rattle.enrol_evolver.specs.declared.targeting.Targeting.TheVariants.{Fails}
 
-pub says_tree : (context : Context) (s : State) (slug : List ℕ) (now : ℕ) (tree : Tree) (o : Option Tree) (names : List (List ℕ)) (pairs : List (List ℕ × Json)) → Some tree ≡ o → names ≡ standard_names → pairs ≡ attributes context s slug now
-    → said (meaning names (members_of pairs) null tree) ≡ said_by context s slug now o
+pub says_tree : (context : Context) (s : State) (slug : List ℕ) (now : ℕ) (tree : Tree) (o : Option Tree) (has : List ℕ → Bool) (pairs : List (List ℕ × Json)) → Some tree ≡ o → ((name : List ℕ) → has name ≡ is_standard name) → pairs ≡ attributes context s slug now
+    → said (meaning has (members_of pairs) null tree) ≡ said_by context s now slug o
 unfolding meaning_of
-says_tree context s slug now tree o names pairs there standard same =
-    ap₂ (λ (ns : List (List ℕ)) (ps : List (List ℕ × Json)). said (meaning ns (members_of ps) null tree)) standard same ∙ ap (said_by context s slug now) there
+says_tree context s slug now tree o has pairs there standard same =
+    let all : has ≡ is_standard = λ i name. standard name i in
+    ap₂ (λ (h : List ℕ → Bool) (ps : List (List ℕ × Json)). said (meaning h (members_of ps) null tree)) all same ∙ ap (said_by context s now slug) there
 
 -- the truth value that is meant says what the value does
 pub says_truth : (meant : Result Json Fault) (o : Option Bool) → truth_meant meant ≡ Ok o → said_by_truth o ≡ said meant

@@ -15,9 +15,10 @@ use Rattle.jexl_parser.specs.declared.expression.Expr.{Expr}
 use Rattle.jexl_parser.specs.declared.fault.ParseFault.{ParseFault}
 use Rattle.jexl_parser.specs.declared.fault.ParseFault.TheVariants as parsing
 use Rattle.jexl_parser.proofs.OneTree.{one_tree}
-use Rattle.enrol_evolver.specs.Expressions.{IsTree, Reading, tree_in, lexing_wants_memory, parsing_wants_memory}
+use Rattle.jexl_eval.specs.Expressions.{IsTree, Reading, tree_in}
+use Rattle.enrol_evolver.specs.Expressions.{lexing_wants_memory, parsing_wants_memory}
 use Rattle.enrol_evolver.specs.Targeting.{tree_of}
-use Rattle.enrol_evolver.specs.Readable.{over, spelled_by, is_tree, readable, one_tree_of}
+use Rattle.jexl_eval.proofs.Readable.{over, spelled_by, is_tree, readable, one_tree_of}
 
 found_in : (text : List ℕ) (t : Tree) (r : Reading text) → IsTree text t → tree_in r ≡ Some t
 found_in text t (inl f) is = ap (λ (u : Tree). Some u) (one_tree_of text f.0 t f.1 is)

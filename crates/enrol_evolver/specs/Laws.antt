@@ -10,7 +10,7 @@ use Rattle.enrol_states.specs.declared.state.State.{State}
 use Rattle.enrol_conflicts.specs.Settlement.{Settled}
 use Rattle.enrol_conflicts.specs.declared.candidate.Candidate.{Candidate}
 use Rattle.jexl_parser.specs.Tree.{Tree}
-use Rattle.enrol_evolver.specs.Expressions.{IsTree}
+use Rattle.jexl_eval.specs.Expressions.{IsTree}
 use Rattle.enrol_evolver.specs.Targeting.{tree_of}
 use Rattle.enrol_evolver.specs.Wishes.{grants_of}
 use Rattle.enrol_evolver.specs.Evolution.{version_of, refreshed, status_after, evolution}

@@ -1,10 +1,7 @@
 pub mod Expressions
-pub mod Readable
 pub mod Targeting
 pub mod Clients
 pub mod Verdicts
 pub mod Wishes
 pub mod Evolution
-pub mod Slots
-pub mod Plans
 pub mod Laws

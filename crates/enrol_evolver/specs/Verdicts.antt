@@ -4,6 +4,7 @@ use Rattle.std.specs.List.{find, range_with_len}
 use Rattle.uuid.specs.Text.{hyphenated_text, lower}
 use Rattle.json_tree.specs.Json.{text, list, items_of}
 use Rattle.json_tree.specs.Bytes.{text_of}
+use Rattle.recipe_reader.specs.Kinds.{kind_of}
 use Rattle.recipe_reader.specs.declared.recipe.Recipe.{Recipe}
 use Rattle.recipe_reader.specs.declared.recipe.Bucket.{Bucket}
 use Rattle.recipe_reader.specs.declared.recipe.Branch.{Branch}
@@ -11,6 +12,7 @@ use Rattle.sampling.specs.Sampling.{point_of, is_in_range, sum_through}
 use Rattle.app_context.specs.Named.{text_with}
 use Rattle.app_context.specs.declared.context.Context.{Context}
 use Rattle.enrol_states.specs.Order.{is_in}
+use Rattle.enrol_states.specs.Participation.{takes_part}
 use Rattle.enrol_states.specs.State.{status_of}
 use Rattle.enrol_states.specs.Statuses.{is_enrolled_now}
 use Rattle.enrol_states.specs.declared.state.State.{State}
@@ -69,10 +71,14 @@ unfoldable pub branch_at : ℕ → List Branch → List ℕ
 branch_at point branches = branch_slug (slice_get branches (branch_index point (ratios_of branches)))
 
 -- what sampling finds of a client whose unit has this value, or none
-abbrev pub sampled : Recipe → Option (List ℕ) → Verdict
-sampled r None = verdicts.Failed NoUnit
-sampled r (Some value) =
+abbrev pub sampled_by : Recipe → Option (List ℕ) → Verdict
+sampled_by r None = verdicts.Failed NoUnit
+sampled_by r (Some value) =
     if holds_point r.bucket (point_of (bucket_text value r.bucket.namespace)) then verdicts.Qualified (branch_at (point_of (branch_text value r.slug)) r.branches) else verdicts.NotSelected
+
+-- what sampling finds of the client
+abbrev pub sampled : Context → State → ℕ → Recipe → Verdict
+sampled context s now r = sampled_by r (unit_value context (id_text s.id) r.bucket.unit)
 
 -- ---- targeting
 
@@ -94,31 +100,30 @@ abbrev pub first_line : (other_app other_channel out paused : Bool) → Targetin
 first_line other_app other_channel out paused targeting found =
     if other_app then verdicts.DifferentAppName else (if other_channel then verdicts.DifferentChannel else (if out then verdicts.OptOut else (if paused then verdicts.EnrollmentsPaused else targeted targeting found)))
 
+-- the user opted out of the recipe, or of all of its kind
+abbrev pub is_out : State → Recipe → Bool
+is_out s r = is_in s.opted_out r.slug || not (takes_part s (kind_of r))
+
 -- the verdict on a recipe that the user didn't opt in to
-abbrev pub judged : Context → State → ℕ → Recipe → (is_enrolled out : Bool) → Verdict
-judged context s now r is_enrolled out =
-    first_line (differs r.app_name context.app_name) (differs r.channel context.channel) out (r.paused && not is_enrolled) (targeting context s now r) (sampled r (unit_value context (id_text s.id) r.bucket.unit))
+abbrev pub judged : Context → State → ℕ → Recipe → (is_enrolled : Bool) → Verdict
+judged context s now r is_enrolled = first_line (differs r.app_name context.app_name) (differs r.channel context.channel) (is_out s r) (r.paused && not is_enrolled) (targeting context s now r) (sampled context s now r)
 
 -- the branch that the user opted in to
 abbrev pub opted_in_branch : Option Status → Option (List ℕ)
 opted_in_branch (Some (statuses.Enrolled enrolled.OptIn branch)) = Some branch
 opted_in_branch old = None
 
--- the verdict on a recipe that the user opted in to
-abbrev pub chosen : List ℕ → Bool → Verdict
-chosen branch out = if out then verdicts.OptOut else verdicts.Qualified branch
+-- the verdict on a recipe of which the user chose the branch
+abbrev pub chosen : State → Recipe → List ℕ → Verdict
+chosen s r branch = if is_out s r then verdicts.OptOut else verdicts.Qualified branch
 
-abbrev pub by_choice : Option (List ℕ) → Bool → Verdict → Verdict
-by_choice None out verdict = verdict
-by_choice (Some branch) out verdict = chosen branch out
+abbrev pub by_choice : State → Recipe → Option (List ℕ) → Verdict → Verdict
+by_choice s r None verdict = verdict
+by_choice s r (Some branch) verdict = chosen s r branch
 
--- the verdict on a recipe of which the client has this old status or none, and is opted out or not
-abbrev pub verdict_from : Context → State → ℕ → Recipe → Option Status → Bool → Verdict
-verdict_from context s now r old out = by_choice (opted_in_branch old) out (judged context s now r (is_enrolled_now old) out)
-
--- the user opted out of the slug, or of all
-abbrev pub is_out : State → List ℕ → Bool
-is_out s slug = is_in s.opted_out slug || not s.participating
+-- the verdict on a recipe of which the client has this old status or none
+abbrev pub verdict_from : Context → State → ℕ → Recipe → Option Status → Verdict
+verdict_from context s now r old = by_choice s r (opted_in_branch old) (judged context s now r (is_enrolled_now old))
 
 abbrev pub verdict : Context → State → ℕ → Recipe → Verdict
-verdict context s now r = verdict_from context s now r (status_of r.slug s.rows) (is_out s r.slug)
+verdict context s now r = verdict_from context s now r (status_of r.slug s.rows)

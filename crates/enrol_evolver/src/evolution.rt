@@ -7,11 +7,11 @@ ghost use Rattle.enrol_states.specs.Order.{Rise};
 ghost use Rattle.enrol_states.specs.State.{slugs_of};
 ghost use Rattle.recipe_reader.specs.Payloads.{AreInOrder, AreValid};
 ghost use Rattle.enrol_states.specs.Statuses.{last_moment};
-ghost use Rattle.jexl_transforms.specs.Meaning.{standard_names};
-ghost use Rattle.jexl_transforms.specs.Table.{names_of};
+ghost use Rattle.jexl_transforms.specs.Table.{HasStandardNames};
 ghost use Rattle.enrol_evolver.specs.Evolution.{evolution, rows_after};
 
 use crate::client::Client;
+use crate::merging::merged_rows;
 use crate::plan::planned;
 use crate::refreshing::refreshed;
 use crate::settling::settled_rows;
@@ -26,10 +26,9 @@ use std::alloc::{AllocError, Global};
 /// The state after an apply, where `coenrolling` are the features that recipes of one kind may
 /// share. What was fetched is live; the version is the application's, and the moment of its last
 /// change is kept. Each live recipe has a row by the client's verdict on it and its old status, and
-/// the wishes to be enrolled are settled. What is left of rows without a live recipe is kept for 365
-/// days. Whatever the recipes or the shared features were before, no two recipes of one kind in which
-/// the client is enrolled now share a feature that may not be shared. The one error is want of
-/// memory.
+/// the wishes to be enrolled are settled. What is left of rows without a live recipe is kept for
+/// 365 days. Whatever the recipes or the shared features were before, no two recipes of one kind in
+/// which the client is enrolled now share a feature that may not be shared.
 pub fn evolve(
     alloc: Global,
     state: &State,
@@ -42,7 +41,7 @@ pub fn evolve(
     requires names { All (λ name. IsTrue (is_name name)) coenrolling }
     requires order { Rise coenrolling }
     requires moment { now ≤ last_moment }
-    requires table { names_of table.now ≡ standard_names }
+    requires table { HasStandardNames table.now }
     ensures evolution { IfOk result (λ next. next ≡ evolution state.now context.now coenrolling now) }
     ensures consistent { IfOk result IsConsistent }
     ensures exclusive { IfOk result AreExclusive }
@@ -64,7 +63,7 @@ fn evolved_rows(
     requires valid { AreValid state.now.live }
     requires rows { Rise (slugs_of state.now.rows) }
     requires opted_out { Rise state.now.opted_out }
-    requires table { names_of table.now ≡ standard_names }
+    requires table { HasStandardNames table.now }
     requires moment { now ≤ last_moment }
     ensures { IfOk result (λ rows. rows ≡ rows_after context.now state.now now) }
 {
@@ -78,7 +77,7 @@ fn evolved_rows(
         table,
     };
     let plan = planned(alloc, &client, &mut evaluator)?;
-    let wishes = plan.wishes;
-    let granted = settle(alloc, wishes.as_slice(), state.coenrolling.as_slice())?;
-    settled_rows(alloc, plan.entries, granted.as_slice())
+    let granted = settle(alloc, plan.wishes.as_slice(), state.coenrolling.as_slice())?;
+    let live_rows = settled_rows(alloc, plan, granted.as_slice())?;
+    merged_rows(alloc, &client, live_rows)
 }

@@ -8,7 +8,7 @@ use jexl_lexer::{LexFault, lex};
 use jexl_parser::{Expr, ParseFault, parse};
 use std::alloc::{AllocError, Global};
 
-/// The expression that the text is, if it is one. The one error is want of memory.
+/// The expression that the text is, if it is one.
 pub(crate) fn expression_of(alloc: Global, text: &str) -> Result<Option<Expr>, AllocError>
     ensures { IfOk result (λ o. option_map (λ e. view e.root) o ≡ tree_of text.now) }
 {

@@ -2,7 +2,8 @@
 ghost use Rattle.std.specs.Prelude.{◌≡◌, ◌<◌, ◌≤◌, ◌^◌, length, map, sum, Some, IfOk};
 ghost use Rattle.recipe_reader.specs.Records.{IsValid};
 ghost use Rattle.sampling.specs.Sampling.{point_of};
-ghost use Rattle.enrol_evolver.specs.Verdicts.{unit_value, id_text, sampled, bucket_text, branch_text, holds_point, ratios_of, branch_at};
+ghost use Rattle.enrol_evolver.specs.Clients.{of_client};
+ghost use Rattle.enrol_evolver.specs.Verdicts.{id_text, sampled, sampled_by, bucket_text, branch_text, holds_point, ratios_of, branch_at};
 
 use crate::client::Client;
 use enrol_states::{ErrorCause, Verdict};
@@ -17,14 +18,14 @@ use uuid::Uuid;
 /// The unit whose value is the client's id.
 const CLIENT_UNIT: &str = "nimbus_id";
 
-/// What sampling finds of the client. The one error is want of memory.
+/// What sampling finds of the client.
 pub(crate) fn sampled(
     alloc: Global,
     client: &Client,
     recipe: &Recipe,
 ) -> Result<Verdict, AllocError>
     requires { IsValid recipe.now }
-    ensures { IfOk result (λ v. v ≡ sampled recipe.now (unit_value client.now.context.now (id_text client.now.state.now.id) recipe.now.bucket.unit)) }
+    ensures { IfOk result (λ v. v ≡ of_client sampled client.now recipe.now) }
 {
     let unit = recipe.bucket.unit.as_str();
     if unit == CLIENT_UNIT {
@@ -40,7 +41,7 @@ pub(crate) fn sampled(
 #[tactic(auto, unfolding(crate::specs::Verdicts::id_text))]
 fn sampled_by_id(alloc: Global, id: Uuid, recipe: &Recipe) -> Result<Verdict, AllocError>
     requires { IsValid recipe.now }
-    ensures { IfOk result (λ v. v ≡ sampled recipe.now (Some (id_text id))) }
+    ensures { IfOk result (λ v. v ≡ sampled_by recipe.now (Some (id_text id))) }
 {
     let mut buffer = Uuid::encode_buffer();
     sampled_by(alloc, id.hyphenated().encode_lower(&mut buffer), recipe)
@@ -49,7 +50,7 @@ fn sampled_by_id(alloc: Global, id: Uuid, recipe: &Recipe) -> Result<Verdict, Al
 /// What sampling finds of a client whose unit has this value.
 fn sampled_by(alloc: Global, value: &str, recipe: &Recipe) -> Result<Verdict, AllocError>
     requires { IsValid recipe.now }
-    ensures { IfOk result (λ v. v ≡ sampled recipe.now (Some value.now)) }
+    ensures { IfOk result (λ v. v ≡ sampled_by recipe.now (Some value.now)) }
 {
     let bucket = bucket_text(alloc, value, &recipe.bucket.namespace)?;
     if !holds_point(&recipe.bucket, point_of(&bucket)) {

@@ -1,25 +1,27 @@
 // The rows of a plan whose wishes are settled.
-ghost use Rattle.std.specs.Prelude.{◌≡◌, ◌≤◌, length, IfOk};
-ghost use Rattle.enrol_evolver.specs.Plans.{rows_by, first_or_false, answers_after, answer_count, wish_count};
-ghost use Rattle.enrol_evolver.specs.Wishes.{status_by};
+ghost use Rattle.std.specs.Prelude.{◌≡◌, ◌<◌, length, map, filter, drop, slice_get, unwrap_or, false, IsTrue, IfOk, if◌then◌else◌};
+ghost use Rattle.enrol_states.specs.Order.{Rise};
+ghost use Rattle.enrol_evolver.specs.Wishes.{is_wish, settled_row, status_by};
 
-use crate::plan::Entry;
+use crate::plan::Plan;
 use enrol_states::{Outcome, Row, Status};
-use sequences::{Sequence, SharedList};
+use sequences::Sequence;
 use std::alloc::{AllocError, Global};
 
-/// The rows of the entries. `granted` has an answer for each wish, in their order.
+/// The rows of the plan. `granted` has an answer for each wish, in their order.
 pub(crate) fn settled_rows(
     alloc: Global,
-    entries: Sequence<Entry>,
+    plan: Plan,
     granted: &[bool],
-) -> Result<SharedList<Row>, AllocError>
-    requires { wish_count entries ≡ length granted.now }
-    ensures { IfOk result (λ rows. rows ≡ rows_by entries granted.now) }
+) -> Result<Sequence<Row>, AllocError>
+    requires order { Rise (map (λ entry. entry.slug) plan.entries) }
+    requires wishes { map (λ wish. wish.slug) plan.wishes ≡ map (λ entry. entry.slug) (filter (λ entry. is_wish entry.outcome) plan.entries) }
+    requires granted { length granted.now ≡ length plan.wishes }
+    ensures { IfOk result (λ rows. rows ≡ map (settled_row plan.wishes granted.now) plan.entries) }
 {
     let mut rows = Sequence::new(alloc);
     let mut left = granted;
-    for entry in entries.into_vec() {
+    for entry in plan.entries.into_vec() {
         let (status, rest) = settled(entry.outcome, left);
         rows.push(Row {
             slug: entry.slug,
@@ -27,15 +29,15 @@ pub(crate) fn settled_rows(
         })?;
         left = rest;
     }
-    SharedList::from_sequence(alloc, rows)
+    Ok(rows)
 }
 
 /// The status after the outcome, where the first answer is for it if it is a wish, and the answers
 /// that are left.
 fn settled(outcome: Outcome, granted: &[bool]) -> (Status, &[bool])
-    requires { answer_count outcome ≤ length granted.now }
-    ensures status { result.0 ≡ status_by outcome (first_or_false granted.now) }
-    ensures rest { result.1.now ≡ answers_after outcome granted.now }
+    requires { IsTrue (is_wish outcome) → 0 < length granted.now }
+    ensures status { result.0 ≡ status_by outcome (unwrap_or (slice_get granted.now 0) false) }
+    ensures rest { result.1.now ≡ (if is_wish outcome then drop 1 granted.now else granted.now) }
 {
     match outcome {
         Outcome::Keep(status) => (status, granted),

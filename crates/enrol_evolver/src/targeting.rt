@@ -1,14 +1,12 @@
 // What a recipe's targeting says of a client.
 ghost use Rattle.std.specs.Prelude.{◌≡◌, IfOk, Result};
 ghost use Rattle.json_tree.specs.Json.{Json};
-ghost use Rattle.enrol_states.specs.Order.{Rise};
-ghost use Rattle.enrol_states.specs.State.{slugs_of};
 ghost use Rattle.jexl_eval.specs.Faults.{Fault};
 ghost use Rattle.jexl_eval.specs.Gives.{Gives};
 ghost use Rattle.jexl_eval.specs.Meaning.{truth_meant};
 ghost use Rattle.enrol_evolver.specs.Expressions.{evaluating_wants_memory};
 ghost use Rattle.enrol_evolver.specs.Targeting.{targeting, said, said_by, said_by_truth, tree_of};
-ghost use Rattle.enrol_evolver.specs.Clients.{of_client, IsReadyFor};
+ghost use Rattle.enrol_evolver.specs.Clients.{of_client, IsInOrder, IsReadyFor};
 
 use crate::client::Client;
 use crate::expressions::expression_of;
@@ -41,14 +39,14 @@ pub(crate) struct Evaluator<'a> {
     pub(crate) table: &'a TransformTable,
 }
 
-/// What the recipe's targeting says of the client. The one error is want of memory.
+/// What the recipe's targeting says of the client.
 pub(crate) fn targeting_of(
     alloc: Global,
     client: &Client,
     evaluator: &mut Evaluator,
     recipe: &Recipe,
 ) -> Result<Targeting, AllocError>
-    requires rows { Rise (slugs_of client.now.state.now.rows) }
+    requires in_order { IsInOrder client.now }
     requires ready { IsReadyFor client.now evaluator.old }
     ensures says { IfOk result (λ t. t ≡ of_client targeting client.now recipe.now) }
     ensures ready { IsReadyFor client.now evaluator.new }
@@ -67,9 +65,9 @@ fn said_by(
     slug: &Slug,
     text: &str,
 ) -> Result<Targeting, AllocError>
-    requires rows { Rise (slugs_of client.now.state.now.rows) }
+    requires in_order { IsInOrder client.now }
     requires ready { IsReadyFor client.now evaluator.old }
-    ensures says { IfOk result (λ t. t ≡ said_by client.now.context.now client.now.state.now slug.now client.now.moment (tree_of text.now)) }
+    ensures says { IfOk result (λ t. t ≡ of_client said_by client.now slug.now (tree_of text.now)) }
     ensures ready { IsReadyFor client.now evaluator.new }
 {
     let Some(expression) = expression_of(alloc, text)? else {
@@ -80,7 +78,7 @@ fn said_by(
     said(truth)
 }
 
-/// What the truth value says, or a fault in its place. The one error is want of memory.
+/// What the truth value says, or a fault in its place.
 fn said(truth: Result<Option<bool>, EvalFault>) -> Result<Targeting, AllocError>
     ensures { (meant : Result Json Fault) → Gives (λ t. t) truth (truth_meant meant) → IfOk result (λ t. t ≡ said meant) }
 {

@@ -4,9 +4,8 @@ ghost use Rattle.recipe_reader.specs.Records.{IsValid};
 ghost use Rattle.enrol_states.specs.Order.{Rise};
 ghost use Rattle.enrol_states.specs.State.{slugs_of};
 ghost use Rattle.enrol_states.specs.Statuses.{is_enrolled_now, last_moment};
-ghost use Rattle.jexl_transforms.specs.Meaning.{standard_names};
-ghost use Rattle.jexl_transforms.specs.Table.{names_of};
-ghost use Rattle.enrol_evolver.specs.Clients.{of_client, IsReadyFor};
+ghost use Rattle.jexl_transforms.specs.Table.{HasStandardNames};
+ghost use Rattle.enrol_evolver.specs.Clients.{of_client, IsInOrder, IsReadyFor};
 ghost use Rattle.enrol_evolver.specs.Verdicts.{verdict, verdict_from, is_out, chosen, judged, differs, opted_in_branch};
 
 use crate::client::Client;
@@ -21,9 +20,9 @@ use sequences::Text;
 use std::alloc::{AllocError, Global};
 
 /// What is found of a client and a valid recipe, of which the client's row in the state is the old
-/// one: the first that applies of another application, another channel, an opt-out, a pause (unless
-/// the client is enrolled), targeting, and sampling. Where the user opted in, an opt-out alone
-/// counts. The one error is want of memory.
+/// one: the first that applies of another application, another channel, an opt-out of the slug or
+/// of the recipe's kind, a pause (unless the client is enrolled), targeting, and sampling. Where
+/// the user opted in, an opt-out alone counts.
 pub fn verdict(
     alloc: Global,
     recipe: &Recipe,
@@ -35,7 +34,7 @@ pub fn verdict(
     requires valid { IsValid recipe.now }
     requires opted_out { Rise state.now.opted_out }
     requires rows { Rise (slugs_of state.now.rows) }
-    requires table { names_of table.now ≡ standard_names }
+    requires table { HasStandardNames table.now }
     requires moment { now ≤ last_moment }
     ensures { IfOk result (λ v. v ≡ verdict context.now state.now now recipe.now) }
 {
@@ -49,37 +48,26 @@ pub fn verdict(
         table,
     };
     let old = state.status_of(recipe.slug.text());
-    let is_out = is_out(state, &recipe.slug);
-    verdict_from(alloc, &client, &mut evaluator, recipe, old, is_out)
+    verdict_from(alloc, &client, &mut evaluator, recipe, old)
 }
 
-/// Whether the user opted out of the slug, or of all.
-fn is_out(state: &State, slug: &Slug) -> bool
-    requires { Rise state.now.opted_out }
-    ensures { result ≡ is_out state.now slug.now }
-{
-    state.is_opted_out(slug.text()) || !state.participating
-}
-
-/// The verdict on a recipe of which the client has this old status or none, and is opted out or
-/// not.
+/// The verdict on a recipe of which the client has this old status or none.
 pub(crate) fn verdict_from(
     alloc: Global,
     client: &Client,
     evaluator: &mut Evaluator,
     recipe: &Recipe,
     old: Option<&Status>,
-    is_out: bool,
 ) -> Result<Verdict, AllocError>
     requires valid { IsValid recipe.now }
-    requires rows { Rise (slugs_of client.now.state.now.rows) }
+    requires in_order { IsInOrder client.now }
     requires ready { IsReadyFor client.now evaluator.old }
-    ensures verdict { IfOk result (λ v. v ≡ of_client verdict_from client.now recipe.now (option_map (λ s. s.now) old.entry) is_out) }
+    ensures verdict { IfOk result (λ v. v ≡ of_client verdict_from client.now recipe.now (option_map (λ s. s.now) old.entry)) }
     ensures ready { IsReadyFor client.now evaluator.new }
 {
     match opted_in_branch(old) {
-        Some(branch) => chosen(branch, is_out),
-        None => judged(alloc, client, evaluator, recipe, is_enrolled(old), is_out),
+        Some(branch) => chosen(client.state, recipe, branch),
+        None => judged(alloc, client, evaluator, recipe, is_enrolled(old)),
     }
 }
 
@@ -108,14 +96,23 @@ pub(crate) fn is_enrolled(old: Option<&Status>) -> bool
     }
 }
 
-/// The verdict on a recipe that the user opted in to.
-fn chosen(branch: &Slug, is_out: bool) -> Result<Verdict, AllocError>
-    ensures { IfOk result (λ v. v ≡ chosen branch.now is_out) }
+/// The verdict on a recipe of which the user chose the branch.
+fn chosen(state: &State, recipe: &Recipe, branch: &Slug) -> Result<Verdict, AllocError>
+    requires { Rise state.now.opted_out }
+    ensures { IfOk result (λ v. v ≡ chosen state.now recipe.now branch.now) }
 {
-    if is_out {
+    if is_out(state, recipe) {
         return Ok(Verdict::OptOut);
     }
     Ok(Verdict::Qualified(branch.clone()?))
+}
+
+/// Whether the user opted out of the recipe, or of all of its kind.
+fn is_out(state: &State, recipe: &Recipe) -> bool
+    requires { Rise state.now.opted_out }
+    ensures { result ≡ is_out state.now recipe.now }
+{
+    state.is_opted_out(recipe.slug.text()) || !state.takes_part(recipe.kind())
 }
 
 /// The verdict on a recipe that the user didn't opt in to.
@@ -125,12 +122,11 @@ fn judged(
     evaluator: &mut Evaluator,
     recipe: &Recipe,
     is_enrolled: bool,
-    is_out: bool,
 ) -> Result<Verdict, AllocError>
     requires valid { IsValid recipe.now }
-    requires rows { Rise (slugs_of client.now.state.now.rows) }
+    requires in_order { IsInOrder client.now }
     requires ready { IsReadyFor client.now evaluator.old }
-    ensures verdict { IfOk result (λ v. v ≡ of_client judged client.now recipe.now is_enrolled is_out) }
+    ensures verdict { IfOk result (λ v. v ≡ of_client judged client.now recipe.now is_enrolled) }
     ensures ready { IsReadyFor client.now evaluator.new }
 {
     if differs(&recipe.app_name, &client.context.app_name) {
@@ -139,7 +135,7 @@ fn judged(
     if differs(&recipe.channel, &client.context.channel) {
         return Ok(Verdict::DifferentChannel);
     }
-    if is_out {
+    if is_out(client.state, recipe) {
         return Ok(Verdict::OptOut);
     }
     if recipe.paused && !is_enrolled {

@@ -16,6 +16,7 @@ use Rattle.enrol_states.specs.Order.{Rise, AreAbove, IsPlace, is_in}
 use Rattle.enrol_states.specs.Statuses.{IsSlug, IsStatus}
 use Rattle.enrol_states.specs.State.{slugs_of}
 use Rattle.enrol_states.specs.Recipes.{offers}
+use Rattle.enrol_states.specs.Participation.{may_take_part}
 use Rattle.enrol_states.specs.Consistent.{HasRecipe, HasBranch, IsNotOptedOut, IsParticipating, IsConsistent}
 use Rattle.enrol_states.specs.Commands.{without_text, with_row, opted_in, after_opt_in}
 use Rattle.enrol_states.specs.Features.{IsFree}
@@ -148,6 +149,6 @@ consistent s slug branch r is_slug is_branch may free c = let t = after_opt_in s
   row_recipes = All-with_row (HasRecipe t) row s.rows (has_recipe slug s.live r may.recipe) c.row_recipes;
   row_branches = All-with_row (HasBranch t) row s.rows (λ b e. let same : branch ≡ b = cc in subst (λ x. IsTrue (offers (recipe_with slug s.live) x)) same (ap (λ o. offers o branch) may.recipe ∙ may.offered)) c.row_branches;
   row_choices = All-with_row (IsNotOptedOut t) row s.rows (λ enrolled. without-itself slug s.opted_out) (All-weaker (IsNotOptedOut s) (IsNotOptedOut t) (λ q h enrolled. is_in-without q.slug slug s.opted_out (h enrolled)) s.rows c.row_choices);
-  row_participation = All-with_row (IsParticipating t) row s.rows (λ enrolled. may.participating) c.row_participation;
+  row_participation = All-with_row (IsParticipating t) row s.rows (λ enrolled. ap (may_take_part s) may.recipe ∙ may.participating) c.row_participation;
   exclusive = exclusion.opt_in s slug branch r may free c.exclusive;
 }

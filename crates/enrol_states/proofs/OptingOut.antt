@@ -1,14 +1,18 @@
 -- What an opt-out makes of rows.
 use Rattle.std.proofs.Common.{◌≡◌, ℕ, zero, suc, ◌<◌, Bool, true, false, List, [], ◌∷◌, length, get_or, map, None, Less, Equal, refl, ap, ap₂, ◌∙◌, subst, sym, arith}
-use Rattle.std.specs.Prelude.{All, slice_set, ◌||◌, bytes_eq, if◌then◌else◌}
+use Rattle.std.specs.Prelude.{All, slice_set, ◌&&◌, ◌||◌, bytes_eq, if◌then◌else◌}
 use Rattle.std.specs.List.{list_any}
 use Rattle.std.specs.List.Sorted.{IsStrictlySortedBy}
 use Rattle.std.proofs.lemmas.List.Elements.{All-map, All-weaker}
-use Rattle.recipe_reader.specs.Payloads.{slug_cmp}
+use Rattle.std.specs.Cmp.{second_so}
+use Rattle.recipe_reader.specs.Payloads.{slug_cmp, recipe_with}
 use Rattle.enrol_states.specs.Order.{Rise, AreAbove, IsPlace}
 use Rattle.enrol_states.specs.Statuses.{IsStatus, is_enrolled, was_enrolled, enrolled_branch}
 use Rattle.enrol_states.specs.State.{slugs_of}
-use Rattle.enrol_states.specs.Commands.{opted_out, row_opted_out, opted_out_of, changes_at_opt_out}
+use Rattle.enrol_states.specs.Participation.{covers_recipe}
+use Rattle.enrol_states.specs.Commands.{opted_out, row_opted_out, opted_out_of, row_left, leaves, changes_at_opt_out}
+use Rattle.enrol_states.specs.declared.participation.Part.{Part}
+use Rattle.enrol_states.specs.declared.state.State.{State}
 use Rattle.enrol_states.specs.declared.state.Row.{Row}
 use Rattle.enrol_states.specs.declared.status.Status.{Status}
 use Rattle.enrol_states.specs.declared.status.Status.TheVariants as statuses
@@ -52,13 +56,17 @@ pub slugs-image : (g : Row → Row) (rows : List Row) → ((row : Row) → (g ro
 slugs-image g [] same = refl
 slugs-image g (row ∷ rows) same = ap (λ s. s ∷ slugs_of (map g rows)) (same row) ∙ ap (λ ss. row.slug ∷ ss) (slugs-image g rows same)
 
-other_row : (P : Row → Type 0) (slug : List ℕ) (row : Row) → P (row_opted_out row) → (bytes_eq row.slug slug ≡ false → P row) → (b : Bool) → bytes_eq row.slug slug ≡ b → P (if b then row_opted_out row else row)
-other_row P slug row out same true e = out
-other_row P slug row out same false e = same e
+chosen : (P : Row → Type 0) (row : Row) (b : Bool) → P (row_opted_out row) → (b ≡ false → P row) → P (if b then row_opted_out row else row)
+chosen P row true out same = out
+chosen P row false out same = same refl
 
 -- what holds of the row after an opt-out, and of a row of another slug
 pub either : (P : Row → Type 0) (slug : List ℕ) (row : Row) → P (row_opted_out row) → (bytes_eq row.slug slug ≡ false → P row) → P (opted_out_of slug row)
-either P slug row out same = other_row P slug row out same (bytes_eq row.slug slug) refl
+either P slug row out same = chosen P row (bytes_eq row.slug slug) out same
+
+-- what holds of the row after an opt-out, and of a row whose live recipe isn't of the part
+pub left_or_same : (P : Row → Type 0) (s : State) (part : Part) (row : Row) → P (row_opted_out row) → (covers_recipe part (recipe_with row.slug s.live) ≡ false → P row) → P (row_left s part row)
+left_or_same P s part row out same = chosen P row (covers_recipe part (recipe_with row.slug s.live)) out same
 
 -- ---- the one row of a slug
 
@@ -106,8 +114,25 @@ neither : (a b : Bool) → (a || b) ≡ false → (a ≡ false) × (b ≡ false)
 neither true b h = absurd cc
 neither false b h = (refl, h)
 
-pub all-stay : (rows : List Row) → list_any (λ row. changes_at_opt_out row.status) rows ≡ false → map row_opted_out rows ≡ rows
-all-stay [] none = refl
-all-stay (q ∷ qs) none =
-    let apart = neither (changes_at_opt_out q.status) (list_any (λ row. changes_at_opt_out row.status) qs) none in
-    ap₂ (λ (st : Status) rs. record { slug = q.slug; status = st } ∷ rs) (left_as_is q.status apart.0) (all-stay qs apart.1)
+row_stays : (row : Row) → changes_at_opt_out row.status ≡ false → row_opted_out row ≡ row
+row_stays row none = ap (λ (st : Status). record { slug = row.slug; status = st }) (left_as_is row.status none)
+
+stays_at : (row : Row) (changes covered : Bool) → changes_at_opt_out row.status ≡ changes → (changes && covered) ≡ false → (if covered then row_opted_out row else row) ≡ row
+stays_at row true true e none = absurd cc
+stays_at row true false e none = refl
+stays_at row false true e none = row_stays row e
+stays_at row false false e none = refl
+
+-- a row that the end of participation leaves as it is
+pub stays : (s : State) (part : Part) (row : Row) → leaves s part row ≡ false → row_left s part row ≡ row
+stays s part row none = stays_at row (changes_at_opt_out row.status) (covers_recipe part (recipe_with row.slug s.live)) refl none
+
+-- and one that it changes
+pub is_left : (s : State) (part : Part) (row : Row) → leaves s part row ≡ true → row_left s part row ≡ row_opted_out row
+is_left s part row h = ap (λ b. if b then row_opted_out row else row) (second_so (changes_at_opt_out row.status) (covers_recipe part (recipe_with row.slug s.live)) h)
+
+pub all-stay : (s : State) (part : Part) (rows : List Row) → list_any (leaves s part) rows ≡ false → map (row_left s part) rows ≡ rows
+all-stay s part [] none = refl
+all-stay s part (q ∷ qs) none =
+    let apart = neither (leaves s part q) (list_any (leaves s part) qs) none in
+    ap₂ (λ r rs. r ∷ rs) (stays s part q apart.0) (all-stay s part qs apart.1)

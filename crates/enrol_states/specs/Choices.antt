@@ -2,9 +2,11 @@
 use Rattle.std.specs.Prelude.{◌≡◌, ℕ, nat_le, ◌&&◌, Bool, false, not, List, length, Contains, All, Some, None, Result, Ok, Err, IsTrue, ⊤}
 use Rattle.std.specs.Ordering.{is_le}
 use Rattle.recipe_reader.specs.Payloads.{slug_cmp, recipe_with}
+use Rattle.recipe_reader.specs.Kinds.{kind_of}
 use Rattle.recipe_reader.specs.declared.recipe.Recipe.{Recipe}
 use Rattle.enrol_states.specs.Order.{is_in}
 use Rattle.enrol_states.specs.Recipes.{has_branch}
+use Rattle.enrol_states.specs.Participation.{takes_part}
 use Rattle.enrol_states.specs.Features.{takes, IsFree}
 use Rattle.enrol_states.specs.Commands.{after_opt_out, after_opt_in}
 use Rattle.enrol_states.specs.declared.state.State.{State}
@@ -28,10 +30,10 @@ OptsOut s slug (Err out_faults.OutOfMemory) = ⊤
 
 -- ---- opt-ins
 
--- the slug's live recipe has the branch, and the client takes part
+-- this is the slug's live recipe, participation of its kind is on, and it has the branch
 pub record MayChoose (s : State) (slug branch : List ℕ) (r : Recipe) : Type 0 where
-  pub participating : IsTrue s.participating
   pub recipe : recipe_with slug s.live ≡ Some r
+  pub participating : IsTrue (takes_part s (kind_of r))
   pub offered : IsTrue (has_branch r branch)
 
 -- a row takes the feature of the recipe: of these the row with the least slug, and of the features that it takes the least
@@ -46,8 +48,8 @@ pub record IsTaken (s : State) (r : Recipe) (holder feature : List ℕ) : Type 0
 -- what an opt-in answers; want of memory is the one free answer
 abbrev pub OptsIn : State → List ℕ → List ℕ → Result State OptInFault → Type 0
 OptsIn s slug branch (Ok t) = (r : Recipe) × MayChoose s slug branch r × IsFree s r × (t ≡ after_opt_in s slug branch)
-OptsIn s slug branch (Err in_faults.NotParticipating) = s.participating ≡ false
-OptsIn s slug branch (Err in_faults.NoSuchExperiment) = IsTrue s.participating × (recipe_with slug s.live ≡ None)
-OptsIn s slug branch (Err in_faults.NoSuchBranch) = (r : Recipe) × IsTrue s.participating × (recipe_with slug s.live ≡ Some r) × (has_branch r branch ≡ false)
+OptsIn s slug branch (Err in_faults.NoSuchExperiment) = recipe_with slug s.live ≡ None
+OptsIn s slug branch (Err in_faults.NotParticipating) = (r : Recipe) × (recipe_with slug s.live ≡ Some r) × (takes_part s (kind_of r) ≡ false)
+OptsIn s slug branch (Err in_faults.NoSuchBranch) = (r : Recipe) × (recipe_with slug s.live ≡ Some r) × IsTrue (takes_part s (kind_of r)) × (has_branch r branch ≡ false)
 OptsIn s slug branch (Err (in_faults.FeatureTaken holder feature)) = (r : Recipe) × MayChoose s slug branch r × IsTaken s r holder feature
 OptsIn s slug branch (Err in_faults.OutOfMemory) = ⊤

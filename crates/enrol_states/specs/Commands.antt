@@ -1,8 +1,12 @@
 -- What the commands make of a state.
-use Rattle.std.specs.Prelude.{ℕ, Bool, true, false, List, [], ◌∷◌, map, filter, not, bytes_eq, if◌then◌else◌}
+use Rattle.std.specs.Prelude.{ℕ, ◌&&◌, Bool, true, false, List, [], ◌∷◌, map, filter, not, bytes_eq, if◌then◌else◌}
 use Rattle.std.specs.Ordering.{match_ordering}
 use Rattle.std.specs.BTreeSet.{insert_key}
-use Rattle.recipe_reader.specs.Payloads.{slug_cmp}
+use Rattle.recipe_reader.specs.Payloads.{slug_cmp, recipe_with}
+use Rattle.recipe_reader.specs.declared.kinds.Kind.{Kind}
+use Rattle.recipe_reader.specs.declared.kinds.Kind.TheVariants.{Experiment, Rollout}
+use Rattle.enrol_states.specs.Participation.{covers, covers_recipe}
+use Rattle.enrol_states.specs.declared.participation.Part.{Part}
 use Rattle.enrol_states.specs.declared.state.State.{State}
 use Rattle.enrol_states.specs.declared.state.Row.{Row}
 use Rattle.enrol_states.specs.declared.status.Status.{Status}
@@ -27,14 +31,29 @@ changes_at_opt_out s = false
 abbrev pub row_opted_out : Row → Row
 row_opted_out row = record { slug = row.slug; status = opted_out row.status }
 
--- the rows of a client that takes part, or not
-abbrev pub rows_after_participate : List Row → Bool → List Row
-rows_after_participate rows true = rows
-rows_after_participate rows false = map row_opted_out rows
+-- ---- participation
 
--- the client takes part, or not; where it doesn't, it is opted out of every recipe
-abbrev pub after_participate : State → Bool → State
-after_participate s on = record s { participating = on; rows = rows_after_participate s.rows on }
+-- the row after participation in the part has ended: an opt-out of it, where its live recipe belongs to the part
+abbrev pub row_left : State → Part → Row → Row
+row_left s part row = if covers_recipe part (recipe_with row.slug s.live) then row_opted_out row else row
+
+-- whether that is another row
+abbrev pub leaves : State → Part → Row → Bool
+leaves s part row = changes_at_opt_out row.status && covers_recipe part (recipe_with row.slug s.live)
+
+-- the rows of a client that takes part in the part, or not
+abbrev pub rows_after_participate : State → Part → Bool → List Row
+rows_after_participate s part true = s.rows
+rows_after_participate s part false = map (row_left s part) s.rows
+
+-- participation of a kind, where that of the part is switched
+abbrev pub switched : Part → Kind → Bool → Bool → Bool
+switched part kind on before = if covers part kind then on else before
+
+-- the client takes part in the part, or not; where it doesn't, it is opted out of every live recipe of the part
+abbrev pub after_participate : State → Part → Bool → State
+after_participate s part on =
+    record s { experiments = switched part Experiment on s.experiments; rollouts = switched part Rollout on s.rollouts; rows = rows_after_participate s part on }
 
 -- ---- opt-outs
 

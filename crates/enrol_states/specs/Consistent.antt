@@ -6,6 +6,7 @@ use Rattle.recipe_reader.specs.declared.recipe.Recipe.{Recipe}
 use Rattle.enrol_states.specs.Order.{Rise, is_in}
 use Rattle.enrol_states.specs.State.{slugs_of}
 use Rattle.enrol_states.specs.Recipes.{offers}
+use Rattle.enrol_states.specs.Participation.{may_take_part}
 use Rattle.enrol_states.specs.Exclusive.{AreExclusive}
 use Rattle.enrol_states.specs.Statuses.{last_moment, IsSlug, IsStatus, is_enrolled, was_enrolled, enrolled_branch}
 use Rattle.enrol_states.specs.declared.state.State.{State}
@@ -38,9 +39,9 @@ HasBranch s row = (branch : List ℕ) → enrolled_branch row.status ≡ Some br
 abbrev pub IsNotOptedOut : State → Row → Type 0
 IsNotOptedOut s row = IsTrue (is_enrolled row.status) → is_in s.opted_out row.slug ≡ false
 
--- where the client is enrolled, it takes part at all
+-- where the client is enrolled, participation of the live recipe's kind is on
 abbrev pub IsParticipating : State → Row → Type 0
-IsParticipating s row = IsTrue (is_enrolled row.status) → IsTrue s.participating
+IsParticipating s row = IsTrue (is_enrolled row.status) → IsTrue (may_take_part s (recipe_with row.slug s.live))
 
 -- a state that a client can have, but for the length of its spelling
 pub record IsConsistent (s : State) : Type 0 where

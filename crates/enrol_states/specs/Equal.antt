@@ -77,7 +77,7 @@ pending_eq p q = false
 
 -- what a state says of its client
 abbrev pub client_eq : State → State → Bool
-client_eq s t = bytes_eq s.id t.id && (s.installed == t.installed && (s.updated == t.updated && (bytes_eq s.version t.version && beq s.participating t.participating)))
+client_eq s t = bytes_eq s.id t.id && (s.installed == t.installed && (s.updated == t.updated && (bytes_eq s.version t.version && (beq s.experiments t.experiments && beq s.rollouts t.rollouts))))
 
 -- what a state says of the recipes
 abbrev pub recipes_eq : State → State → Bool

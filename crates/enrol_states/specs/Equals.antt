@@ -141,7 +141,7 @@ pending_Decides (Some rs) None = (λ e. absurd cc, λ e. absurd cc)
 pending_Decides (Some rs) (Some ss) = (λ e. ap (λ l. Some l) ((pointwise_decides recipe_Decides rs ss).0 e), λ e. (pointwise_decides recipe_Decides rs ss).1 cc)
 
 abbrev AreSameClients : State → State → Type 0
-AreSameClients s t = (s.id ≡ t.id) × ((s.installed ≡ t.installed) × ((s.updated ≡ t.updated) × ((s.version ≡ t.version) × (s.participating ≡ t.participating))))
+AreSameClients s t = (s.id ≡ t.id) × ((s.installed ≡ t.installed) × ((s.updated ≡ t.updated) × ((s.version ≡ t.version) × ((s.experiments ≡ t.experiments) × (s.rollouts ≡ t.rollouts)))))
 
 abbrev HaveSameRecipes : State → State → Type 0
 HaveSameRecipes s t = (s.opted_out ≡ t.opted_out) × ((s.coenrolling ≡ t.coenrolling) × ((s.live ≡ t.live) × ((s.pending ≡ t.pending) × (s.rows ≡ t.rows))))
@@ -151,7 +151,8 @@ client_Decides s t =
     both (bytes_eq s.id t.id) _ (bytes_decides s.id t.id)
     (both (s.installed == t.installed) _ (unsigned_Decides s.installed t.installed)
     (both (s.updated == t.updated) _ (unsigned_Decides s.updated t.updated)
-    (both (bytes_eq s.version t.version) (beq s.participating t.participating) (bytes_decides s.version t.version) (booleans_Decides s.participating t.participating))))
+    (both (bytes_eq s.version t.version) _ (bytes_decides s.version t.version)
+    (both (beq s.experiments t.experiments) (beq s.rollouts t.rollouts) (booleans_Decides s.experiments t.experiments) (booleans_Decides s.rollouts t.rollouts)))))
 
 recipes_Decide : (s t : State) → Decides (recipes_eq s t) (HaveSameRecipes s t)
 recipes_Decide s t =
@@ -161,7 +162,7 @@ recipes_Decide s t =
     (both (pending_eq s.pending t.pending) (pointwise row_eq s.rows t.rows) (pending_Decides s.pending t.pending) (pointwise_decides row_Decides s.rows t.rows))))
 
 same_clients : (s t : State) → s ≡ t → AreSameClients s t
-same_clients s t e = (ap (λ (q : State). q.id) e, (ap (λ (q : State). q.installed) e, (ap (λ (q : State). q.updated) e, (ap (λ (q : State). q.version) e, ap (λ (q : State). q.participating) e))))
+same_clients s t e = (ap (λ (q : State). q.id) e, (ap (λ (q : State). q.installed) e, (ap (λ (q : State). q.updated) e, (ap (λ (q : State). q.version) e, (ap (λ (q : State). q.experiments) e, ap (λ (q : State). q.rollouts) e)))))
 
 same_recipes : (s t : State) → s ≡ t → HaveSameRecipes s t
 same_recipes s t e = (ap (λ (q : State). q.opted_out) e, (ap (λ (q : State). q.coenrolling) e, (ap (λ (q : State). q.live) e, (ap (λ (q : State). q.pending) e, ap (λ (q : State). q.rows) e))))
@@ -172,7 +173,7 @@ state_Decides s t =
     (λ p i.
     let c = p.0 in
     let r = p.1 in
-    record { id = c.0 i; installed = c.1.0 i; updated = c.1.1.0 i; version = c.1.1.1.0 i; participating = c.1.1.1.1 i; opted_out = r.0 i; coenrolling = r.1.0 i; live = r.1.1.0 i; pending = r.1.1.1.0 i; rows = r.1.1.1.1 i })
+    record { id = c.0 i; installed = c.1.0 i; updated = c.1.1.0 i; version = c.1.1.1.0 i; experiments = c.1.1.1.1.0 i; rollouts = c.1.1.1.1.1 i; opted_out = r.0 i; coenrolling = r.1.0 i; live = r.1.1.0 i; pending = r.1.1.1.0 i; rows = r.1.1.1.1 i })
     (λ e. (same_clients s t e, same_recipes s t e))
 
 pub status_equivalence : IsEquivalence status_eq

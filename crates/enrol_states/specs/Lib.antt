@@ -3,6 +3,7 @@ pub mod TextSets
 pub mod Statuses
 pub mod State
 pub mod Recipes
+pub mod Participation
 pub mod Exclusive
 pub mod Consistent
 pub mod Features

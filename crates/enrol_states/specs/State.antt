@@ -11,7 +11,7 @@ last_moment = statuses.last_moment
 
 -- the state of a new store
 abbrev pub fresh : List ℕ → ℕ → State
-fresh id now = record { id = id; installed = now; updated = now; version = []; participating = true; opted_out = []; coenrolling = []; live = []; pending = None; rows = [] }
+fresh id now = record { id = id; installed = now; updated = now; version = []; experiments = true; rollouts = true; opted_out = []; coenrolling = []; live = []; pending = None; rows = [] }
 
 abbrev pub slugs_of : List Row → List (List ℕ)
 slugs_of rows = map (λ row. row.slug) rows

@@ -1,5 +1,8 @@
 -- What a client's status becomes: by its verdict on a live recipe, and where there is no live recipe.
-use Rattle.std.specs.Prelude.{ℕ, ◌+◌, nat_le, Bool, List, Option, Some, None, ⊤, if◌then◌else◌}
+use Rattle.std.specs.Prelude.{ℕ, ◌+◌, nat_le, Bool, true, false, List, Option, Some, None, ⊤, if◌then◌else◌}
+use Rattle.recipe_reader.specs.Kinds.{kind_of}
+use Rattle.recipe_reader.specs.declared.kinds.Kind.{Kind}
+use Rattle.recipe_reader.specs.declared.kinds.Kind.TheVariants.{Rollout}
 use Rattle.recipe_reader.specs.declared.recipe.Recipe.{Recipe}
 use Rattle.enrol_states.specs.Recipes.{has_branch}
 use Rattle.enrol_states.specs.declared.status.Status.{Status}
@@ -7,6 +10,7 @@ use Rattle.enrol_states.specs.declared.status.Status.TheVariants as statuses
 use Rattle.enrol_states.specs.declared.status.EnrolledReason.{EnrolledReason}
 use Rattle.enrol_states.specs.declared.status.EnrolledReason.TheVariants as enrolled
 use Rattle.enrol_states.specs.declared.status.NotEnrolledReason.TheVariants as not_enrolled
+use Rattle.enrol_states.specs.declared.status.DisqualifiedReason.{DisqualifiedReason}
 use Rattle.enrol_states.specs.declared.status.DisqualifiedReason.TheVariants as disqualified
 use Rattle.enrol_states.specs.declared.verdict.Verdict.{Verdict}
 use Rattle.enrol_states.specs.declared.verdict.Verdict.TheVariants as verdicts
@@ -40,13 +44,25 @@ outcome_inside reason branch (verdicts.Failed cause) recipe = Keep (statuses.Dis
 outcome_inside reason branch (verdicts.Qualified chosen) recipe = outcome_qualified reason branch (has_branch recipe branch)
 outcome_inside reason branch verdicts.EnrollmentsPaused recipe = Keep (statuses.Enrolled reason branch)
 
+-- whether what disqualified a client of a recipe of the kind may pass: a rollout's range grows, and its targeting may hold again
+abbrev pub may_return : DisqualifiedReason → Kind → Bool
+may_return disqualified.NotSelected Rollout = true
+may_return disqualified.NotTargeted Rollout = true
+may_return reason kind = false
+
+-- of a client that was disqualified in a branch
+abbrev pub outcome_disqualified : DisqualifiedReason → List ℕ → Verdict → Recipe → Outcome
+outcome_disqualified reason branch (verdicts.Qualified chosen) recipe =
+    if may_return reason (kind_of recipe) then Wish (statuses.Enrolled enrolled.Qualified chosen) (statuses.Disqualified reason branch) else Keep (statuses.Disqualified reason branch)
+outcome_disqualified reason branch verdict recipe = Keep (statuses.Disqualified reason branch)
+
 -- of a client with an old status or none
 abbrev pub outcome : Option Status → Verdict → Recipe → Outcome
 outcome None verdict recipe = outcome_outside verdict
 outcome (Some (statuses.NotEnrolled reason)) verdict recipe = outcome_outside verdict
 outcome (Some (statuses.Error cause)) verdict recipe = outcome_outside verdict
 outcome (Some (statuses.Enrolled reason branch)) verdict recipe = outcome_inside reason branch verdict recipe
-outcome (Some (statuses.Disqualified reason branch)) verdict recipe = Keep (statuses.Disqualified reason branch)
+outcome (Some (statuses.Disqualified reason branch)) verdict recipe = outcome_disqualified reason branch verdict recipe
 outcome (Some (statuses.WasEnrolled branch ended)) verdict recipe = Keep (statuses.WasEnrolled branch ended)
 
 -- an enrolled client is never stopped by a pause

@@ -35,10 +35,10 @@ impl From<AllocError> for OptOutFault {
 /// Why `opt_in` gives no state: the first that applies.
 #[derive(Drop)]
 pub enum OptInFault {
-    /// The client takes part in nothing.
-    NotParticipating,
     /// No live recipe has the slug.
     NoSuchExperiment,
+    /// Participation of the recipe's kind is off.
+    NotParticipating,
     /// The recipe has no such branch.
     NoSuchBranch,
     /// The client is enrolled in another recipe of the same kind that shares a feature, which
@@ -77,12 +77,12 @@ pub fn opt_in(alloc: Global, state: &State, slug: &Slug, branch: &Slug) -> Resul
 {
     slug_fits(slug);
     slug_fits(branch);
-    if !state.participating {
-        return Err(OptInFault::NotParticipating);
-    }
     let Some(recipe) = state.live.get(slug.text()) else {
         return Err(OptInFault::NoSuchExperiment);
     };
+    if !state.takes_part(recipe.kind()) {
+        return Err(OptInFault::NotParticipating);
+    }
     if !recipe.has_branch(branch.text()) {
         return Err(OptInFault::NoSuchBranch);
     }

@@ -114,7 +114,8 @@ fn same_clients(left: &State, right: &State) -> bool
         && left.installed == right.installed
         && left.updated == right.updated
         && left.version == right.version
-        && left.participating == right.participating
+        && left.experiments == right.experiments
+        && left.rollouts == right.rollouts
 }
 
 fn same_ids(left: Uuid, right: Uuid) -> bool

@@ -18,7 +18,7 @@ mod verdict;
 pub use choices::{OptInFault, OptOutFault, opt_in, opt_out, reset};
 pub use exclusive::is_exclusive;
 pub use laws::equal_states_are_one;
-pub use participation::participate;
+pub use participation::{Part, participate};
 pub use state::{LAST_MOMENT, MAX_OPTED_OUT, MAX_RECIPES, Row, State, id_fits, slug_fits};
 pub use status::{DisqualifiedReason, EnrolledReason, ErrorCause, NotEnrolledReason, Status};
 pub use transitions::{candidate, ended};

@@ -1,61 +1,127 @@
-// Whether a client takes part at all.
-ghost use Rattle.std.specs.Prelude.{◌≡◌, IfOk, map};
+// Whether a client takes part in experiments and in rollouts.
+ghost use Rattle.std.specs.Prelude.{◌≡◌, IfOk, map, option_map};
 ghost use Rattle.std.specs.List.{list_any};
 ghost use Rattle.enrol_states.specs.Consistent.{IsConsistent};
-ghost use Rattle.enrol_states.specs.Commands.{after_participate, rows_after_participate, changes_at_opt_out, opted_out, row_opted_out};
+ghost use Rattle.enrol_states.specs.Participation.{covers, covers_recipe};
+ghost use Rattle.enrol_states.specs.Commands.{after_participate, rows_after_participate, row_left, leaves, switched, changes_at_opt_out, opted_out, row_opted_out};
 
 use crate::state::{Row, State};
 use crate::status::{DisqualifiedReason, NotEnrolledReason, Status};
+use recipe_reader::{Kind, Recipe};
 use sequences::{Sequence, SharedList};
 use std::alloc::{AllocError, Global};
 
-/// The state in which the client takes part, or not. Where it takes part no longer, every
-/// enrolment ends as an opt-out, and where the client never took part, the opt-out is the reason.
-/// Lists that stay as they are are shared. The one error is want of memory.
-pub fn participate(alloc: Global, state: &State, on: bool) -> Result<State, AllocError>
+/// What a client may take part in, or not.
+#[derive(Clone, Copy, Debug, PartialEq, Eq, Drop)]
+pub enum Part {
+    /// Experiments and rollouts.
+    Both,
+    Experiments,
+    Rollouts,
+}
+
+/// The state in which the client takes part in the part, or not. Where it doesn't, whether or not it
+/// did before, each enrolment in a live recipe of the part ends as an opt-out, and where the client
+/// never took part in such a recipe, the opt-out is the reason. The rows are shared where none
+/// changes, and so are all other lists.
+pub fn participate(alloc: Global, state: &State, part: Part, on: bool) -> Result<State, AllocError>
     requires { IsConsistent state.now }
-    ensures state { IfOk result (λ s. s ≡ after_participate state.now on) }
+    ensures state { IfOk result (λ s. s ≡ after_participate state.now part on) }
     ensures consistent { IfOk result IsConsistent }
 {
-    let rows = rows_after(alloc, &state.rows, on)?;
+    let rows = rows_after(alloc, state, part, on)?;
     let mut next = state.with_rows(state.opted_out.clone()?, rows)?;
-    next.participating = on;
+    next.experiments = part.switched(Kind::Experiment, on, state.experiments);
+    next.rollouts = part.switched(Kind::Rollout, on, state.rollouts);
     Ok(next)
 }
 
-/// The rows of a client that takes part, or not.
+/// The rows of a client that takes part in the part, or not.
 fn rows_after(
     alloc: Global,
-    rows: &SharedList<Row>,
+    state: &State,
+    part: Part,
     on: bool,
 ) -> Result<SharedList<Row>, AllocError>
-    ensures { IfOk result (λ rs. rs ≡ rows_after_participate rows.now on) }
+    ensures { IfOk result (λ rs. rs ≡ rows_after_participate state.now part on) }
 {
     if on {
-        return rows.clone();
+        return state.rows.clone();
     }
-    rows_opted_out(alloc, rows)
+    rows_left(alloc, state, part)
 }
 
-/// The rows after an opt-out of each.
-fn rows_opted_out(alloc: Global, rows: &SharedList<Row>) -> Result<SharedList<Row>, AllocError>
-    ensures { IfOk result (λ rs. rs ≡ map row_opted_out rows.now) }
+/// The rows after participation in the part has ended.
+fn rows_left(alloc: Global, state: &State, part: Part) -> Result<SharedList<Row>, AllocError>
+    ensures { IfOk result (λ rs. rs ≡ map (row_left state.now part) state.now.rows) }
 {
-    if !change_at_opt_out(rows.as_slice()) {
-        return rows.clone();
+    if !any_leaves(state, part) {
+        return state.rows.clone();
     }
-    let mut ended = Sequence::new(alloc);
-    for row in rows.as_slice() {
-        ended.push(row.opted_out()?)?;
+    let mut rows = Sequence::new(alloc);
+    for row in state.rows.as_slice() {
+        rows.push(row_left(state, part, row)?)?;
     }
-    SharedList::from_sequence(alloc, ended)
+    SharedList::from_sequence(alloc, rows)
 }
 
-/// Whether an opt-out makes another row of one of them.
-fn change_at_opt_out(rows: &[Row]) -> bool
-    ensures { result ≡ list_any (λ row. changes_at_opt_out row.status) rows.now }
+/// Whether one of the rows is another after participation in the part has ended.
+fn any_leaves(state: &State, part: Part) -> bool
+    ensures { result ≡ list_any (leaves state.now part) state.now.rows }
 {
-    rows.iter().any(|row| row.status.changes_at_opt_out())
+    state
+        .rows
+        .as_slice()
+        .iter()
+        .any(|row| leaves(state, part, row))
+}
+
+/// The row after participation in the part has ended.
+fn row_left(state: &State, part: Part, row: &Row) -> Result<Row, AllocError>
+    ensures { IfOk result (λ r. r ≡ row_left state.now part row.now) }
+{
+    if leaves(state, part, row) {
+        row.opted_out()
+    } else {
+        row.clone()
+    }
+}
+
+/// Whether the row is another after participation in the part has ended.
+fn leaves(state: &State, part: Part, row: &Row) -> bool
+    ensures { result ≡ leaves state.now part row.now }
+{
+    row.status.changes_at_opt_out() && part.covers_recipe(state.live.get(row.slug.text()))
+}
+
+impl Part {
+    /// Whether there is a recipe, and its kind belongs to the part.
+    fn covers_recipe(self, recipe: Option<&Recipe>) -> bool
+        ensures { result ≡ covers_recipe self (option_map (λ r. r.now) recipe.entry) }
+    {
+        match recipe {
+            Some(recipe) => self.covers(recipe.kind()),
+            None => false,
+        }
+    }
+
+    /// Whether recipes of the kind belong to the part.
+    fn covers(self, kind: Kind) -> bool
+        ensures { result ≡ covers self kind }
+    {
+        match self {
+            Part::Both => true,
+            Part::Experiments => kind == Kind::Experiment,
+            Part::Rollouts => kind == Kind::Rollout,
+        }
+    }
+
+    /// Participation of the kind, where that of the part is switched.
+    fn switched(self, kind: Kind, on: bool, before: bool) -> bool
+        ensures { result ≡ switched self kind on before }
+    {
+        if self.covers(kind) { on } else { before }
+    }
 }
 
 impl Row {

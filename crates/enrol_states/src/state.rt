@@ -4,11 +4,12 @@ ghost use Rattle.enrol_states.specs.Order.{Rise, is_in};
 ghost use Rattle.enrol_states.specs.State.{fresh, last_moment, slugs_of, status_of};
 ghost use Rattle.enrol_states.specs.Consistent.{IsConsistent, IsId};
 ghost use Rattle.enrol_states.specs.Statuses.{IsSlug};
+ghost use Rattle.enrol_states.specs.Participation.{takes_part};
 
 use crate::copying::copy_of_pending;
 use crate::status::Status;
 use plain_text::Slug;
-use recipe_reader::Recipes;
+use recipe_reader::{Kind, Recipes};
 use sequences::{SharedList, Text};
 use std::alloc::{AllocError, Global};
 use uuid::Uuid;
@@ -35,8 +36,10 @@ pub struct State {
     pub updated: u64,
     /// The application's version at the last apply.
     pub version: Text,
-    /// Whether the client takes part at all.
-    pub participating: bool,
+    /// Whether the client takes part in experiments.
+    pub experiments: bool,
+    /// Whether the client takes part in rollouts.
+    pub rollouts: bool,
     /// The slugs that the user opted out of, at most 4,096. A slug stays while its recipe is gone.
     pub opted_out: SharedList<Slug>,
     /// The features that recipes of one kind may share, as of the last apply.
@@ -69,7 +72,8 @@ impl State {
             installed: now,
             updated: now,
             version: Text::from_string(String::new(alloc)),
-            participating: true,
+            experiments: true,
+            rollouts: true,
             opted_out: SharedList::new(alloc),
             coenrolling: SharedList::new(alloc),
             live: Recipes::new(alloc),
@@ -105,6 +109,16 @@ impl State {
         }
     }
 
+    /// Whether participation of recipes of the kind is on. It takes no memory.
+    pub fn takes_part(&self, kind: Kind) -> bool
+        ensures { result ≡ takes_part self.now kind }
+    {
+        match kind {
+            Kind::Experiment => self.experiments,
+            Kind::Rollout => self.rollouts,
+        }
+    }
+
     /// The state with other opt-outs and rows.
     pub(crate) fn with_rows(
         &self,
@@ -118,7 +132,8 @@ impl State {
             installed: self.installed,
             updated: self.updated,
             version: self.version.clone()?,
-            participating: self.participating,
+            experiments: self.experiments,
+            rollouts: self.rollouts,
             opted_out,
             coenrolling: self.coenrolling.clone()?,
             live: self.live.clone()?,

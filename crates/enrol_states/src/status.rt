@@ -17,7 +17,8 @@ pub enum Status {
     NotEnrolled {
         reason: NotEnrolledReason,
     },
-    /// The client took part in the branch, and takes part again only where its user opts in.
+    /// The client took part in the branch. It takes part again only where its user opts in, or in a
+    /// rollout whose range or targeting it had left.
     Disqualified {
         reason: DisqualifiedReason,
         branch: Slug,

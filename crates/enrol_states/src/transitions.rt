@@ -3,13 +3,13 @@ ghost use Rattle.std.specs.Prelude.{◌≡◌, ◌≢◌, IfOk, option_map};
 ghost use Rattle.enrol_states.specs.declared.status.Status.TheVariants as statuses;
 ghost use Rattle.enrol_states.specs.declared.verdict.Verdict.TheVariants as verdicts;
 ghost use Rattle.enrol_states.specs.declared.verdict.Outcome.TheVariants as outcomes;
-ghost use Rattle.enrol_states.specs.Transitions.{CanOccur, outcome, outcome_outside, outcome_inside, outcome_qualified, status_ended};
+ghost use Rattle.enrol_states.specs.Transitions.{CanOccur, outcome, outcome_outside, outcome_inside, outcome_qualified, outcome_disqualified, may_return, status_ended};
 ghost use Rattle.recipe_reader.specs.Kinds.{has_branch};
 
 use crate::status::{DisqualifiedReason, EnrolledReason, NotEnrolledReason, Status};
 use crate::verdict::{Outcome, Verdict};
 use plain_text::Slug;
-use recipe_reader::Recipe;
+use recipe_reader::{Kind, Recipe};
 use std::alloc::{AllocError, Global};
 
 /// How long an ended row is kept, in seconds: 365 days.
@@ -30,9 +30,10 @@ pub fn candidate(
     match old {
         None | Some(Status::NotEnrolled { .. } | Status::Error { .. }) => outside(verdict),
         Some(Status::Enrolled { reason, branch }) => inside(*reason, branch, verdict, recipe),
-        Some(kept @ (Status::Disqualified { .. } | Status::WasEnrolled { .. })) => {
-            Ok(Outcome::Keep(kept.clone()?))
+        Some(Status::Disqualified { reason, branch }) => {
+            after_disqualification(*reason, branch, verdict, recipe)
         }
+        Some(kept @ Status::WasEnrolled { .. }) => Ok(Outcome::Keep(kept.clone()?)),
     }
 }
 
@@ -97,21 +98,56 @@ fn qualified(reason: EnrolledReason, branch: &Slug, recipe: &Recipe) -> Result<O
             reason,
             branch: branch.clone()?,
         },
-        lost: Status::Disqualified {
-            reason: DisqualifiedReason::FeatureConflict,
-            branch: branch.clone()?,
-        },
+        lost: disqualification(DisqualifiedReason::FeatureConflict, branch)?,
     })
 }
 
-/// The client takes part in the branch no longer.
+/// The client is disqualified in the branch.
 fn disqualified(reason: DisqualifiedReason, branch: &Slug) -> Result<Outcome, AllocError>
     ensures { IfOk result (λ o. o ≡ outcomes.Keep (statuses.Disqualified reason branch.now)) }
 {
-    Ok(Outcome::Keep(Status::Disqualified {
+    Ok(Outcome::Keep(disqualification(reason, branch)?))
+}
+
+fn disqualification(reason: DisqualifiedReason, branch: &Slug) -> Result<Status, AllocError>
+    ensures { IfOk result (λ s. s ≡ statuses.Disqualified reason branch.now) }
+{
+    Ok(Status::Disqualified {
         reason,
         branch: branch.clone()?,
-    }))
+    })
+}
+
+/// What follows for a client that was disqualified in a branch: a rollout may come back.
+fn after_disqualification(
+    reason: DisqualifiedReason,
+    branch: &Slug,
+    verdict: &Verdict,
+    recipe: &Recipe,
+) -> Result<Outcome, AllocError>
+    ensures { IfOk result (λ o. o ≡ outcome_disqualified reason branch.now verdict.now recipe.now) }
+{
+    match verdict {
+        Verdict::Qualified(chosen) if may_return(reason, recipe.kind()) => Ok(Outcome::Wish {
+            won: Status::Enrolled {
+                reason: EnrolledReason::Qualified,
+                branch: chosen.clone()?,
+            },
+            lost: disqualification(reason, branch)?,
+        }),
+        _ => disqualified(reason, branch),
+    }
+}
+
+/// Whether what disqualified a client of a recipe of the kind may pass: a rollout's range grows,
+/// and its targeting may hold again.
+fn may_return(reason: DisqualifiedReason, kind: Kind) -> bool
+    ensures { result ≡ may_return reason kind }
+{
+    match (reason, kind) {
+        (DisqualifiedReason::NotSelected | DisqualifiedReason::NotTargeted, Kind::Rollout) => true,
+        _ => false,
+    }
 }
 
 /// What stays of a status where there is no live recipe: what the client was enrolled in is kept

@@ -9,7 +9,7 @@ pub enum Verdict {
     DifferentAppName,
     /// The recipe is for another channel.
     DifferentChannel,
-    /// The user opted out of the recipe, or of all.
+    /// The user opted out of the recipe, or of all recipes of its kind.
     OptOut,
     /// Nobody new may enrol, and the client isn't enrolled.
     EnrollmentsPaused,

@@ -20,8 +20,8 @@ spared : (set : BTreeSet (Bor (List ℕ))) (g f : List ℕ) (b : Bool) → bytes
 spared set g f true e there = ap not (subst (λ u. has_text set u ≡ true) ((bytes_decides g f).0 e) there)
 spared set g f false e there = refl
 
-pub returns-then-has_name : goal.returns-then-has_name
-returns-then-has_name c = λ f.
+pub returns-then-has_text : goal.returns-then-has_text
+returns-then-has_text c = λ f.
     let there : has_text c.args.shared.now c.args.feature.now ≡ true = cc in
     or_none (has_text c.args.held.now f) ∙ ap (λ b. has_text c.args.held.now f || b) (sym (spared c.args.shared.now c.args.feature.now f (bytes_eq c.args.feature.now f) refl there))
 

@@ -1,19 +1,18 @@
-use Rattle.std.proofs.Common.{rules, sym, subst}
-use Rattle.recipe_reader.specs.Payloads.{AreInOrder, AreValid}
-use Rattle.enrol_states.specs.Order.{Rise}
-use Rattle.enrol_states.specs.State.{slugs_of}
-use Rattle.enrol_evolver.proofs.Passing.{joined-fit}
+use Rattle.std.proofs.Common.{sym, subst}
+use Rattle.recipe_reader.specs.Payloads.{AreValid}
+use Rattle.enrol_evolver.proofs.PlannedWishes.{entries-more, wishes-more, valid-at}
 use Rattle.enrol_evolver.proofs.plan.planned.Goals as goal
 
-pub loop-slot-init : goal.loop-slot-init
-loop-slot-init g c =
-    let slots = c.new-slots.result in
+pub add-requires-clause-valid : goal.add-requires-clause-valid
+add-requires-clause-valid g c = valid-at c.as_slice-recipe-items.result.now c.loop-recipe.recipe-index c.recipe-item.result c.loop-recipe-test.true c.recipe-item.is (subst AreValid (sym c.as_slice-recipe-items.ensures.recipes) c.requires.valid)
+
+pub loop-recipe-preserved : goal.loop-recipe-preserved
+loop-recipe-preserved g c =
+    let client = c.args.client.now in
+    let rs = c.as_slice-recipe-items.result.now in
+    let i = c.loop-recipe.recipe-index in
     record {
-      live = subst AreInOrder (sym c.new-slots.ensures.live) c.new-slots.ensures.in_order;
-      rows = subst (λ qs. Rise (slugs_of qs)) (sym c.new-slots.ensures.rows) c.requires.rows;
-      opted_out = subst Rise (sym c.new-slots.ensures.opted_out) c.requires.opted_out;
-      fit = joined-fit slots.opted_out.now slots.live.now slots.rows.now (subst AreValid (sym c.new-slots.ensures.live) c.requires.valid);
-      entries = search rules;
-      wishes = search rules;
-      ready = c.requires.ready;
+      entries = entries-more client.context.now client.state.now client.moment rs i c.recipe-item.result _ _ c.loop-recipe-test.true c.recipe-item.is c.loop-recipe.invariant.entries c.in_ok-add.ensures.entries;
+      wishes = wishes-more client.context.now client.state.now client.moment rs i c.recipe-item.result _ _ c.loop-recipe-test.true c.recipe-item.is c.loop-recipe.invariant.wishes c.in_ok-add.ensures.wishes;
+      ready = c.in_ok-add.ensures.ready;
     }

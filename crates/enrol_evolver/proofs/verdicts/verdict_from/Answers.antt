@@ -7,6 +7,7 @@ use Rattle.enrol_evolver.proofs.verdicts.verdict_from.Goals as goal
 
 pub returns-in-Some-clause-verdict : goal.returns-in-Some-clause-verdict
 returns-in-Some-clause-verdict g c =
+    let client = c.args.client.now in
     if_ok c.chosen.result _ _
-    (ap (λ o. by_choice o c.args.is_out (judged c.args.client.now.context.now c.args.client.now.state.now c.args.client.now.moment c.args.recipe.now (is_enrolled_now (option_map (λ s. s.now) c.args.old)) c.args.is_out)) c.in-Some.ensures)
+    (ap (λ o. by_choice client.state.now c.args.recipe.now o (judged client.context.now client.state.now client.moment c.args.recipe.now (is_enrolled_now (option_map (λ s. s.now) c.args.old)))) c.in-Some.ensures)
     c.chosen.ensures

@@ -1,7 +1,11 @@
-use Rattle.std.proofs.Common.{subst}
-use Rattle.enrol_evolver.specs.Slots.{view}
-use Rattle.enrol_evolver.specs.Plans.{IsFit}
+use Rattle.std.proofs.Common.{sym, subst}
+use Rattle.std.specs.Prelude.{option_map}
+use Rattle.enrol_states.specs.Transitions.{CanOccur}
+use Rattle.enrol_evolver.proofs.Fitness.{can-occur}
 use Rattle.enrol_evolver.proofs.plan.Plan.add.Goals as goal
 
-pub add_live-requires-clause-valid : goal.add_live-requires-clause-valid
-add_live-requires-clause-valid g c = subst (λ s. IsFit (view s)) c.in-Live.is c.requires.fit
+pub candidate-requires : goal.candidate-requires
+candidate-requires g c =
+    let client = c.args.client.now in
+    let old = option_map (λ s. s.now) c.status_of-old.result in
+    subst (CanOccur old) (sym c.in_ok-verdict.ensures.verdict) (can-occur client.context.now client.state.now client.moment c.args.recipe.now old c.requires.valid)

@@ -1,0 +1,30 @@
+-- Participation: a client takes part in experiments, in rollouts, in both or in none.
+use Rattle.std.specs.Prelude.{Bool, true, false, Option, Some, None}
+use Rattle.recipe_reader.specs.Kinds.{kind_of, kind_eq}
+use Rattle.recipe_reader.specs.declared.kinds.Kind.{Kind}
+use Rattle.recipe_reader.specs.declared.kinds.Kind.TheVariants.{Experiment, Rollout}
+use Rattle.recipe_reader.specs.declared.recipe.Recipe.{Recipe}
+use Rattle.enrol_states.specs.declared.state.State.{State}
+use Rattle.enrol_states.specs.declared.participation.Part.{Part}
+use Rattle.enrol_states.specs.declared.participation.Part.TheVariants as parts
+
+-- whether participation of recipes of the kind is on
+abbrev pub takes_part : State → Kind → Bool
+takes_part s Experiment = s.experiments
+takes_part s Rollout = s.rollouts
+
+-- whether participation of the recipe's kind is on; nothing is off where there is no recipe
+abbrev pub may_take_part : State → Option Recipe → Bool
+may_take_part s None = true
+may_take_part s (Some r) = takes_part s (kind_of r)
+
+-- whether recipes of the kind belong to the part
+abbrev pub covers : Part → Kind → Bool
+covers parts.Both kind = true
+covers parts.Experiments kind = kind_eq kind Experiment
+covers parts.Rollouts kind = kind_eq kind Rollout
+
+-- whether there is a recipe, and its kind belongs to the part
+abbrev pub covers_recipe : Part → Option Recipe → Bool
+covers_recipe part None = false
+covers_recipe part (Some r) = covers part (kind_of r)
