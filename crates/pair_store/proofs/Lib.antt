@@ -1,9 +1,11 @@
 pub mod Adding
+pub mod Answered
 pub mod Below
 pub mod Beside
 pub mod Choosing
 pub mod Gates
 pub mod Opening
+pub mod Phases
 pub mod Standing
 pub mod Turning
 pub mod Unique

@@ -7,20 +7,20 @@ use Rattle.host_model.specs.declared.side.Side.{Side}
 use Rattle.host_model.specs.declared.side.Side.TheVariants.{Left, Right}
 use Rattle.host_model.specs.Hosts.{IsDurable, KeepsAll, MeetsAll, NowOf, OnSideOf}
 use Rattle.host_model.specs.Sides.{other, on}
-use Rattle.host_model.proofs.Meeting.{both, then_met, met_weaker, turned, kept_turned}
+use Rattle.host_model.proofs.Meeting.{met_weaker, turned, kept_turned}
 use Rattle.gate_journal.specs.Journal.{Stands, SameButFirst}
 use Rattle.gate_journal.specs.OpenSide.{OpenSide}
-use Rattle.gate_journal.specs.Records.{place_of, IsClosed, IsOpen, IsShut}
+use Rattle.gate_journal.specs.Records.{place_of, IsClosed, IsOpen, IsShut, HasZeroFirst}
 use Rattle.pair_store.specs.declared.faults.PairFault.{PairFault}
 use Rattle.pair_store.specs.declared.faults.PairFault.TheVariants.{NoStore, BadStore, DiskFault, OutOfMemory}
 use Rattle.pair_store.specs.declared.records.Choice.{Choice}
 use Rattle.pair_store.specs.Choice.{payloads_of, IsAnswer, IsBeside, IsChoice}
-use Rattle.pair_store.specs.Moments.{IsOpening}
+use Rattle.pair_store.specs.Moments.{IsReadOrRepaired, OpensInTwoPhases}
 use Rattle.pair_store.specs.Pair.{HasList, HasKeptList, HasNoStore, IsBad, IsEarlier}
-use Rattle.pair_store.specs.Repair.{starts_open, repair_cost, shut_first, IsRepaired, MayBeShut, shut_where}
+use Rattle.pair_store.specs.Repair.{starts_open, repair_cost, shut_first, IsRepaired, IsLeftByOpening, MayBeShut, shut_where}
 use Rattle.pair_store.specs.Store.{PairStands, PairStandsWithGate}
 use Rattle.gate_journal.specs.Costs.{HasCost}
-use Rattle.pair_store.proofs.Beside.{on_of}
+use Rattle.pair_store.proofs.Beside.{both_sides, on_of}
 use Rattle.pair_store.proofs.Choosing.{choice_list, list_is_store}
 use Rattle.pair_store.proofs.Gates.{beside_sum, choice_gate}
 use Rattle.pair_store.proofs.Turning.{first_open}
@@ -72,16 +72,17 @@ module _ {H : Type 0} (h : Ghosts H) (side : Side) (generation : ℕ) (payloads 
   is_read : (s : Side) (c : List ℕ) → h.images mid s c → c ≡ h.reads start s
   is_read s c left = durable s c left ∙ same s
 
-  module _ (text : h.said mid ≡ h.said start) (image : (s : Side) → h.images start s (h.reads start s)) where
-    at_start : (s : Side) (c : List ℕ) → h.images mid s c → h.images start s c
-    at_start s c left = subst (h.images start s) (sym (is_read s c left)) (image s)
+  repaired_by : (l r : List ℕ) → IsEarlier generation (h.reads start (other side)) → on side l r ≡ h.reads start side
+      → (byte : ℕ) × (on (other side) l r ≡ byte ∷ drop 1 (h.reads start (other side))) → IsRepaired h start l r
+  repaired_by l r earlier this there = record { side = side; generation = generation; payloads = payloads; later = here; earlier = earlier; here = this; there = there }
 
-    while_shut : (is_open : Bool) → IsBeside is_open generation (h.reads start (other side)) → (l r u : List ℕ)
-        → OnSideOf h mid (other side) (MayBeShut is_open (h.images mid (other side))) l r u → IsOpening h start l r u
-    while_shut false shut l r u met =
+  module _ (text : h.said mid ≡ h.said start) where
+    while_read : (is_open : Bool) → IsBeside is_open generation (h.reads start (other side)) → (l r u : List ℕ)
+        → OnSideOf h mid (other side) (MayBeShut is_open (h.images mid (other side))) l r u → IsReadOrRepaired h start l r u
+    while_read false shut l r u met =
         let seen = turned h.images h.said mid side (h.images mid (other side)) l r u met in
-        inl (both (h.images start) (h.said start) side l r u (at_start side (on side l r) seen.0) (at_start (other side) (on (other side) l r) seen.1) (seen.2 ∙ text))
-    while_shut true earlier l r u met =
+        (inl (both_sides (λ s. on s l r ≡ h.reads start s) side (is_read side (on side l r) seen.0) (is_read (other side) (on (other side) l r) seen.1)), seen.2 ∙ text)
+    while_read true earlier l r u met =
         let seen = turned h.images h.said mid side (SameButFirst (h.images mid (other side))) l r u met in
         let old = seen.1.0 in
         let was : old ≡ h.reads start (other side) = is_read (other side) old seen.1.1 in
@@ -89,22 +90,11 @@ module _ {H : Type 0} (h : Ghosts H) (side : Side) (generation : ℕ) (payloads 
           | inl is ↦ (1, is ∙ was ∙ sym (first_open earlier.before earlier.payloads (h.reads start (other side)) earlier.side))
           | inr first ↦ (first.0, first.1 ∙ ap (λ (c : List ℕ). first.0 ∷ drop 1 c) was)
         ] in
-        inr (
-          record {
-            side = side;
-            generation = generation;
-            payloads = payloads;
-            later = here;
-            earlier = earlier;
-            here = is_read side (on side l r) seen.0;
-            there = there;
-          },
-          seen.2 ∙ text,
-        )
+        (inr (repaired_by l r earlier (is_read side (on side l r) seen.0) there), seen.2 ∙ text)
 
-    pub opening_met : (is_open : Bool) → IsBeside is_open generation (h.reads start (other side)) → MeetsAll h start mid (NowOf h start)
-        → MeetsAll h mid new (OnSideOf h mid (other side) (MayBeShut is_open (h.images mid (other side)))) → MeetsAll h start new (IsOpening h start)
-    opening_met is_open rest first second = then_met h.moment h.might start mid new _ _ _ first second (λ l r u now. inl now) (while_shut is_open rest)
+    pub read_met : (is_open : Bool) → IsBeside is_open generation (h.reads start (other side))
+        → MeetsAll h mid new (OnSideOf h mid (other side) (MayBeShut is_open (h.images mid (other side)))) → MeetsAll h mid new (IsReadOrRepaired h start)
+    read_met is_open rest run = met_weaker h.moment h.might mid new _ _ run (while_read is_open rest)
 
   -- and then it stands for its payloads
   module _ (kept : KeepsAll h (other (other side)) mid new) where
@@ -115,6 +105,24 @@ module _ {H : Type 0} (h : Ghosts H) (side : Side) (generation : ℕ) (payloads 
     only_here c left =
         let back = kept_turned h.reads h.images h.said side mid new kept in
         durable side c ((back.images_same c).0 left) ∙ sym back.reads_same
+
+    -- what is left of both sides
+    pub left_by : (is_open : Bool) → IsBeside is_open generation (h.reads start (other side)) → h.reads new (other side) ≡ shut_where is_open (h.reads mid (other side)) → IsDurable h new (other side)
+        → IsLeftByOpening h start new
+    unfolding repaired_by
+    left_by false shut is only = record {
+      durable = both_sides (λ s. IsDurable h new s) side only_here only;
+      bytes = inl (both_sides (λ s. h.reads new s ≡ h.reads start s) side reads_here (is ∙ same (other side)));
+    }
+    left_by true earlier is only =
+        let there : h.reads new (other side) ≡ 0 ∷ drop 1 (h.reads start (other side)) = is ∙ ap (λ (c : List ℕ). 0 ∷ drop 1 c) (same (other side)) in
+        record {
+          durable = both_sides (λ s. IsDurable h new s) side only_here only;
+          bytes = inr (record {
+            repaired = repaired_by (h.reads new Left) (h.reads new Right) earlier (on_of (h.reads new) side ∙ reads_here) (0, on_of (h.reads new) (other side) ∙ there);
+            zero = subst HasZeroFirst (sym there) refl;
+          });
+        }
 
     pub opened_pair : (store : OpenSide) → side ≡ store.side → store.generation ≡ generation → store.place ≡ place_of payloads → 0 < length payloads
         → (is_open : Bool) → IsBeside is_open generation (h.reads start (other side))
@@ -177,10 +185,20 @@ module _ {H : Type 0} (h : Ghosts H) (choice : Choice) (there : Side) (start mid
   beside : IsBeside choice.is_other_open choice.records.journal.generation (h.reads start (other choice.records.side))
   beside = subst (IsBeside choice.is_other_open choice.records.journal.generation) (on_of (h.reads start) (other choice.records.side)) is.rest
 
-  pub choice_met : h.said mid ≡ h.said start → ((s : Side) → h.images start s (h.reads start s)) → MeetsAll h start mid (NowOf h start)
-      → MeetsAll h mid new (OnSideOf h mid there (MayBeShut choice.is_other_open (h.images mid there))) → MeetsAll h start new (IsOpening h start)
-  choice_met text image first second = opening_met h choice.records.side choice.records.journal.generation (payloads_of choice.records) start mid new here same durable text image choice.is_other_open beside first
-      (subst (λ (s : Side). MeetsAll h mid new (OnSideOf h mid s (MayBeShut choice.is_other_open (h.images mid s)))) is_there second)
+  pub choice_phases : h.said mid ≡ h.said start → h.written mid ≡ h.written start → MeetsAll h start mid (NowOf h start)
+      → MeetsAll h mid new (OnSideOf h mid there (MayBeShut choice.is_other_open (h.images mid there))) → OpensInTwoPhases h start new
+  choice_phases text cost first second = record {
+    synced = mid;
+    first = first;
+    unwritten = record { same = same; durable = durable; cost = cost };
+    second = read_met h choice.records.side choice.records.journal.generation (payloads_of choice.records) start mid new here same durable text choice.is_other_open beside
+        (subst (λ (s : Side). MeetsAll h mid new (OnSideOf h mid s (MayBeShut choice.is_other_open (h.images mid s)))) is_there second);
+  }
+
+  pub choice_left : KeepsAll h (other there) mid new → h.reads new there ≡ shut_where choice.is_other_open (h.reads mid there) → IsDurable h new there → IsLeftByOpening h start new
+  choice_left kept left only = left_by h choice.records.side choice.records.journal.generation (payloads_of choice.records) start mid new here same durable
+      (subst (λ (s : Side). KeepsAll h (other s) mid new) is_there kept) choice.is_other_open beside
+      (subst (λ (s : Side). h.reads new s ≡ shut_where choice.is_other_open (h.reads mid s)) is_there left) (subst (λ (s : Side). IsDurable h new s) is_there only)
 
   pub choice_pair : KeepsAll h (other there) mid new → h.reads new there ≡ shut_where choice.is_other_open (h.reads mid there) → IsDurable h new there
       → PairStands h choice.records.journal new (payloads_of choice.records)

@@ -1,11 +1,12 @@
--- Two open sides, of which the earlier one is closed.
-use Rattle.std.specs.Prelude.{◌≡◌, ℕ, List, [], ◌∷◌, Bool, true, false, nat_eq, if◌then◌else◌, drop}
+-- What an opening leaves: where two sides are open, the earlier one is closed.
+use Rattle.std.specs.Prelude.{◌≡◌, ◌⊎◌, ℕ, List, [], ◌∷◌, Bool, true, false, nat_eq, if◌then◌else◌, drop}
 use Rattle.host_model.specs.declared.host.Host.{Ghosts}
 use Rattle.host_model.specs.declared.side.Side.{Side}
 use Rattle.host_model.specs.declared.side.Side.TheVariants.{Left, Right}
+use Rattle.host_model.specs.Hosts.{IsDurable}
 use Rattle.host_model.specs.Sides.{other, on}
 use Rattle.gate_journal.specs.Journal.{SameButFirst}
-use Rattle.gate_journal.specs.Records.{IsOpen}
+use Rattle.gate_journal.specs.Records.{IsOpen, HasZeroFirst}
 use Rattle.pair_store.specs.Pair.{IsEarlier}
 
 -- whether the first byte is 1
@@ -31,6 +32,23 @@ pub record IsRepaired {H : Type 0} (h : Ghosts H) (start : H) (l r : List ℕ) :
   pub earlier : IsEarlier generation (h.reads start (other side))
   pub here : on side l r ≡ h.reads start side
   pub there : (byte : ℕ) × (on (other side) l r ≡ byte ∷ drop 1 (h.reads start (other side)))
+
+-- both sides were open, and the earlier one is closed by a first byte 0
+pub record IsEarlierClosed {H : Type 0} (h : Ghosts H) (start new : H) : Type 0 where
+  pub repaired : IsRepaired h start (h.reads new Left) (h.reads new Right)
+  pub zero : HasZeroFirst (h.reads new (other repaired.side))
+
+-- What an opening leaves where the disk hasn't failed: each image is what reads give, and they give what they gave at the
+-- start, but where the earlier of two open sides is closed.
+pub record IsLeftByOpening {H : Type 0} (h : Ghosts H) (start new : H) : Type 0 where
+  pub durable : (side : Side) → IsDurable h new side
+  pub bytes : ((side : Side) → h.reads new side ≡ h.reads start side) ⊎ IsEarlierClosed h start new
+
+-- nothing is written, and each image is what reads give
+pub record IsUnwritten {H : Type 0} (h : Ghosts H) (start new : H) : Type 0 where
+  pub same : (side : Side) → h.reads new side ≡ h.reads start side
+  pub durable : (side : Side) → IsDurable h new side
+  pub cost : h.written new ≡ h.written start
 
 -- what may be met on a side that is closed where it is open
 abbrev pub MayBeShut : Bool → (List ℕ → Type 0) → List ℕ → Type 0

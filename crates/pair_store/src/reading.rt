@@ -39,14 +39,14 @@ fn found_open(records: Records) -> Found
     }
 }
 
-/// Syncs the side and reads it.
+/// Syncs the side and reads it. It is synced also where memory is wanting.
 pub(crate) fn found<H: Host>(alloc: Global, host: &mut H, side: Side) -> Result<Found, PairFault>
     ensures found { H.tells → IfOk result (λ found. IsFound side (H.reads host.old side) found) }
     ensures no_answer { (IsErrOf result PairFault.NoStore → ⊥) × (IsErrOf result PairFault.BadStore → ⊥) }
 
     ensures any_moment { H.tells → MeetsAll H.Host host.old host.new (NowOf H.Host host.old) }
-    ensures durable { H.tells → OnOk result (IsDurable H.Host host.new side) }
-    ensures same { H.tells → OnOk result (H.reads host.new side ≡ H.reads host.old side) }
+    ensures durable { H.tells → ¬ IsErrOf result PairFault.DiskFault → IsDurable H.Host host.new side }
+    ensures same { H.tells → ¬ IsErrOf result PairFault.DiskFault → H.reads host.new side ≡ H.reads host.old side }
     ensures rest { H.tells → KeepsAll H.Host (other side) host.old host.new }
 
     ensures cost { H.tells → H.written host.new ≡ H.written host.old }
@@ -67,15 +67,15 @@ pub(crate) fn found<H: Host>(alloc: Global, host: &mut H, side: Side) -> Result<
     }
 }
 
-/// Syncs both sides and reads them.
+/// Syncs both sides and reads them. Both are synced also where memory is wanting.
 pub(crate) fn found_both<H: Host>(alloc: Global, host: &mut H) -> Result<(Found, Found), PairFault>
     ensures left { H.tells → IfOk result (λ both. IsFound Side.Left (H.reads host.old Side.Left) both.0) }
     ensures right { H.tells → IfOk result (λ both. IsFound Side.Right (H.reads host.old Side.Right) both.1) }
     ensures no_answer { (IsErrOf result PairFault.NoStore → ⊥) × (IsErrOf result PairFault.BadStore → ⊥) }
 
     ensures any_moment { H.tells → MeetsAll H.Host host.old host.new (NowOf H.Host host.old) }
-    ensures durable { H.tells → OnOk result ((side : Side) → IsDurable H.Host host.new side) }
-    ensures same { H.tells → OnOk result ((side : Side) → H.reads host.new side ≡ H.reads host.old side) }
+    ensures durable { H.tells → ¬ IsErrOf result PairFault.DiskFault → (side : Side) → IsDurable H.Host host.new side }
+    ensures same { H.tells → ¬ IsErrOf result PairFault.DiskFault → (side : Side) → H.reads host.new side ≡ H.reads host.old side }
     ensures text { H.tells → H.said host.new ≡ H.said host.old }
 
     ensures cost { H.tells → H.written host.new ≡ H.written host.old }
@@ -83,7 +83,12 @@ pub(crate) fn found_both<H: Host>(alloc: Global, host: &mut H) -> Result<(Found,
     ensures disk_faults { H.disk_faults host.old ≤ H.disk_faults host.new }
     ensures say_faults { H.say_faults host.new ≡ H.say_faults host.old }
 {
-    let left = found(alloc, host, Side::Left)?;
-    let right = found(alloc, host, Side::Right)?;
-    Ok((left, right))
+    match found(alloc, host, Side::Left) {
+        Ok(left) => Ok((left, found(alloc, host, Side::Right)?)),
+        Err(PairFault::OutOfMemory) => {
+            host.sync(Side::Right)?;
+            Err(PairFault::OutOfMemory)
+        }
+        Err(fault) => Err(fault),
+    }
 }

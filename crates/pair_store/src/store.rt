@@ -1,13 +1,12 @@
 // A pair of sides as one list of payloads.
-ghost use Rattle.std.specs.Prelude.{◌≡◌, ◌⊎◌, ◌<◌, ◌≤◌, ◌+◌, ◌++◌, ◌↔◌, [], ◌∷◌, List, ℕ, length, OnOk, OnErr, IfOk, IsOk, IsTrue, IsErrOf};
-ghost use Rattle.host_model.specs.declared.side.Side.{Side};
+ghost use Rattle.std.specs.Prelude.{◌≡◌, ◌⊎◌, ◌<◌, ◌≤◌, ◌+◌, ◌++◌, ◌↔◌, [], ◌∷◌, List, ℕ, length, drop, OnOk, OnErr, IfOk, IsOk, IsTrue, IsErrOf};
 ghost use Rattle.host_model.specs.Causes.{Rose, HasCause};
-ghost use Rattle.host_model.specs.Hosts.{IsDurable, MeetsAll};
+ghost use Rattle.host_model.specs.Hosts.{MeetsAll};
 ghost use Rattle.host_model.specs.Sides.{other};
 ghost use Rattle.gate_journal.specs.Costs.{HasCost};
-ghost use Rattle.pair_store.specs.Moments.{HasEither, KeepsEither, StaysBelow, IsOpening};
+ghost use Rattle.pair_store.specs.Moments.{HasEither, KeepsEither, StaysBelow, IsOpening, OpensInPhases};
 ghost use Rattle.pair_store.specs.Pair.{HasKeptList, generation_after, HasList, HasNoStore, IsBad};
-ghost use Rattle.pair_store.specs.Repair.{repair_cost, shut_first};
+ghost use Rattle.pair_store.specs.Repair.{repair_cost, shut_first, IsLeftByOpening, IsUnwritten};
 ghost use Rattle.pair_store.specs.Store.{PairStands, PairStandsWithGate, IsClosedOn, HasFailed};
 
 use crate::choice::chosen;
@@ -71,6 +70,9 @@ impl PairStore {
         ensures generation { IfOk result (λ store. store.generation ≡ 0) }
         ensures place { IfOk result (λ store. store.place ≡ length first.now + 14) }
 
+        // The right side is as it was, but for a first byte 0.
+        ensures right { H.tells → OnOk result (H.reads host.new Side.Right ≡ 0 ∷ drop 1 (H.reads host.old Side.Right)) }
+
         ensures below { H.tells → MeetsAll H.Host host.old host.new (StaysBelow H.Host host.old) }
 
         ensures cost { H.tells → HasCost (length first.now + 17) (H.written host.old) (H.written host.new) result }
@@ -89,7 +91,8 @@ impl PairStore {
     /// Syncs both sides and reads the list. Where both are open, it closes the earlier one.
     ///
     /// Want of memory and a fault of the disk aside, it answers `Ok` exactly where the pair has a list, `NoStore`
-    /// exactly where neither side's first byte is 1, and `BadStore` exactly where neither holds.
+    /// exactly where neither side's first byte is 1, and `BadStore` exactly where neither holds. Both sides are synced
+    /// also where memory is wanting.
     pub fn open<H: Host>(
         alloc: Global,
         host: &mut H,
@@ -114,11 +117,13 @@ impl PairStore {
 
         // At each moment the images are those of the start, or what reads gave then but for one byte.
         ensures any_moment { H.tells → MeetsAll H.Host host.old host.new (IsOpening H.Host host.old) }
+        ensures phases { H.tells → OpensInPhases H.Host host.old host.new result }
         ensures below { H.tells → MeetsAll H.Host host.old host.new (StaysBelow H.Host host.old) }
 
-        // Where it is refused, nothing is written, and each image is what reads give.
-        ensures refused { H.tells → IsErrOf result PairFault.NoStore ⊎ IsErrOf result PairFault.BadStore
-            → (side : Side) → IsDurable H.Host host.new side × (H.reads host.new side ≡ H.reads host.old side) }
+        // Unless the disk fails, each image is what reads give then, and an answer other than `Ok` writes nothing.
+        ensures left { H.tells → ¬ IsErrOf result PairFault.DiskFault → IsLeftByOpening H.Host host.old host.new }
+        ensures refused { H.tells → IsErrOf result PairFault.NoStore ⊎ IsErrOf result PairFault.BadStore ⊎ IsErrOf result PairFault.OutOfMemory
+            → IsUnwritten H.Host host.old host.new }
 
         ensures cost { H.tells → HasCost (repair_cost (H.reads host.old Side.Left) (H.reads host.old Side.Right)) (H.written host.old) (H.written host.new) result }
         ensures cause { IsErrOf result PairFault.DiskFault → Rose (H.disk_faults host.old) (H.disk_faults host.new) }

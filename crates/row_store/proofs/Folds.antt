@@ -14,7 +14,7 @@ use Rattle.row_store.specs.Ready.{IsWritten, payloads_after}
 use Rattle.row_store.specs.Rows.{HasRows, HasOneMap}
 use Rattle.row_store.specs.Store.{StoredRows, KeepsRows, place}
 use Rattle.std.specs.List.Sorted.{IsStrictlySortedBy}
-use Rattle.std.specs.Prelude.{◌⊎◌, IsErrOf}
+use Rattle.std.specs.Prelude.{◌⊎◌, Result, IsErrOf}
 use Rattle.gate_journal.specs.OpenSide.{OpenSide}
 use Rattle.host_model.specs.declared.host.Host.{Ghosts}
 use Rattle.host_model.specs.declared.side.Side.{Side}
@@ -25,7 +25,7 @@ use Rattle.host_model.proofs.Meeting.{met_weaker}
 use Rattle.pair_store.specs.declared.faults.PairFault.{PairFault}
 use Rattle.pair_store.specs.declared.faults.PairFault.TheVariants.{NoStore, BadStore, DiskFault, OutOfMemory}
 use Rattle.pair_store.specs.declared.mark.TheConstants.{MARK, MAX_WHOLE}
-use Rattle.pair_store.specs.Moments.{KeepsEither}
+use Rattle.pair_store.specs.Moments.{KeepsEither, OpensInPhases}
 use Rattle.pair_store.specs.Pair.{HasList}
 use Rattle.pair_store.specs.Store.{HasFailed, PairStandsWithGate}
 use Rattle.pair_store.proofs.Standing.{each_has_kept_list}
@@ -133,6 +133,12 @@ pub failed_too : {T U : Type 0} (fault : PairFault) → (false ≡ true) ⊎ Has
 failed_too fault (inl is) = inl is
 failed_too fault (inr (inl is)) = inr (inl (ap Err (fault_is fault DiskFault is)))
 failed_too fault (inr (inr is)) = inr (inr (ap Err (fault_is fault OutOfMemory is)))
+
+-- an opening of a pair has the same two phases whatever is answered then
+pub phases_on : {H T U : Type 0} (h : Ghosts H) (start new : H) (result : Result T PairFault) (answer : Result U PairFault) → (IsErrOf result DiskFault → IsErrOf answer DiskFault)
+    → OpensInPhases h start new result → OpensInPhases h start new answer
+phases_on h start new result answer failed (inl first) = inl (failed first.0, first.1)
+phases_on h start new result answer failed (inr both) = inr both
 
 -- one payload more is taken
 pub fold_on : (payload : List ℕ) (payloads : List (List ℕ)) (before after : List StoreRow) (batch : ChangeList) → IsBatchOf payload batch → after ≡ applied batch before → (rows : List StoreRow)

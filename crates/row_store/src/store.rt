@@ -1,14 +1,14 @@
 // A map of rows on the two sides of a host.
-ghost use Rattle.std.specs.Prelude.{◌≡◌, ◌⊎◌, ◌<◌, ◌≤◌, ◌+◌, ◌↔◌, [], ◌∷◌, List, ℕ, length, OnOk, OnErr, IfOk, IsOk, IsTrue, IsErrOf, option_map};
+ghost use Rattle.std.specs.Prelude.{◌≡◌, ◌⊎◌, ◌<◌, ◌≤◌, ◌+◌, ◌↔◌, [], ◌∷◌, List, ℕ, length, drop, OnOk, OnErr, IfOk, IsOk, IsTrue, IsErrOf, option_map};
 ghost use Rattle.gate_journal.specs.Costs.{HasCost};
 ghost use Rattle.gate_journal.specs.declared.frame.TheConstants.{MAX_PAYLOAD};
 ghost use Rattle.host_model.specs.declared.side.Side.TheVariants.{Left, Right};
 ghost use Rattle.host_model.specs.Causes.{Rose, HasCause};
 ghost use Rattle.host_model.specs.Hosts.{IsDurable, MeetsAll};
 ghost use Rattle.pair_store.specs.declared.mark.TheConstants.{MAX_WHOLE};
-ghost use Rattle.pair_store.specs.Moments.{StaysBelow, IsOpening};
+ghost use Rattle.pair_store.specs.Moments.{StaysBelow, IsOpening, OpensInPhases};
 ghost use Rattle.pair_store.specs.Pair.{HasNoStore};
-ghost use Rattle.pair_store.specs.Repair.{repair_cost};
+ghost use Rattle.pair_store.specs.Repair.{repair_cost, IsLeftByOpening, IsUnwritten};
 ghost use Rattle.pair_store.specs.Store.{IsClosedOn, HasFailed, PairStandsWithGate};
 ghost use Rattle.gate_journal.specs.OpenSide.{OpenSide};
 ghost use Rattle.row_batches.specs.declared.store_row.StoreRow.{StoreRow};
@@ -65,6 +65,9 @@ impl RowStore {
 
         ensures made { H.tells → OnOk result (KeepsRows H.Host host.new (applied whole.now [])) }
         ensures memory { IsErrOf result RowMakeFault.OutOfMemory → host.new ≡ host.old }
+
+        // The right side is as it was, but for a first byte 0.
+        ensures right { H.tells → OnOk result (H.reads host.new Right ≡ 0 ∷ drop 1 (H.reads host.old Right)) }
         ensures below { H.tells → MeetsAll H.Host host.old host.new (StaysBelow H.Host host.old) }
 
         ensures cost { H.tells → HasCost (length (batch_text whole.now) + 17) (H.written host.old) (H.written host.new) result }
@@ -82,6 +85,7 @@ impl RowStore {
     ///
     /// Want of memory and a fault of the disk aside, it answers `Ok` exactly where the disk has rows, `NoStore` exactly where
     /// nothing stands there, and `BadStore` exactly where neither holds: a store that is damaged, or a record that is no batch.
+    /// Both sides are synced also where memory is wanting.
     pub fn open<H: Host>(alloc: Global, host: &mut H) -> Result<RowStore, PairFault>
         ensures rows { H.tells → IfOk result (λ store. HasRows (H.reads host.old Left) (H.reads host.old Right) store.rows) }
         ensures opened { H.tells → IfOk result (λ store. RowsStand H.Host store host.new) }
@@ -98,7 +102,12 @@ impl RowStore {
 
         // At each moment the images are those of the start, or what reads gave then but for one byte.
         ensures any_moment { H.tells → MeetsAll H.Host host.old host.new (IsOpening H.Host host.old) }
+        ensures phases { H.tells → OpensInPhases H.Host host.old host.new result }
         ensures below { H.tells → MeetsAll H.Host host.old host.new (StaysBelow H.Host host.old) }
+
+        // Unless the disk fails, each image is what reads give then. Where there is no store, nothing is written.
+        ensures left { H.tells → ¬ IsErrOf result PairFault.DiskFault → IsLeftByOpening H.Host host.old host.new }
+        ensures none_written { H.tells → IsErrOf result PairFault.NoStore → IsUnwritten H.Host host.old host.new }
 
         ensures cost { H.tells → HasCost (repair_cost (H.reads host.old Left) (H.reads host.old Right)) (H.written host.old) (H.written host.new) result }
         ensures cause { IsErrOf result PairFault.DiskFault → Rose (H.disk_faults host.old) (H.disk_faults host.new) }
@@ -214,6 +223,7 @@ fn make_pair<H: Host>(host: &mut H, first: &Frame) -> Result<(), DiskFailed>
     requires fits { length first.now ≤ MAX_WHOLE }
     requires closed { H.tells → IsClosedOn H.Host host.old }
     ensures made { H.tells → OnOk result ((records : OpenSide) × PairStandsWithGate H.Host records host.new (first.now ∷ [])) }
+    ensures right { H.tells → OnOk result (H.reads host.new Right ≡ 0 ∷ drop 1 (H.reads host.old Right)) }
     ensures below { H.tells → MeetsAll H.Host host.old host.new (StaysBelow H.Host host.old) }
     ensures cost { H.tells → HasCost (length first.now + 17) (H.written host.old) (H.written host.new) result }
     ensures cause { HasCause (H.disk_faults host.old) (H.disk_faults host.new) result }

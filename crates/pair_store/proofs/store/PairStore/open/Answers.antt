@@ -1,258 +1,164 @@
-use Rattle.std.proofs.Common.{◌≡◌, inl, inr, ◌+◌, ◌≤◌, ℕ, List, Result, Err, if◌then◌else◌, sym, ◌∙◌, subst, arith}
+use Rattle.std.proofs.Common.{◌≡◌, ◌⊎◌, inl, inr, ◌+◌, ◌≤◌, ℕ, List, Result, Ok, Err, IsErrOf, if◌then◌else◌, refl, sym, ◌∙◌, subst, arith}
 use Rattle.std.proofs.lemmas.Result.{err_from_is_err_and}
 use Rattle.host_model.specs.declared.side.Side.{Side}
 use Rattle.host_model.specs.declared.side.Side.TheVariants.{Left, Right}
-use Rattle.host_model.specs.Sides.{other}
+use Rattle.host_model.specs.Hosts.{IsDurable}
 use Rattle.gate_journal.specs.Costs.{HasCost}
-use Rattle.gate_journal.specs.OpenSide.{OpenSide}
-use Rattle.pair_store.specs.declared.faults.PairFault.{PairFault}
-use Rattle.pair_store.specs.declared.faults.PairFault.TheVariants.{NoStore, BadStore}
-use Rattle.pair_store.specs.Choice.{payloads_of, IsAnswer, IsChoice}
-use Rattle.pair_store.specs.Pair.{HasList}
-use Rattle.pair_store.specs.Repair.{shut_first}
-use Rattle.pair_store.specs.Store.{PairStands, PairStandsWithGate}
+use Rattle.pair_store.specs.declared.faults.PairFault.TheVariants.{DiskFault}
+use Rattle.pair_store.specs.Choice.{IsChoice}
+use Rattle.pair_store.specs.Moments.{OpensInTwoPhases}
+use Rattle.pair_store.proofs.Answered.{IsRefused, refused, IsOpened, opened}
 use Rattle.pair_store.proofs.Below.{now_met, shut_met, then_below}
-use Rattle.pair_store.proofs.Opening.{refused_no_list, refused_closed, refused_bad, choice_met, choice_pair, choice_with_gate, choice_shut, choice_cost, choice_is_store, choice_not_bad, answer_list, closed_image, cost_at_err, passed_on, came_from}
+use Rattle.pair_store.proofs.Opening.{choice_phases, choice_cost, choice_is_store, choice_not_bad, closed_image, cost_at_err, came_from}
+use Rattle.pair_store.proofs.Phases.{phases_opening, refusal_phases}
+use Rattle.pair_store.proofs.store.PairStore.open.Given.{Over}
 use Rattle.pair_store.proofs.store.PairStore.open.Goals as goal
+
+-- ---- a pair that isn't read
 
 pub returns-in_err-left-clause-below : goal.returns-in_err-left-clause-below
 returns-in_err-left-clause-below g c tells = now_met g.H.Host c.args.host.now c.found_both.new.host (c.found_both.ensures.any_moment tells)
 
+pub returns-in_err-left-clause-phases : goal.returns-in_err-left-clause-phases
+returns-in_err-left-clause-phases g c tells =
+    let new = c.found_both.new.host in
+    let e = c.in_err-left.field-0.0 in
+    let p = err_from_is_err_and c.from_residual.result c.from_residual.ensures.1 in
+    refusal_phases g.H.Host c.args.host.now new (λ l r u met. g.met.H.Host.only_now new l r u tells met) (c.found_both.ensures.text tells) (c.found_both.ensures.any_moment tells)
+    c.from_residual.result e (cc (p.1, p.2)) (λ other. record {
+      same = c.in_err-left.ensures.same tells (λ failed. other (came_from (Err e) e DiskFault refl failed));
+      durable = c.in_err-left.ensures.durable tells (λ failed. other (came_from (Err e) e DiskFault refl failed));
+      cost = c.found_both.ensures.cost tells;
+    })
+
+-- ---- a pair that is refused
+
+is_refused : (g : Over) (c : goal.After-from_residual-in_err-choice g) → g.H.Host.tells → IsRefused (g.H.Host.reads c.args.host.now Left) (g.H.Host.reads c.args.host.now Right) c.from_residual-in_err-choice.result
+is_refused g c tells =
+    let l = g.H.Host.reads c.args.host.now Left in
+    let r = g.H.Host.reads c.args.host.now Right in
+    let p = err_from_is_err_and c.from_residual-in_err-choice.result c.from_residual-in_err-choice.ensures.1 in
+    refused l r c.from_residual-in_err-choice.result c.in_err-choice.field-0.0 (cc (p.1, p.2)) (c.in_err-choice.ensures.answer l r (c.in_ok-left.ensures.left tells) (c.in_ok-left.ensures.right tells))
+
 pub returns-in_err-choice-clause-below : goal.returns-in_err-choice-clause-below
 returns-in_err-choice-clause-below g c tells = now_met g.H.Host c.args.host.now c.found_both.new.host (c.found_both.ensures.any_moment tells)
 
--- a pair that is refused
 pub returns-in_err-choice-clause-opened_where : goal.returns-in_err-choice-clause-opened_where
-returns-in_err-choice-clause-opened_where g c tells payloads has =
-    let h = g.H.Host in
-    let old = c.args.host.now in
-    let l = h.reads old Left in
-    let r = h.reads old Right in
-    let e = c.in_err-choice.field-0.0 in
-    let answer : IsAnswer l r (Err e) = c.in_err-choice.ensures.answer l r (c.in_ok-left.ensures.left tells) (c.in_ok-left.ensures.right tells) in
-    absurd (refused_no_list l r e answer payloads has)
+returns-in_err-choice-clause-opened_where g c tells payloads has = absurd ((is_refused g c tells).no_list payloads has)
 
 pub returns-in_err-choice-clause-no_store : goal.returns-in_err-choice-clause-no_store
-returns-in_err-choice-clause-no_store g c tells none =
-    let h = g.H.Host in
-    let old = c.args.host.now in
-    let l = h.reads old Left in
-    let r = h.reads old Right in
-    let e = c.in_err-choice.field-0.0 in
-    let answer : IsAnswer l r (Err e) = c.in_err-choice.ensures.answer l r (c.in_ok-left.ensures.left tells) (c.in_ok-left.ensures.right tells) in
-    let p = err_from_is_err_and c.from_residual-in_err-choice.result c.from_residual-in_err-choice.ensures.1 in
-    let is : c.from_residual-in_err-choice.result ≡ Err e = cc (p.1, p.2) in
-    subst (λ (f : PairFault). IsAnswer l r (Err f)) (came_from c.from_residual-in_err-choice.result e NoStore is none) answer
+returns-in_err-choice-clause-no_store g c tells = (is_refused g c tells).no_store
 
 pub returns-in_err-choice-clause-none_open : goal.returns-in_err-choice-clause-none_open
 returns-in_err-choice-clause-none_open g c tells none side image left =
-    let h = g.H.Host in
-    let old = c.args.host.now in
-    let l = h.reads old Left in
-    let r = h.reads old Right in
-    let e = c.in_err-choice.field-0.0 in
-    let answer : IsAnswer l r (Err e) = c.in_err-choice.ensures.answer l r (c.in_ok-left.ensures.left tells) (c.in_ok-left.ensures.right tells) in
-    let p = err_from_is_err_and c.from_residual-in_err-choice.result c.from_residual-in_err-choice.ensures.1 in
-    let is : c.from_residual-in_err-choice.result ≡ Err e = cc (p.1, p.2) in
-    closed_image (h.reads old) side image (subst (λ (f : PairFault). IsAnswer l r (Err f)) (came_from c.from_residual-in_err-choice.result e NoStore is none) answer) (c.in_ok-left.ensures.durable tells side image left ∙ c.in_ok-left.ensures.same tells side)
+    closed_image (g.H.Host.reads c.args.host.now) side image ((is_refused g c tells).no_store none)
+    (c.in_ok-left.ensures.durable tells (λ failed. cc) side image left ∙ c.in_ok-left.ensures.same tells (λ failed. cc) side)
 
 pub returns-in_err-choice-clause-no_store_where : goal.returns-in_err-choice-clause-no_store_where
-returns-in_err-choice-clause-no_store_where g c tells closed =
-    let h = g.H.Host in
-    let old = c.args.host.now in
-    let l = h.reads old Left in
-    let r = h.reads old Right in
-    let e = c.in_err-choice.field-0.0 in
-    let answer : IsAnswer l r (Err e) = c.in_err-choice.ensures.answer l r (c.in_ok-left.ensures.left tells) (c.in_ok-left.ensures.right tells) in
-    let p = err_from_is_err_and c.from_residual-in_err-choice.result c.from_residual-in_err-choice.ensures.1 in
-    let is : c.from_residual-in_err-choice.result ≡ Err e = cc (p.1, p.2) in
-    inl (passed_on c.from_residual-in_err-choice.result e NoStore is (refused_closed l r e answer closed))
+returns-in_err-choice-clause-no_store_where g c tells closed = inl ((is_refused g c tells).no_store_where closed)
 
 pub returns-in_err-choice-clause-bad_store : goal.returns-in_err-choice-clause-bad_store
-returns-in_err-choice-clause-bad_store g c tells bad =
-    let h = g.H.Host in
-    let old = c.args.host.now in
-    let l = h.reads old Left in
-    let r = h.reads old Right in
-    let e = c.in_err-choice.field-0.0 in
-    let answer : IsAnswer l r (Err e) = c.in_err-choice.ensures.answer l r (c.in_ok-left.ensures.left tells) (c.in_ok-left.ensures.right tells) in
-    let p = err_from_is_err_and c.from_residual-in_err-choice.result c.from_residual-in_err-choice.ensures.1 in
-    let is : c.from_residual-in_err-choice.result ≡ Err e = cc (p.1, p.2) in
-    subst (λ (f : PairFault). IsAnswer l r (Err f)) (came_from c.from_residual-in_err-choice.result e BadStore is bad) answer
+returns-in_err-choice-clause-bad_store g c tells = (is_refused g c tells).bad_store
 
 pub returns-in_err-choice-clause-bad_store_where : goal.returns-in_err-choice-clause-bad_store_where
-returns-in_err-choice-clause-bad_store_where g c tells bad =
-    let h = g.H.Host in
-    let old = c.args.host.now in
-    let l = h.reads old Left in
-    let r = h.reads old Right in
-    let e = c.in_err-choice.field-0.0 in
-    let answer : IsAnswer l r (Err e) = c.in_err-choice.ensures.answer l r (c.in_ok-left.ensures.left tells) (c.in_ok-left.ensures.right tells) in
-    let p = err_from_is_err_and c.from_residual-in_err-choice.result c.from_residual-in_err-choice.ensures.1 in
-    let is : c.from_residual-in_err-choice.result ≡ Err e = cc (p.1, p.2) in
-    inl (passed_on c.from_residual-in_err-choice.result e BadStore is (refused_bad l r e answer bad))
+returns-in_err-choice-clause-bad_store_where g c tells bad = inl ((is_refused g c tells).bad_store_where bad)
 
--- and one that is opened
+-- ---- a pair that is opened
+
+is_choice : (g : Over) (c : goal.After-store_of g) → g.H.Host.tells → IsChoice (g.H.Host.reads c.args.host.now Left) (g.H.Host.reads c.args.host.now Right) c.in_ok-choice.choice
+is_choice g c tells = c.in_ok-choice.ensures.answer (g.H.Host.reads c.args.host.now Left) (g.H.Host.reads c.args.host.now Right) (c.in_ok-left.ensures.left tells) (c.in_ok-left.ensures.right tells)
+
+is_opened : (g : Over) (c : goal.After-store_of g) → g.H.Host.tells → IsOpened g.H.Host c.args.host.now c.shut_side.new.host c.store_of.result.0 c.store_of.result.1
+is_opened g c tells =
+    let durable : (s : Side) → IsDurable g.H.Host c.found_both.new.host s = c.in_ok-left.ensures.durable tells (λ failed. cc) in
+    opened g.H.Host c.in_ok-choice.choice c.other.result c.args.host.now c.found_both.new.host c.shut_side.new.host (is_choice g c tells) c.other.ensures
+    (c.in_ok-left.ensures.same tells (λ failed. cc)) durable (c.shut_side.ensures.rest tells) (c.in_ok-shut_side.ensures.reads tells)
+    (c.in_ok-shut_side.ensures.durable tells (durable c.other.result)) c.store_of.result.0 c.store_of.result.1 c.store_of.ensures.store c.store_of.ensures.payloads
+
+in_phases : (g : Over) (c : goal.After-store_of g) → g.H.Host.tells → OpensInTwoPhases g.H.Host c.args.host.now c.shut_side.new.host
+in_phases g c tells =
+    choice_phases g.H.Host c.in_ok-choice.choice c.other.result c.args.host.now c.found_both.new.host c.shut_side.new.host (is_choice g c tells) c.other.ensures
+    (c.in_ok-left.ensures.same tells (λ failed. cc)) (c.in_ok-left.ensures.durable tells (λ failed. cc))
+    (c.in_ok-left.ensures.text tells) (c.found_both.ensures.cost tells) (c.in_ok-left.ensures.any_moment tells) (c.shut_side.ensures.any_moment tells)
+
 pub returns-clause-list : goal.returns-clause-list
-returns-clause-list g c tells =
-    let h = g.H.Host in
-    let old = c.args.host.now in
-    let l = h.reads old Left in
-    let r = h.reads old Right in
-    let choice = c.in_ok-choice.choice in
-    let is : IsChoice l r choice = c.in_ok-choice.ensures.answer l r (c.in_ok-left.ensures.left tells) (c.in_ok-left.ensures.right tells) in
-    let mid = c.found_both.new.host in
-    let new = c.shut_side.new.host in
-    subst (λ (payloads : List (List ℕ)). HasList l r payloads) (sym c.store_of.ensures.payloads) (answer_list l r choice is)
+returns-clause-list g c tells = (is_opened g c tells).list
 
 pub returns-clause-no_store_where : goal.returns-clause-no_store_where
-returns-clause-no_store_where g c tells closed =
-    let h = g.H.Host in
-    let old = c.args.host.now in
-    let l = h.reads old Left in
-    let r = h.reads old Right in
-    let choice = c.in_ok-choice.choice in
-    let is : IsChoice l r choice = c.in_ok-choice.ensures.answer l r (c.in_ok-left.ensures.left tells) (c.in_ok-left.ensures.right tells) in
-    let mid = c.found_both.new.host in
-    let new = c.shut_side.new.host in
-    absurd (choice_is_store l r choice is closed)
+returns-clause-no_store_where g c tells closed = absurd (choice_is_store (g.H.Host.reads c.args.host.now Left) (g.H.Host.reads c.args.host.now Right) c.in_ok-choice.choice (is_choice g c tells) closed)
 
 pub returns-clause-bad_store_where : goal.returns-clause-bad_store_where
-returns-clause-bad_store_where g c tells bad =
-    let h = g.H.Host in
-    let old = c.args.host.now in
-    let l = h.reads old Left in
-    let r = h.reads old Right in
-    let choice = c.in_ok-choice.choice in
-    let is : IsChoice l r choice = c.in_ok-choice.ensures.answer l r (c.in_ok-left.ensures.left tells) (c.in_ok-left.ensures.right tells) in
-    let mid = c.found_both.new.host in
-    let new = c.shut_side.new.host in
-    absurd (choice_not_bad l r choice is bad)
+returns-clause-bad_store_where g c tells bad = absurd (choice_not_bad (g.H.Host.reads c.args.host.now Left) (g.H.Host.reads c.args.host.now Right) c.in_ok-choice.choice (is_choice g c tells) bad)
 
 pub returns-clause-opened : goal.returns-clause-opened
-returns-clause-opened g c tells =
-    let h = g.H.Host in
-    let old = c.args.host.now in
-    let l = h.reads old Left in
-    let r = h.reads old Right in
-    let choice = c.in_ok-choice.choice in
-    let is : IsChoice l r choice = c.in_ok-choice.ensures.answer l r (c.in_ok-left.ensures.left tells) (c.in_ok-left.ensures.right tells) in
-    let mid = c.found_both.new.host in
-    let new = c.shut_side.new.host in
-    subst (λ (store : OpenSide). PairStands h store new c.store_of.result.1) (sym c.store_of.ensures.store)
-    (subst (λ (payloads : List (List ℕ)). PairStands h choice.records.journal new payloads) (sym c.store_of.ensures.payloads)
-    (choice_pair h choice c.other.result old mid new is c.other.ensures (c.in_ok-left.ensures.same tells) (c.in_ok-left.ensures.durable tells)
-    (c.shut_side.ensures.rest tells) (c.in_ok-shut_side.ensures.reads tells) (c.in_ok-shut_side.ensures.durable tells (c.in_ok-left.ensures.durable tells c.other.result))))
+returns-clause-opened g c tells = (is_opened g c tells).stands
 
 pub returns-clause-gate : goal.returns-clause-gate
-returns-clause-gate g c tells payloads has =
-    let h = g.H.Host in
-    let old = c.args.host.now in
-    let l = h.reads old Left in
-    let r = h.reads old Right in
-    let choice = c.in_ok-choice.choice in
-    let is : IsChoice l r choice = c.in_ok-choice.ensures.answer l r (c.in_ok-left.ensures.left tells) (c.in_ok-left.ensures.right tells) in
-    let mid = c.found_both.new.host in
-    let new = c.shut_side.new.host in
-    let stands = choice_pair h choice c.other.result old mid new is c.other.ensures (c.in_ok-left.ensures.same tells) (c.in_ok-left.ensures.durable tells)
-    (c.shut_side.ensures.rest tells) (c.in_ok-shut_side.ensures.reads tells) (c.in_ok-shut_side.ensures.durable tells (c.in_ok-left.ensures.durable tells c.other.result)) in
-    subst (λ (store : OpenSide). PairStandsWithGate h store new payloads) (sym c.store_of.ensures.store)
-    (choice_with_gate h choice c.other.result old mid new is c.other.ensures (c.in_ok-left.ensures.same tells) (c.in_ok-left.ensures.durable tells)
-    (c.shut_side.ensures.rest tells) stands payloads has)
+returns-clause-gate g c tells = (is_opened g c tells).gate
 
 pub returns-clause-shut : goal.returns-clause-shut
-returns-clause-shut g c tells =
-    let h = g.H.Host in
-    let old = c.args.host.now in
-    let l = h.reads old Left in
-    let r = h.reads old Right in
-    let choice = c.in_ok-choice.choice in
-    let is : IsChoice l r choice = c.in_ok-choice.ensures.answer l r (c.in_ok-left.ensures.left tells) (c.in_ok-left.ensures.right tells) in
-    let mid = c.found_both.new.host in
-    let new = c.shut_side.new.host in
-    subst (λ (store : OpenSide). h.reads new (other store.side) ≡ shut_first (h.reads old (other store.side))) (sym c.store_of.ensures.store)
-    (choice_shut h choice c.other.result old mid new is c.other.ensures (c.in_ok-left.ensures.same tells) (c.in_ok-left.ensures.durable tells) (c.in_ok-shut_side.ensures.reads tells))
+returns-clause-shut g c tells = (is_opened g c tells).shut
 
-pub returns-in_err-shut_side-clause-any_moment : goal.returns-in_err-shut_side-clause-any_moment
-returns-in_err-shut_side-clause-any_moment g c tells =
-    let h = g.H.Host in
-    let old = c.args.host.now in
-    let l = h.reads old Left in
-    let r = h.reads old Right in
-    let choice = c.in_ok-choice.choice in
-    let is : IsChoice l r choice = c.in_ok-choice.ensures.answer l r (c.in_ok-left.ensures.left tells) (c.in_ok-left.ensures.right tells) in
-    let mid = c.found_both.new.host in
-    let new = c.shut_side.new.host in
-    choice_met h choice c.other.result old mid new is c.other.ensures (c.in_ok-left.ensures.same tells) (c.in_ok-left.ensures.durable tells)
-    (c.in_ok-left.ensures.text tells) (λ s. g.met.H.Host.read_is_image old s tells) (c.in_ok-left.ensures.any_moment tells) (c.shut_side.ensures.any_moment tells)
+pub returns-clause-left : goal.returns-clause-left
+returns-clause-left g c tells other = (is_opened g c tells).left
+
+pub returns-clause-phases : goal.returns-clause-phases
+returns-clause-phases g c tells = inr (in_phases g c tells)
 
 pub returns-clause-any_moment : goal.returns-clause-any_moment
-returns-clause-any_moment g c tells =
-    let h = g.H.Host in
-    let old = c.args.host.now in
-    let l = h.reads old Left in
-    let r = h.reads old Right in
-    let choice = c.in_ok-choice.choice in
-    let is : IsChoice l r choice = c.in_ok-choice.ensures.answer l r (c.in_ok-left.ensures.left tells) (c.in_ok-left.ensures.right tells) in
-    let mid = c.found_both.new.host in
-    let new = c.shut_side.new.host in
-    choice_met h choice c.other.result old mid new is c.other.ensures (c.in_ok-left.ensures.same tells) (c.in_ok-left.ensures.durable tells)
-    (c.in_ok-left.ensures.text tells) (λ s. g.met.H.Host.read_is_image old s tells) (c.in_ok-left.ensures.any_moment tells) (c.shut_side.ensures.any_moment tells)
-
-pub returns-in_err-shut_side-clause-below : goal.returns-in_err-shut_side-clause-below
-returns-in_err-shut_side-clause-below g c tells =
-    let h = g.H.Host in
-    let old = c.args.host.now in
-    let l = h.reads old Left in
-    let r = h.reads old Right in
-    let choice = c.in_ok-choice.choice in
-    let is : IsChoice l r choice = c.in_ok-choice.ensures.answer l r (c.in_ok-left.ensures.left tells) (c.in_ok-left.ensures.right tells) in
-    let mid = c.found_both.new.host in
-    let new = c.shut_side.new.host in
-    then_below h old mid new (λ l r u le now. g.met.H.Host.counts_now mid (h.moment old) l r u tells le now) (λ s. g.met.H.Host.read_is_image mid s tells)
-    (now_met h old mid (c.found_both.ensures.any_moment tells)) (shut_met h mid new choice.is_other_open c.other.result (c.shut_side.ensures.any_moment tells))
+returns-clause-any_moment g c tells = phases_opening g.H.Host c.args.host.now c.shut_side.new.host (λ s. g.met.H.Host.read_is_image c.args.host.now s tells) (in_phases g c tells)
 
 pub returns-clause-below : goal.returns-clause-below
 returns-clause-below g c tells =
     let h = g.H.Host in
     let old = c.args.host.now in
-    let l = h.reads old Left in
-    let r = h.reads old Right in
-    let choice = c.in_ok-choice.choice in
-    let is : IsChoice l r choice = c.in_ok-choice.ensures.answer l r (c.in_ok-left.ensures.left tells) (c.in_ok-left.ensures.right tells) in
     let mid = c.found_both.new.host in
     let new = c.shut_side.new.host in
     then_below h old mid new (λ l r u le now. g.met.H.Host.counts_now mid (h.moment old) l r u tells le now) (λ s. g.met.H.Host.read_is_image mid s tells)
-    (now_met h old mid (c.found_both.ensures.any_moment tells)) (shut_met h mid new choice.is_other_open c.other.result (c.shut_side.ensures.any_moment tells))
+    (now_met h old mid (c.found_both.ensures.any_moment tells)) (shut_met h mid new c.in_ok-choice.choice.is_other_open c.other.result (c.shut_side.ensures.any_moment tells))
+
+pub returns-clause-cost : goal.returns-clause-cost
+returns-clause-cost g c tells =
+    let cost = c.shut_side.ensures.cost tells in
+    let exact = (c.in_ok-shut_side.ensures.cost tells).exact in
+    let same = c.found_both.ensures.cost tells in
+    let bytes = choice_cost (g.H.Host.reads c.args.host.now Left) (g.H.Host.reads c.args.host.now Right) c.in_ok-choice.choice (is_choice g c tells) in
+    record { exact = omega (arith, exact, same, bytes); least = omega (arith, cost.least, same); most = omega (arith, cost.most, same, bytes) }
+
+-- ---- a pair whose earlier side isn't closed, since the disk has failed
+
+still_choice : (g : Over) (c : goal.After-drop-choice g) → g.H.Host.tells → IsChoice (g.H.Host.reads c.args.host.now Left) (g.H.Host.reads c.args.host.now Right) c.in_ok-choice.choice
+still_choice g c tells = c.in_ok-choice.ensures.answer (g.H.Host.reads c.args.host.now Left) (g.H.Host.reads c.args.host.now Right) (c.in_ok-left.ensures.left tells) (c.in_ok-left.ensures.right tells)
+
+still_in_phases : (g : Over) (c : goal.After-drop-choice g) → g.H.Host.tells → OpensInTwoPhases g.H.Host c.args.host.now c.shut_side.new.host
+still_in_phases g c tells =
+    choice_phases g.H.Host c.in_ok-choice.choice c.other.result c.args.host.now c.found_both.new.host c.shut_side.new.host (still_choice g c tells) c.other.ensures
+    (c.in_ok-left.ensures.same tells (λ failed. cc)) (c.in_ok-left.ensures.durable tells (λ failed. cc))
+    (c.in_ok-left.ensures.text tells) (c.found_both.ensures.cost tells) (c.in_ok-left.ensures.any_moment tells) (c.shut_side.ensures.any_moment tells)
+
+pub returns-in_err-shut_side-clause-phases : goal.returns-in_err-shut_side-clause-phases
+returns-in_err-shut_side-clause-phases g c tells = inr (still_in_phases g c tells)
+
+pub returns-in_err-shut_side-clause-any_moment : goal.returns-in_err-shut_side-clause-any_moment
+returns-in_err-shut_side-clause-any_moment g c tells = phases_opening g.H.Host c.args.host.now c.shut_side.new.host (λ s. g.met.H.Host.read_is_image c.args.host.now s tells) (still_in_phases g c tells)
+
+pub returns-in_err-shut_side-clause-below : goal.returns-in_err-shut_side-clause-below
+returns-in_err-shut_side-clause-below g c tells =
+    let h = g.H.Host in
+    let old = c.args.host.now in
+    let mid = c.found_both.new.host in
+    let new = c.shut_side.new.host in
+    then_below h old mid new (λ l r u le now. g.met.H.Host.counts_now mid (h.moment old) l r u tells le now) (λ s. g.met.H.Host.read_is_image mid s tells)
+    (now_met h old mid (c.found_both.ensures.any_moment tells)) (shut_met h mid new c.in_ok-choice.choice.is_other_open c.other.result (c.shut_side.ensures.any_moment tells))
 
 pub returns-in_err-shut_side-clause-cost : goal.returns-in_err-shut_side-clause-cost
 returns-in_err-shut_side-clause-cost g c tells =
     let h = g.H.Host in
     let old = c.args.host.now in
-    let l = h.reads old Left in
-    let r = h.reads old Right in
-    let choice = c.in_ok-choice.choice in
-    let is : IsChoice l r choice = c.in_ok-choice.ensures.answer l r (c.in_ok-left.ensures.left tells) (c.in_ok-left.ensures.right tells) in
-    let mid = c.found_both.new.host in
     let new = c.shut_side.new.host in
     let cost = c.shut_side.ensures.cost tells in
     let same = c.found_both.ensures.cost tells in
-    subst (λ (n : ℕ). HasCost n (h.written old) (h.written new) c.from_residual-in_err-shut_side.result) (sym (choice_cost l r choice is))
-    (cost_at_err (if choice.is_other_open then 1 else 0) (h.written old) (h.written new) c.from_residual-in_err-shut_side.result c.from_residual-in_err-shut_side.ensures.0
+    subst (λ (n : ℕ). HasCost n (h.written old) (h.written new) c.from_residual-in_err-shut_side.result)
+    (sym (choice_cost (h.reads old Left) (h.reads old Right) c.in_ok-choice.choice (still_choice g c tells)))
+    (cost_at_err (if c.in_ok-choice.choice.is_other_open then 1 else 0) (h.written old) (h.written new) c.from_residual-in_err-shut_side.result c.from_residual-in_err-shut_side.ensures.0
     (omega (arith, cost.least, same)) (omega (arith, cost.most, same)))
-
-pub returns-clause-cost : goal.returns-clause-cost
-returns-clause-cost g c tells =
-    let h = g.H.Host in
-    let old = c.args.host.now in
-    let l = h.reads old Left in
-    let r = h.reads old Right in
-    let choice = c.in_ok-choice.choice in
-    let is : IsChoice l r choice = c.in_ok-choice.ensures.answer l r (c.in_ok-left.ensures.left tells) (c.in_ok-left.ensures.right tells) in
-    let mid = c.found_both.new.host in
-    let new = c.shut_side.new.host in
-    let cost = c.shut_side.ensures.cost tells in
-    let exact = (c.in_ok-shut_side.ensures.cost tells).exact in
-    let same = c.found_both.ensures.cost tells in
-    let bytes = choice_cost l r choice is in
-    record { exact = omega (arith, exact, same, bytes); least = omega (arith, cost.least, same); most = omega (arith, cost.most, same, bytes) }

@@ -1,7 +1,7 @@
 use Rattle.std.proofs.Common.{◌≡◌, Err, inl, inr, ap}
-use Rattle.pair_store.specs.declared.faults.PairFault.TheVariants.{BadStore}
+use Rattle.pair_store.specs.declared.faults.PairFault.TheVariants.{NoStore, BadStore, DiskFault}
 use Rattle.host_model.specs.declared.side.Side.TheVariants.{Left, Right}
-use Rattle.row_store.proofs.Folds.{failed, failed_too, fault_is, fold_same, not_ok}
+use Rattle.row_store.proofs.Folds.{failed, failed_too, fault_is, fold_same, not_ok, phases_on}
 use Rattle.row_store.specs.Store.{StoredRows}
 use Rattle.row_store.proofs.Gates.{kept_gate}
 use Rattle.row_store.proofs.store.RowStore.open.Goals as goal
@@ -42,3 +42,27 @@ returns-in-Ok-rows_of-clause-gate g c tells rows kept =
 
 pub returns-in-Ok-rows_of-clause-place : goal.returns-in-Ok-rows_of-clause-place
 returns-in-Ok-rows_of-clause-place g c tells = (c.in-Ok.payloads, c.in-Ok.ensures.list tells, (c.in-Ok.ensures.opened tells).side.place)
+
+pub returns-in-Ok-rows_of-clause-phases : goal.returns-in-Ok-rows_of-clause-phases
+returns-in-Ok-rows_of-clause-phases g c tells = phases_on g.H.Host c.args.host.now c.open.new.host _ _ (λ other. cc) (c.in-Ok.ensures.phases tells)
+
+pub returns-in-Err-rows_of-clause-phases : goal.returns-in-Err-rows_of-clause-phases
+returns-in-Err-rows_of-clause-phases g c tells = phases_on g.H.Host c.args.host.now c.open.new.host _ _ (λ other. cc) (c.in-Ok.ensures.phases tells)
+
+pub returns-in-Err-clause-phases : goal.returns-in-Err-clause-phases
+returns-in-Err-clause-phases g c tells = phases_on g.H.Host c.args.host.now c.open.new.host _ _ (λ other. ap Err (fault_is c.in-Err.fault DiskFault other)) (c.in-Err.ensures.phases tells)
+
+pub returns-in-Ok-rows_of-clause-left : goal.returns-in-Ok-rows_of-clause-left
+returns-in-Ok-rows_of-clause-left g c tells healthy = c.in-Ok.ensures.left tells (λ other. cc)
+
+pub returns-in-Err-rows_of-clause-left : goal.returns-in-Err-rows_of-clause-left
+returns-in-Err-rows_of-clause-left g c tells healthy = c.in-Ok.ensures.left tells (λ other. cc)
+
+pub returns-in-Err-clause-left : goal.returns-in-Err-clause-left
+returns-in-Err-clause-left g c tells healthy = c.in-Err.ensures.left tells (λ other. healthy (ap Err (fault_is c.in-Err.fault DiskFault other)))
+
+pub returns-in-Err-rows_of-clause-none_written : goal.returns-in-Err-rows_of-clause-none_written
+returns-in-Err-rows_of-clause-none_written g c tells is = absurd (c.in-Err-rows_of.ensures.no_other.0 (ap Err (fault_is c.in-Err-rows_of.fault NoStore is)))
+
+pub returns-in-Err-clause-none_written : goal.returns-in-Err-clause-none_written
+returns-in-Err-clause-none_written g c tells is = c.in-Err.ensures.refused tells (inl (ap Err (fault_is c.in-Err.fault NoStore is)))
