@@ -1,6 +1,7 @@
 pub mod Walks
 pub mod Cleared
 pub mod Fields
+pub mod FieldsRead
 pub mod Found
 pub mod Joining
 pub mod Gaps

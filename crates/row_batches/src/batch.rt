@@ -64,7 +64,7 @@ impl Batch {
         }
     }
 
-    /// A clear of all rows and a put of each of these. The one error is want of memory.
+    /// A clear of all rows and a put of each of these.
     pub fn whole_of(alloc: Global, rows: Sequence<StoreRow>) -> Result<Batch, AllocError>
         requires rise { AreRows rows }
         requires room { HaveRoom rows }

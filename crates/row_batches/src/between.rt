@@ -15,7 +15,7 @@ use std::alloc::{AllocError, Global};
 use std::cmp::Ordering;
 
 /// The batch from the old rows to the new ones: a put for each row that is new or differs, a delete for each that is gone,
-/// and nothing else. Both lists are walked once. The one error is want of memory.
+/// and nothing else. Both lists are walked once.
 pub fn change_between(
     alloc: Global,
     old: &[StoreRow],

@@ -14,7 +14,7 @@ use std::cmp::Ordering;
 
 impl Batch {
     /// The bytes of a clear and a put of each row that stands after the batch, where these stood before it. Both lists are
-    /// walked once, and no row is copied but into the bytes. The one error is want of memory.
+    /// walked once, and no row is copied but into the bytes.
     pub fn whole_after(&self, alloc: Global, rows: &[StoreRow]) -> Result<Vec<u8>, AllocError>
         requires { AreRows rows.now }
         ensures { IfOk result (λ bytes. bytes.items ≡ batch_text (whole_of (applied self.now rows.now))) }

@@ -66,10 +66,7 @@ fn short_field(bytes: &[u8]) -> Option<(&[u8], &[u8])>
 {
     let (size, rest) = bytes.split_first_chunk::<2>()?;
     let len = u16::from_be_bytes(*size) as usize;
-    if rest.len() < len {
-        return None;
-    }
-    Some(rest.split_at(len))
+    rest.split_at_checked(len)
 }
 
 // The field at the front whose number of bytes stands in four bytes, and what follows it.
@@ -79,8 +76,5 @@ fn long_field(bytes: &[u8]) -> Option<(&[u8], &[u8])>
 {
     let (size, rest) = bytes.split_first_chunk::<4>()?;
     let len = u32::from_be_bytes(*size) as usize;
-    if rest.len() < len {
-        return None;
-    }
-    Some(rest.split_at(len))
+    rest.split_at_checked(len)
 }

@@ -20,7 +20,7 @@ pub(crate) const DELETE: u8 = 2;
 impl Batch {
     /// The bytes of the batch: the byte 0 for a clear, and each change. A put is the byte 1, the number of the key's bytes in
     /// two bytes, the key, the number of the value's bytes in four bytes and the value; a delete is the byte 2, the number of
-    /// the key's bytes in two bytes and the key. The highest byte of a number stands first. The one error is want of memory.
+    /// the key's bytes in two bytes and the key. The highest byte of a number stands first.
     pub fn bytes(&self, alloc: Global) -> Result<Vec<u8>, AllocError>
         ensures bytes { IfOk result (λ bytes. bytes.items ≡ batch_text self.now) }
         ensures rules { IfOk result (λ _. IsBatch self.now) }

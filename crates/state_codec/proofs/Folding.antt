@@ -1,7 +1,8 @@
 -- Items that are taken one after the other, as a loop does.
 use Rattle.std.proofs.Common.{◌≡◌, ◌+◌, ◌<◌, ◌≤◌, ◌∷◌, List, ℕ, suc, Option, Some, None, length, get_or, drop, ◌∙◌, ap, sym, add-one, drop-cons}
 use Rattle.std.proofs.lemmas.List.{drop_all}
-use Rattle.state_codec.specs.Outcome.{◌>>=◌, folded, with_last, keeping}
+use Rattle.state_values.specs.Outcome.{◌>>=◌}
+use Rattle.state_codec.specs.Folds.{folded, with_last, keeping}
 
 at_place : {A B : Type 0} (step : B → A → Option B) (as' : List A) (i : ℕ) (a : A) (b : B) → i < length as' → a ≡ get_or as' i a
     → folded step b (drop i as') ≡ (step b a >>= λ c. folded step c (drop (i + 1) as'))

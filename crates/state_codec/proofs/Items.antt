@@ -20,12 +20,13 @@ use Rattle.row_batches.specs.declared.change.RowChange.TheVariants.{Put, Delete}
 use Rattle.row_batches.specs.declared.store_row.StoreRow.{StoreRow}
 use Rattle.row_batches.proofs.Turns as turns
 use Rattle.state_codec.specs.Kinds.{letter}
-use Rattle.state_codec.specs.Reading.{recipe_in, status_in}
-use Rattle.state_codec.specs.Spelling.{item_row, recipe_text}
-use Rattle.state_codec.specs.Statuses.{status_bytes}
+use Rattle.state_values.specs.Reading.{recipe_in, status_in}
+use Rattle.state_values.specs.Values.{recipe_text}
+use Rattle.state_codec.specs.Spelling.{item_row}
+use Rattle.state_values.specs.Statuses.{status_bytes}
 use Rattle.state_codec.specs.declared.row_kind.RowKind.{RowKind}
-use Rattle.state_codec.specs.declared.row_kind.RowKind.TheVariants.{Coenrolling, Id, Live, Pending, OptedOut, Participating, IsPending, Status as status_kind, Installed, Updated, Version}
-use Rattle.state_codec.proofs.ValuesRead.{recipe_read, status_read}
+use Rattle.state_codec.specs.declared.row_kind.RowKind.TheVariants.{Coenrolling, Id, Live, Pending, OptedOut, Participation, IsPending, Status as status_kind, Installed, Updated, Version}
+use Rattle.state_values.proofs.ValuesRead.{recipe_read, status_read}
 
 -- keys of one letter compare by what follows it
 pub tagged : (kind : RowKind) (a b : List ℕ) → key_cmp (letter kind ∷ a) (letter kind ∷ b) ≡ key_cmp a b
@@ -34,7 +35,7 @@ tagged Id a b = refl
 tagged Live a b = refl
 tagged Pending a b = refl
 tagged OptedOut a b = refl
-tagged Participating a b = refl
+tagged Participation a b = refl
 tagged IsPending a b = refl
 tagged status_kind a b = refl
 tagged Installed a b = refl

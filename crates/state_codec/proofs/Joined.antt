@@ -1,5 +1,6 @@
--- The changes between the rows of two states are those of each list and of each row beside them.
-use Rattle.std.proofs.Common.{◌≡◌, ◌++◌, ◌∷◌, [], List, Option, map, refl, ap, ◌∙◌, sym, subst, append_assoc}
+-- The changes between the rows of two states, whatever their bytes of participation are, are those of each list and of each row
+-- beside them.
+use Rattle.std.proofs.Common.{ℕ, ◌≡◌, ◌++◌, ◌∷◌, [], List, Option, map, refl, ap, ◌∙◌, sym, subst, append_assoc}
 use Rattle.std.specs.Cmp.Lexicographic.{bytes_decides, nat_list_cmp_total}
 use Rattle.std.proofs.lemmas.Cmp.{tied_itself}
 use Rattle.std.proofs.lemmas.List.{append-nil}
@@ -10,7 +11,7 @@ use Rattle.row_batches.specs.declared.change.RowChange.{RowChange}
 use Rattle.row_batches.specs.declared.store_row.StoreRow.{StoreRow}
 use Rattle.row_batches.proofs.Joining.{Precede, between-append}
 use Rattle.row_batches.proofs.Turns as turns
-use Rattle.state_codec.specs.Spelling.{key_row, recipe_row, status_row, status_rows, last_rows, pending_recipes, rows_of}
+use Rattle.state_codec.specs.Spelling.{key_row, recipe_row, status_row, status_rows, last_rows, pending_recipes, rows_with}
 use Rattle.state_codec.specs.Walking.{feature_changes, id_changes}
 use Rattle.state_codec.proofs.Added.{follow}
 use Rattle.state_codec.proofs.KeyOrder.{IsBelow, all_below, from_statuses, from_opt_outs, from_pending, from_live, from_id, client_rows_below, opt_outs_below, pending_below, live_below, features_below}
@@ -19,7 +20,7 @@ list_joined : {A : Type 0} (f : A → StoreRow) (xs ys : List A) (olds news : Li
     → changes_between (map f xs ++ olds) (map f ys ++ news) ≡ changes_between (map f xs) (map f ys) ++ changes_between olds news
 list_joined f xs ys olds news old_below new_below = between-append olds news (map f xs) (map f ys) (all_below f xs news new_below) (all_below f ys olds old_below)
 
-between_itself : (rows : List StoreRow) → changes_between rows rows ≡ []
+pub between_itself : (rows : List StoreRow) → changes_between rows rows ≡ []
 between_itself [] = refl
 between_itself (r ∷ rs) = (turns.same r r rs rs ((bytes_decides r.value r.value).1 refl) (tied_itself nat_list_cmp_total r.key)).split ∙ between_itself rs
 
@@ -27,59 +28,59 @@ nothing_more : (olds news : List StoreRow) (changes : List RowChange) → olds �
 nothing_more olds news changes same =
     sym (append-nil changes) ∙ ap (λ l. changes ++ l) (sym (subst (λ rows. changes_between olds rows ≡ []) same (between_itself olds)))
 
-statuses_below : (s t : State) → Precede (status_rows s) (last_rows t)
-statuses_below s t = ((refl, (refl, (refl, tt))), ((refl, (refl, (refl, tt))), all_below status_row s.rows (last_rows t) (λ w. client_rows_below t w.slug)))
+statuses_below : (byte : ℕ) (s t : State) → Precede (status_rows byte s) (last_rows t)
+statuses_below byte s t = ((refl, (refl, (refl, tt))), ((refl, (refl, (refl, tt))), all_below status_row s.rows (last_rows t) (λ w. client_rows_below byte t w.slug)))
 
-module _ (s t : State) where
-  statuses : changes_between (from_statuses s) (from_statuses t) ≡ changes_between (status_rows s) (status_rows t) ++ changes_between (last_rows s) (last_rows t)
-  statuses = between-append (last_rows s) (last_rows t) (status_rows s) (status_rows t) (statuses_below s t) (statuses_below t s)
+module _ (b c : ℕ) (s t : State) where
+  statuses : changes_between (from_statuses b s) (from_statuses c t) ≡ changes_between (status_rows b s) (status_rows c t) ++ changes_between (last_rows s) (last_rows t)
+  statuses = between-append (last_rows s) (last_rows t) (status_rows b s) (status_rows c t) (statuses_below b s t) (statuses_below c t s)
 
-  opt_outs : changes_between (from_opt_outs s) (from_opt_outs t)
-      ≡ changes_between (map (key_row (111 ∷ [])) s.opted_out) (map (key_row (111 ∷ [])) t.opted_out) ++ changes_between (from_statuses s) (from_statuses t)
-  opt_outs = list_joined (key_row (111 ∷ [])) s.opted_out t.opted_out (from_statuses s) (from_statuses t) (opt_outs_below s) (opt_outs_below t)
+  opt_outs : changes_between (from_opt_outs b s) (from_opt_outs c t)
+      ≡ changes_between (map (key_row (111 ∷ [])) s.opted_out) (map (key_row (111 ∷ [])) t.opted_out) ++ changes_between (from_statuses b s) (from_statuses c t)
+  opt_outs = list_joined (key_row (111 ∷ [])) s.opted_out t.opted_out (from_statuses b s) (from_statuses c t) (opt_outs_below b s) (opt_outs_below c t)
 
-  pending : changes_between (from_pending s) (from_pending t)
-      ≡ changes_between (map (recipe_row (110 ∷ [])) (pending_recipes s.pending)) (map (recipe_row (110 ∷ [])) (pending_recipes t.pending)) ++ changes_between (from_opt_outs s) (from_opt_outs t)
-  pending = list_joined (recipe_row (110 ∷ [])) (pending_recipes s.pending) (pending_recipes t.pending) (from_opt_outs s) (from_opt_outs t) (λ r. pending_below s r.slug) (λ r. pending_below t r.slug)
+  pending : changes_between (from_pending b s) (from_pending c t)
+      ≡ changes_between (map (recipe_row (110 ∷ [])) (pending_recipes s.pending)) (map (recipe_row (110 ∷ [])) (pending_recipes t.pending)) ++ changes_between (from_opt_outs b s) (from_opt_outs c t)
+  pending = list_joined (recipe_row (110 ∷ [])) (pending_recipes s.pending) (pending_recipes t.pending) (from_opt_outs b s) (from_opt_outs c t) (λ r. pending_below b s r.slug) (λ r. pending_below c t r.slug)
 
-  live : changes_between (from_live s) (from_live t) ≡ changes_between (map (recipe_row (108 ∷ [])) s.live) (map (recipe_row (108 ∷ [])) t.live) ++ changes_between (from_pending s) (from_pending t)
-  live = list_joined (recipe_row (108 ∷ [])) s.live t.live (from_pending s) (from_pending t) (λ r. live_below s r.slug) (λ r. live_below t r.slug)
+  live : changes_between (from_live b s) (from_live c t) ≡ changes_between (map (recipe_row (108 ∷ [])) s.live) (map (recipe_row (108 ∷ [])) t.live) ++ changes_between (from_pending b s) (from_pending c t)
+  live = list_joined (recipe_row (108 ∷ [])) s.live t.live (from_pending b s) (from_pending c t) (λ r. live_below b s r.slug) (λ r. live_below c t r.slug)
 
-  features : changes_between (rows_of s) (rows_of t) ≡ changes_between (map (key_row (99 ∷ [])) s.coenrolling) (map (key_row (99 ∷ [])) t.coenrolling) ++ changes_between (from_id s) (from_id t)
-  unfolding rows_of
-  features = list_joined (key_row (99 ∷ [])) s.coenrolling t.coenrolling (from_id s) (from_id t) (features_below s) (features_below t)
+  features : changes_between (rows_with b s) (rows_with c t) ≡ changes_between (map (key_row (99 ∷ [])) s.coenrolling) (map (key_row (99 ∷ [])) t.coenrolling) ++ changes_between (from_id b s) (from_id c t)
+  unfolding rows_with
+  features = list_joined (key_row (99 ∷ [])) s.coenrolling t.coenrolling (from_id b s) (from_id c t) (features_below b s) (features_below c t)
 
   -- what was added for each part in turn is all
   pub all_behind : (c0 c1 c2 c3 : List RowChange)
       → c1 ≡ c0 ++ changes_between (map (key_row (111 ∷ [])) s.opted_out) (map (key_row (111 ∷ [])) t.opted_out)
-      → c2 ≡ c1 ++ changes_between (status_rows s) (status_rows t)
+      → c2 ≡ c1 ++ changes_between (status_rows b s) (status_rows c t)
       → c3 ≡ c2 ++ changes_between (last_rows s) (last_rows t)
-      → c3 ≡ c0 ++ changes_between (from_opt_outs s) (from_opt_outs t)
+      → c3 ≡ c0 ++ changes_between (from_opt_outs b s) (from_opt_outs c t)
   all_behind c0 c1 c2 c3 e1 e2 e3 =
       let of_opt_outs : List RowChange = changes_between (map (key_row (111 ∷ [])) s.opted_out) (map (key_row (111 ∷ [])) t.opted_out) in
-      let from_2 : c3 ≡ c1 ++ changes_between (from_statuses s) (from_statuses t) = follow (changes_between (status_rows s) (status_rows t)) (changes_between (last_rows s) (last_rows t)) c1 e2 e3 ∙ ap (λ l. c1 ++ l) (sym statuses) in
-      follow of_opt_outs (changes_between (from_statuses s) (from_statuses t)) c0 e1 from_2 ∙ ap (λ l. c0 ++ l) (sym opt_outs)
+      let from_2 : c3 ≡ c1 ++ changes_between (from_statuses b s) (from_statuses c t) = follow (changes_between (status_rows b s) (status_rows c t)) (changes_between (last_rows s) (last_rows t)) c1 e2 e3 ∙ ap (λ l. c1 ++ l) (sym statuses) in
+      follow of_opt_outs (changes_between (from_statuses b s) (from_statuses c t)) c0 e1 from_2 ∙ ap (λ l. c0 ++ l) (sym opt_outs)
 
   pub all_added : (c0 c1 c2 c3 c4 : List RowChange) → c0 ≡ []
       → c1 ≡ c0 ++ (feature_changes s t ++ id_changes s t)
       → c2 ≡ c1 ++ changes_between (map (recipe_row (108 ∷ [])) s.live) (map (recipe_row (108 ∷ [])) t.live)
       → c3 ≡ c2 ++ changes_between (map (recipe_row (110 ∷ [])) (pending_recipes s.pending)) (map (recipe_row (110 ∷ [])) (pending_recipes t.pending))
-      → c4 ≡ c3 ++ changes_between (from_opt_outs s) (from_opt_outs t)
-      → c4 ≡ changes_between (rows_of s) (rows_of t)
+      → c4 ≡ c3 ++ changes_between (from_opt_outs b s) (from_opt_outs c t)
+      → c4 ≡ changes_between (rows_with b s) (rows_with c t)
   all_added c0 c1 c2 c3 c4 none e1 e2 e3 e4 =
       let of_pending : List RowChange = changes_between (map (recipe_row (110 ∷ [])) (pending_recipes s.pending)) (map (recipe_row (110 ∷ [])) (pending_recipes t.pending)) in
       let of_live : List RowChange = changes_between (map (recipe_row (108 ∷ [])) s.live) (map (recipe_row (108 ∷ [])) t.live) in
-      let from_3 : c4 ≡ c2 ++ changes_between (from_pending s) (from_pending t) = follow of_pending (changes_between (from_opt_outs s) (from_opt_outs t)) c2 e3 e4 ∙ ap (λ l. c2 ++ l) (sym pending) in
-      let from_2 : c4 ≡ c1 ++ changes_between (from_live s) (from_live t) = follow of_live (changes_between (from_pending s) (from_pending t)) c1 e2 from_3 ∙ ap (λ l. c1 ++ l) (sym live) in
-      let from_1 : c4 ≡ c0 ++ ((feature_changes s t ++ id_changes s t) ++ changes_between (from_live s) (from_live t)) = follow (feature_changes s t ++ id_changes s t) (changes_between (from_live s) (from_live t)) c0 e1 from_2 in
-      let as_rows : (feature_changes s t ++ id_changes s t) ++ changes_between (from_live s) (from_live t) ≡ changes_between (rows_of s) (rows_of t) = append_assoc (feature_changes s t) (id_changes s t) (changes_between (from_live s) (from_live t)) ∙ sym features in
-      from_1 ∙ ap (λ l. c0 ++ l) as_rows ∙ ap (λ l. l ++ changes_between (rows_of s) (rows_of t)) none
+      let from_3 : c4 ≡ c2 ++ changes_between (from_pending b s) (from_pending c t) = follow of_pending (changes_between (from_opt_outs b s) (from_opt_outs c t)) c2 e3 e4 ∙ ap (λ l. c2 ++ l) (sym pending) in
+      let from_2 : c4 ≡ c1 ++ changes_between (from_live b s) (from_live c t) = follow of_live (changes_between (from_pending b s) (from_pending c t)) c1 e2 from_3 ∙ ap (λ l. c1 ++ l) (sym live) in
+      let from_1 : c4 ≡ c0 ++ ((feature_changes s t ++ id_changes s t) ++ changes_between (from_live b s) (from_live c t)) = follow (feature_changes s t ++ id_changes s t) (changes_between (from_live b s) (from_live c t)) c0 e1 from_2 in
+      let as_rows : (feature_changes s t ++ id_changes s t) ++ changes_between (from_live b s) (from_live c t) ≡ changes_between (rows_with b s) (rows_with c t) = append_assoc (feature_changes s t) (id_changes s t) (changes_between (from_live b s) (from_live c t)) ∙ sym features in
+      from_1 ∙ ap (λ l. c0 ++ l) as_rows ∙ ap (λ l. l ++ changes_between (rows_with b s) (rows_with c t)) none
 
   -- recipes that stay as they are add nothing
   pub all_beside_recipes : (c0 c1 c2 : List RowChange) → s.live ≡ t.live → s.pending ≡ t.pending → c0 ≡ []
       → c1 ≡ c0 ++ (feature_changes s t ++ id_changes s t)
-      → c2 ≡ c1 ++ changes_between (from_opt_outs s) (from_opt_outs t)
-      → c2 ≡ changes_between (rows_of s) (rows_of t)
+      → c2 ≡ c1 ++ changes_between (from_opt_outs b s) (from_opt_outs c t)
+      → c2 ≡ changes_between (rows_with b s) (rows_with c t)
   all_beside_recipes c0 c1 c2 same_live same_pending none e1 e2 =
       let live_rows : map (recipe_row (108 ∷ [])) s.live ≡ map (recipe_row (108 ∷ [])) t.live = ap (map (recipe_row (108 ∷ []))) same_live in
       let pending_rows : map (recipe_row (110 ∷ [])) (pending_recipes s.pending) ≡ map (recipe_row (110 ∷ [])) (pending_recipes t.pending) = ap (λ (p : Option (List Recipe)). map (recipe_row (110 ∷ [])) (pending_recipes p)) same_pending in

@@ -12,7 +12,8 @@ use Rattle.enrol_states.proofs.Ordered.{map_itself}
 use Rattle.enrol_states.specs.declared.state.Row.{Row}
 use Rattle.row_batches.specs.Rows.{key_of, AreRows}
 use Rattle.row_batches.proofs.Joining.{Precede}
-use Rattle.state_codec.specs.Spelling.{hyphenated, row, key_row, recipe_row, status_row, status_rows, last_rows, pending_recipes, rows_behind_recipes, rows_of}
+use Rattle.state_values.specs.Values.{hyphenated, participation}
+use Rattle.state_codec.specs.Spelling.{row, key_row, recipe_row, status_row, status_rows, last_rows, pending_recipes, rows_behind_recipes, rows_with, rows_of}
 use Rattle.row_batches.specs.declared.store_row.StoreRow.{StoreRow}
 
 -- the key is below those of all these rows
@@ -64,13 +65,13 @@ pending_order (Some rs) are = are.in_order
 
 -- ---- the rows of a state
 
-module _ (s : State) where
+module _ (byte : ℕ) (s : State) where
   -- behind the lists the sections follow one another
   abbrev pub from_statuses : List StoreRow
-  from_statuses = status_rows s ++ last_rows s
+  from_statuses = status_rows byte s ++ last_rows s
 
   abbrev pub from_opt_outs : List StoreRow
-  from_opt_outs = rows_behind_recipes s
+  from_opt_outs = rows_behind_recipes byte s
 
   abbrev pub from_pending : List StoreRow
   from_pending = map (recipe_row (110 ∷ [])) (pending_recipes s.pending) ++ from_opt_outs
@@ -153,10 +154,13 @@ module _ (s : State) where
   id_rises is =
       (below_live (105 ∷ []) (λ u. refl) (below_pending (105 ∷ []) (λ u. refl) (below_opt_outs (105 ∷ []) (λ u. refl) (below_statuses (105 ∷ []) refl refl (λ u. refl) refl refl refl))), live_rise is)
 
-  pub rows_rise : IsConsistent s → AreRows (rows_of s)
-  unfolding rows_of
-  rows_rise is =
+  pub with_rise : IsConsistent s → AreRows (rows_with byte s)
+  unfolding rows_with
+  with_rise is =
       rise_append (map (key_row (99 ∷ [])) s.coenrolling) from_id
       (rise_section 99 (λ (t : List ℕ). t) (key_row (99 ∷ [])) (λ t. refl) (λ a b. refl) s.coenrolling (subst Rise (sym (map_itself s.coenrolling)) is.coenrolling_order))
       (id_rises is)
       (all_below (key_row (99 ∷ [])) s.coenrolling from_id features_below)
+
+pub rows_rise : (s : State) → IsConsistent s → AreRows (rows_of s)
+rows_rise s is = with_rise (participation s) s is

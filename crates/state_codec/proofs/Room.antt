@@ -9,12 +9,13 @@ use Rattle.enrol_states.specs.Consistent.{IsConsistent, ArePending}
 use Rattle.enrol_states.specs.Statuses.{IsSlug}
 use Rattle.enrol_states.specs.declared.state.State.{State}
 use Rattle.enrol_states.specs.declared.state.Row.{Row}
-use Rattle.row_batches.specs.Batch.{puts_text}
+use Rattle.row_batches.specs.Batch.{batch_text, puts_text, whole_of}
 use Rattle.row_batches.specs.Batches.{HaveRoom}
-use Rattle.state_codec.specs.Spelling.{key_row, recipe_row, status_row, status_rows, last_rows, pending_recipes, rows_of, spelling}
+use Rattle.state_values.specs.Values.{participation}
+use Rattle.state_codec.specs.Spelling.{key_row, recipe_row, status_row, status_rows, last_rows, pending_recipes, rows_with, rows_of, spelling}
 use Rattle.state_codec.specs.Sound.{IsSound}
 use Rattle.row_batches.specs.declared.store_row.StoreRow.{StoreRow}
-use Rattle.state_codec.proofs.Names.{slug_short, name_short, recipe_slug}
+use Rattle.state_values.proofs.Names.{slug_short, name_short, recipe_slug}
 use Rattle.row_batches.proofs.Sizes.{put_size}
 
 abbrev HaveShortKeys : List StoreRow → Type 0
@@ -37,30 +38,33 @@ pub pending_valid : (p : Option (List Recipe)) → ArePending p → AreValid (pe
 pending_valid None are = tt
 pending_valid (Some rs) are = are.valid
 
-keys_short : (s : State) → IsConsistent s → HaveShortKeys (rows_of s)
-unfolding rows_of
-keys_short s is =
+keys_short : (byte : ℕ) (s : State) → IsConsistent s → HaveShortKeys (rows_with byte s)
+unfolding rows_with
+keys_short byte s is =
     let last : HaveShortKeys (last_rows s) = (omega arith, (omega arith, (omega arith, tt))) in
-    let statuses : HaveShortKeys (status_rows s) = (omega arith, (omega arith, short-map (λ (w : Row). IsSlug w.slug) status_row s.rows (λ w slug. omega (arith, slug_short w.slug slug)) is.row_slugs)) in
+    let statuses : HaveShortKeys (status_rows byte s) = (omega arith, (omega arith, short-map (λ (w : Row). IsSlug w.slug) status_row s.rows (λ w slug. omega (arith, slug_short w.slug slug)) is.row_slugs)) in
     let opted_out = short-map IsSlug (key_row (111 ∷ [])) s.opted_out (λ slug is_one. omega (arith, slug_short slug is_one)) is.opted_out_slugs in
     let coenrolling = short-map (λ name. IsTrue (is_name name)) (key_row (99 ∷ [])) s.coenrolling (λ name is_one. omega (arith, name_short name is_one)) is.coenrolling_names in
     short-append (map (key_row (99 ∷ [])) s.coenrolling) _ coenrolling (
       omega arith,
       short-append (map (recipe_row (108 ∷ [])) s.live) _ (recipes_short 108 s.live is.live.valid)
           (short-append (map (recipe_row (110 ∷ [])) (pending_recipes s.pending)) _ (recipes_short 110 (pending_recipes s.pending) (pending_valid s.pending is.pending))
-          (short-append (map (key_row (111 ∷ [])) s.opted_out) _ opted_out (short-append (status_rows s) (last_rows s) statuses last))),
+          (short-append (map (key_row (111 ∷ [])) s.opted_out) _ opted_out (short-append (status_rows byte s) (last_rows s) statuses last))),
     )
 
 room_of : (rs : List StoreRow) → HaveShortKeys rs → length (puts_text rs) < 2 ^ 32 → HaveRoom rs
 room_of [] short fits = tt
 room_of (r ∷ rs) short fits = (record { key = omega (arith, short.0); value = omega (arith, put_size r rs) }, room_of rs short.1 (omega (arith, put_size r rs)))
 
-rows_fit : (s : State) → length (spelling s) < 2 ^ 32 → length (puts_text (rows_of s)) < 2 ^ 32
-unfolding spelling
-rows_fit s fits = omega (arith, fits)
+puts_fit : (rows : List StoreRow) → length (batch_text (whole_of rows)) < 2 ^ 32 → length (puts_text rows) < 2 ^ 32
+puts_fit rows fits = omega (arith, fits)
+
+pub with_room : (byte : ℕ) (s : State) → IsConsistent s → length (batch_text (whole_of (rows_with byte s))) < 2 ^ 32 → HaveRoom (rows_with byte s)
+with_room byte s is fits = room_of (rows_with byte s) (keys_short byte s is) (puts_fit (rows_with byte s) fits)
 
 pub rows_room : (s : State) → IsConsistent s → length (spelling s) < 2 ^ 32 → HaveRoom (rows_of s)
-rows_room s is fits = room_of (rows_of s) (keys_short s is) (rows_fit s fits)
+unfolding spelling
+rows_room s is fits = with_room (participation s) s is fits
 
 pub sound_room : (s : State) → IsSound s → HaveRoom (rows_of s)
 sound_room s is = rows_room s is.consistent (omega (arith, is.size))

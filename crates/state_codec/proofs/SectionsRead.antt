@@ -12,9 +12,11 @@ use Rattle.recipe_reader.specs.Payloads.{slug_cmp, AreAbove, AreBelow, AreInOrde
 use Rattle.recipe_reader.specs.declared.recipe.Recipe.{Recipe}
 use Rattle.enrol_states.specs.declared.state.State.{State}
 use Rattle.enrol_states.proofs.Ordered.{lesser_texts, turned_up}
-use Rattle.state_codec.specs.Statuses.{number}
-use Rattle.state_codec.specs.Outcome.{◌>>=◌, folded, with_last, keeping}
-use Rattle.state_codec.specs.Spelling.{row, key_row, recipe_row, status_row, status_rows, last_rows, pending_recipes, rows_of, hyphenated, bit}
+use Rattle.state_values.specs.Statuses.{number}
+use Rattle.state_values.specs.Outcome.{◌>>=◌}
+use Rattle.state_codec.specs.Folds.{folded, with_last, keeping}
+use Rattle.state_values.specs.Values.{hyphenated, bit}
+use Rattle.state_codec.specs.Spelling.{row, key_row, recipe_row, status_row, status_rows, last_rows, pending_recipes, rows_with}
 use Rattle.state_codec.specs.Sound.{AreRecords}
 use Rattle.state_codec.specs.Reading as reading
 use Rattle.state_codec.specs.Reading.{after_tag, value_if, value_under, inserted, inserting}
@@ -93,18 +95,18 @@ none_tagged tag f (c ∷ cs) rest none =
 -- ---- the rows of a state
 
 -- all sections in turn
-pub all_sections : {B : Type 0} (step : B → StoreRow → Option B) (s : State) (a b c d e f g h : B)
+pub all_sections : {B : Type 0} (step : B → StoreRow → Option B) (byte : ℕ) (s : State) (a b c d e f g h : B)
     → folded step a (map (key_row (99 ∷ [])) s.coenrolling) ≡ Some b
     → step b (row (105 ∷ []) (hyphenated s.id)) ≡ Some c
     → folded step c (map (recipe_row (108 ∷ [])) s.live) ≡ Some d
     → folded step d (map (recipe_row (110 ∷ [])) (pending_recipes s.pending)) ≡ Some e
     → folded step e (map (key_row (111 ∷ [])) s.opted_out) ≡ Some f
-    → folded step f (status_rows s) ≡ Some g
+    → folded step f (status_rows byte s) ≡ Some g
     → folded step g (last_rows s) ≡ Some h
-    → folded step a (rows_of s) ≡ Some h
-unfolding rows_of
-all_sections step s a b c d e f g h coenrolling id live pending opted_out statuses last =
-    let opted_out_on = status_rows s ++ last_rows s in
+    → folded step a (rows_with byte s) ≡ Some h
+unfolding rows_with
+all_sections step byte s a b c d e f g h coenrolling id live pending opted_out statuses last =
+    let opted_out_on = status_rows byte s ++ last_rows s in
     let pending_on = map (key_row (111 ∷ [])) s.opted_out ++ opted_out_on in
     let live_on = map (recipe_row (110 ∷ [])) (pending_recipes s.pending) ++ pending_on in
     let id_on = map (recipe_row (108 ∷ [])) s.live ++ live_on in
@@ -112,13 +114,13 @@ all_sections step s a b c d e f g h coenrolling id live pending opted_out status
     (one_folded step b c h (row (105 ∷ []) (hyphenated s.id)) id_on id
     (then_folded step c d h (map (recipe_row (108 ∷ [])) s.live) live_on live
     (then_folded step d e h (map (recipe_row (110 ∷ [])) (pending_recipes s.pending)) pending_on pending
-    (then_folded step e f h (map (key_row (111 ∷ [])) s.opted_out) opted_out_on opted_out (then_folded step f g h (status_rows s) (last_rows s) statuses last)))))
+    (then_folded step e f h (map (key_row (111 ∷ [])) s.opted_out) opted_out_on opted_out (then_folded step f g h (status_rows byte s) (last_rows s) statuses last)))))
 
-pub all_statuses : {B : Type 0} (step : B → StoreRow → Option B) (s : State) (a b c d : B) → step a (row (112 ∷ []) (bit s.participating ∷ [])) ≡ Some b → step b (row (113 ∷ []) (bit (is_some s.pending) ∷ [])) ≡ Some c
-    → folded step c (map status_row s.rows) ≡ Some d → folded step a (status_rows s) ≡ Some d
-all_statuses step s a b c d participating pending rows =
+pub all_statuses : {B : Type 0} (step : B → StoreRow → Option B) (byte : ℕ) (s : State) (a b c d : B) → step a (row (112 ∷ []) (byte ∷ [])) ≡ Some b → step b (row (113 ∷ []) (bit (is_some s.pending) ∷ [])) ≡ Some c
+    → folded step c (map status_row s.rows) ≡ Some d → folded step a (status_rows byte s) ≡ Some d
+all_statuses step byte s a b c d participating pending rows =
     let pending_row = row (113 ∷ []) (bit (is_some s.pending) ∷ []) in
-    one_folded step a b d (row (112 ∷ []) (bit s.participating ∷ [])) (pending_row ∷ map status_row s.rows) participating (one_folded step b c d pending_row (map status_row s.rows) pending rows)
+    one_folded step a b d (row (112 ∷ []) (byte ∷ [])) (pending_row ∷ map status_row s.rows) participating (one_folded step b c d pending_row (map status_row s.rows) pending rows)
 
 pub all_last : {B : Type 0} (step : B → StoreRow → Option B) (s : State) (a b c d : B) → step a (row (116 ∷ []) (number s.installed)) ≡ Some b → step b (row (117 ∷ []) (number s.updated)) ≡ Some c → step c (row (118 ∷ []) s.version) ≡ Some d → folded step a (last_rows s) ≡ Some d
 all_last step s a b c d installed updated version =
@@ -131,19 +133,19 @@ other : (tag x : ℕ) (rest : List ℕ) → (x == tag) ≡ false → after_tag t
 other tag x rest differs = ap (λ b. if b then Some rest else None) differs
 
 -- no key of the sections before the statuses has the tag
-pub to_statuses : (tag : ℕ) (s : State) → (99 == tag) ≡ false → (105 == tag) ≡ false → (108 == tag) ≡ false → (110 == tag) ≡ false → (111 == tag) ≡ false
-    → value_under tag (rows_of s) ≡ value_under tag (status_rows s ++ last_rows s)
-unfolding rows_of
-to_statuses tag s c i l n o =
+pub to_statuses : (tag byte : ℕ) (s : State) → (99 == tag) ≡ false → (105 == tag) ≡ false → (108 == tag) ≡ false → (110 == tag) ≡ false → (111 == tag) ≡ false
+    → value_under tag (rows_with byte s) ≡ value_under tag (status_rows byte s ++ last_rows s)
+unfolding rows_with
+to_statuses tag byte s c i l n o =
     none_tagged tag (key_row (99 ∷ [])) s.coenrolling _ (λ f. other tag 99 f c)
-    ∙ ap (λ p. value_if p (hyphenated s.id) (value_under tag (map (recipe_row (108 ∷ [])) s.live ++ (map (recipe_row (110 ∷ [])) (pending_recipes s.pending) ++ (map (key_row (111 ∷ [])) s.opted_out ++ (status_rows s ++ last_rows s)))))) (other tag 105 [] i)
+    ∙ ap (λ p. value_if p (hyphenated s.id) (value_under tag (map (recipe_row (108 ∷ [])) s.live ++ (map (recipe_row (110 ∷ [])) (pending_recipes s.pending) ++ (map (key_row (111 ∷ [])) s.opted_out ++ (status_rows byte s ++ last_rows s)))))) (other tag 105 [] i)
     ∙ none_tagged tag (recipe_row (108 ∷ [])) s.live _ (λ r. other tag 108 r.slug l)
     ∙ none_tagged tag (recipe_row (110 ∷ [])) (pending_recipes s.pending) _ (λ r. other tag 110 r.slug n)
     ∙ none_tagged tag (key_row (111 ∷ [])) s.opted_out _ (λ slug. other tag 111 slug o)
 
 -- nor has one of the statuses
-pub to_last : (tag : ℕ) (s : State) → (112 == tag) ≡ false → (113 == tag) ≡ false → (114 == tag) ≡ false → value_under tag (status_rows s ++ last_rows s) ≡ value_under tag (last_rows s)
-to_last tag s p q r =
-    ap (λ o. value_if o (bit s.participating ∷ []) (value_under tag (row (113 ∷ []) (bit (is_some s.pending) ∷ []) ∷ (map status_row s.rows ++ last_rows s)))) (other tag 112 [] p)
+pub to_last : (tag byte : ℕ) (s : State) → (112 == tag) ≡ false → (113 == tag) ≡ false → (114 == tag) ≡ false → value_under tag (status_rows byte s ++ last_rows s) ≡ value_under tag (last_rows s)
+to_last tag byte s p q r =
+    ap (λ o. value_if o (byte ∷ []) (value_under tag (row (113 ∷ []) (bit (is_some s.pending) ∷ []) ∷ (map status_row s.rows ++ last_rows s)))) (other tag 112 [] p)
     ∙ ap (λ o. value_if o (bit (is_some s.pending) ∷ []) (value_under tag (map status_row s.rows ++ last_rows s))) (other tag 113 [] q)
     ∙ none_tagged tag status_row s.rows (last_rows s) (λ w. other tag 114 w.slug r)

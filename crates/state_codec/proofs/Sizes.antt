@@ -3,14 +3,16 @@ use Rattle.std.proofs.Common.{◌≡◌, ◌+◌, ◌<◌, ◌++◌, ◌∷◌, 
 use Rattle.std.proofs.lemmas.List.{map-append, take_more}
 use Rattle.std.specs.Option.{is_some}
 use Rattle.row_batches.proofs.Sizes.{put_size, puts_text-append, puts_size-append}
-use Rattle.row_batches.specs.Batch.{puts_text}
+use Rattle.row_batches.specs.Batch.{batch_text, puts_text, whole_of}
 use Rattle.uuid.proofs.TextLemmas.{by_index_length}
 use Rattle.recipe_reader.specs.declared.recipe.Recipe.{Recipe}
 use Rattle.enrol_states.specs.declared.state.State.{State}
-use Rattle.state_codec.specs.Spelling.{hyphenated, row, key_row, recipe_row, recipe_rows, status_row, status_rows, last_rows, pending_recipes, rows_of, spelling, bit}
-use Rattle.state_codec.specs.Statuses.{number}
+use Rattle.state_codec.specs.Forms.{old_spelling}
+use Rattle.state_values.specs.Values.{hyphenated, participation, bit}
+use Rattle.state_codec.specs.Spelling.{row, key_row, recipe_row, recipe_rows, status_row, status_rows, last_rows, pending_recipes, rows_with, spelling}
+use Rattle.state_values.specs.Statuses.{number}
 use Rattle.row_batches.specs.declared.store_row.StoreRow.{StoreRow}
-use Rattle.state_codec.proofs.ValuesRead.{length-number}
+use Rattle.state_values.proofs.ValuesRead.{length-number}
 
 pub length-hyphenated : (id : List ℕ) → length (hyphenated id) ≡ 36
 unfolding hyphenated
@@ -32,10 +34,10 @@ size_more f xs i x within is =
 
 -- ---- the spelling
 
-status_rows_size : (s : State) → length (puts_text (status_rows s)) ≡ 18 + length (puts_text (map status_row s.rows))
-status_rows_size s =
+status_rows_size : (byte : ℕ) (s : State) → length (puts_text (status_rows byte s)) ≡ 18 + length (puts_text (map status_row s.rows))
+status_rows_size byte s =
     let rows = map status_row s.rows in
-    omega (arith, put_size (row (112 ∷ []) (bit s.participating ∷ [])) (row (113 ∷ []) (bit (is_some s.pending) ∷ []) ∷ rows), put_size (row (113 ∷ []) (bit (is_some s.pending) ∷ [])) rows)
+    omega (arith, put_size (row (112 ∷ []) (byte ∷ [])) (row (113 ∷ []) (bit (is_some s.pending) ∷ []) ∷ rows), put_size (row (113 ∷ []) (bit (is_some s.pending) ∷ [])) rows)
 
 last_rows_size : (s : State) → length (puts_text (last_rows s)) ≡ 40 + length s.version
 last_rows_size s =
@@ -44,18 +46,32 @@ last_rows_size s =
 recipe_rows_size : (s : State) → length (puts_text (recipe_rows s)) ≡ length (puts_text (map (recipe_row (108 ∷ [])) s.live)) + length (puts_text (map (recipe_row (110 ∷ [])) (pending_recipes s.pending)))
 recipe_rows_size s = puts_size-append (map (recipe_row (108 ∷ [])) s.live) (map (recipe_row (110 ∷ [])) (pending_recipes s.pending))
 
-pub length-spelling : (s : State) → length (spelling s)
+pub length-with : (byte : ℕ) (s : State) → length (batch_text (whole_of (rows_with byte s)))
     ≡ 103 + length (puts_text (map (key_row (99 ∷ [])) s.coenrolling)) + length (puts_text (map (key_row (111 ∷ [])) s.opted_out)) + length (puts_text (map status_row s.rows)) + length s.version
     + length (puts_text (recipe_rows s))
-unfolding spelling rows_of
-length-spelling s =
+unfolding rows_with
+length-with byte s =
     let c = map (key_row (99 ∷ [])) s.coenrolling in
     let i = row (105 ∷ []) (hyphenated s.id) in
     let l = map (recipe_row (108 ∷ [])) s.live in
     let n = map (recipe_row (110 ∷ [])) (pending_recipes s.pending) in
     let o = map (key_row (111 ∷ [])) s.opted_out in
-    let last = status_rows s ++ last_rows s in
-    omega (arith, puts_size-append c (i ∷ (l ++ (n ++ (o ++ last)))), put_size i (l ++ (n ++ (o ++ last))), length-hyphenated s.id, puts_size-append l (n ++ (o ++ last)), puts_size-append n (o ++ last), recipe_rows_size s, puts_size-append o last, puts_size-append (status_rows s) (last_rows s), status_rows_size s, last_rows_size s)
+    let last = status_rows byte s ++ last_rows s in
+    omega (arith, puts_size-append c (i ∷ (l ++ (n ++ (o ++ last)))), put_size i (l ++ (n ++ (o ++ last))), length-hyphenated s.id, puts_size-append l (n ++ (o ++ last)), puts_size-append n (o ++ last), recipe_rows_size s, puts_size-append o last, puts_size-append (status_rows byte s) (last_rows s), status_rows_size byte s, last_rows_size s)
+
+pub length-spelling : (s : State) → length (spelling s)
+    ≡ 103 + length (puts_text (map (key_row (99 ∷ [])) s.coenrolling)) + length (puts_text (map (key_row (111 ∷ [])) s.opted_out)) + length (puts_text (map status_row s.rows)) + length s.version
+    + length (puts_text (recipe_rows s))
+unfolding spelling
+length-spelling s = length-with (participation s) s
+
+-- rows are as long whatever the byte of participation is
+pub length-byte : (byte other : ℕ) (s : State) → length (batch_text (whole_of (rows_with byte s))) ≡ length (batch_text (whole_of (rows_with other s)))
+length-byte byte other s = length-with byte s ∙ sym (length-with other s)
+
+pub length-old : (s : State) → length (old_spelling s) ≡ length (spelling s)
+unfolding old_spelling spelling
+length-old s = length-byte (bit s.experiments) (participation s) s
 
 -- the size of a state with the same recipes
 pub length-same_recipes : (s t : State) → s.live ≡ t.live → s.pending ≡ t.pending → length (puts_text (recipe_rows s)) ≡ length (puts_text (recipe_rows t))

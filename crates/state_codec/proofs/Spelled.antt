@@ -1,8 +1,9 @@
--- Rows of a sound state are read as that state, and so are bytes that spell it.
-use Rattle.std.proofs.Common.{◌≡◌, ◌≤◌, ◌+◌, List, [], ℕ, Bool, true, false, Some, None, Result, Ok, Err, length, sym, ap, ◌∙◌, arith}
+-- Batches of bytes, and the states whose forms they make.
+use Rattle.std.proofs.Common.{◌≡◌, ◌≤◌, ◌+◌, List, [], ℕ, Bool, true, false, Some, None, Result, Ok, Err, length, sym, ap, ◌∙◌, subst, arith}
 use Rattle.std.specs.Prelude.{IfOk, if◌then◌else◌}
 use Rattle.enrol_states.specs.Consistent.{IsConsistent}
 use Rattle.enrol_states.specs.declared.state.State.{State}
+use Rattle.state_codec.specs.Forms.{IsForm, IsSpelled, MakesForm}
 use Rattle.state_codec.specs.Reading.{state_in}
 use Rattle.state_codec.specs.Spelling.{rows_of, spelling}
 use Rattle.state_codec.specs.Sound.{IsSound}
@@ -12,41 +13,34 @@ use Rattle.row_batches.specs.Rows.{after_changes}
 use Rattle.row_batches.specs.declared.change.RowChange.{RowChange}
 use Rattle.row_batches.proofs.Cleared.{cleared_is_whole}
 use Rattle.row_batches.proofs.OneSpelling.{one_spelling as batch_spelling}
-use Rattle.row_batches.proofs.Walks.{whole_rule, made_of_none}
+use Rattle.row_batches.proofs.Walks.{made_of_none}
 use Rattle.row_batches.specs.declared.store_row.StoreRow.{StoreRow}
-use Rattle.state_codec.proofs.KeyOrder.{rows_rise}
-use Rattle.state_codec.proofs.Room.{sound_room}
-use Rattle.state_codec.proofs.StateRead.{state_read}
-
-pub sound_rule : (s : State) → IsSound s → IsBatch (whole_of (rows_of s))
-sound_rule s sound = whole_rule (rows_of s) (rows_rise s sound.consistent) (sound_room s sound)
-
-pub spelled : (s : State) (bytes : List ℕ) → bytes ≡ spelling s → bytes ≡ batch_text (whole_of (rows_of s))
-unfolding spelling
-spelled s bytes is = is
-
--- a batch of bytes that spell a state makes the rows of the state
-pub batch_is : (s : State) (bytes : List ℕ) (batch : ChangeList) → bytes ≡ batch_text batch → IsBatch batch → IsSound s → bytes ≡ spelling s → batch ≡ whole_of (rows_of s)
-batch_is s bytes batch text rules sound is = batch_spelling batch (whole_of (rows_of s)) rules (sound_rule s sound) (sym text ∙ spelled s bytes is)
-
--- and bytes of such a batch spell it
-pub spells : (s : State) (bytes : List ℕ) (batch : ChangeList) → bytes ≡ batch_text batch → batch ≡ whole_of (rows_of s) → bytes ≡ spelling s
-unfolding spelling
-spells s bytes batch text is = text ∙ ap batch_text is
+use Rattle.state_codec.proofs.Forms.{Text, form_rises, form_rule, form_spelled, text_of_form}
 
 -- the rows that a batch makes of any, where it begins with a clear
 pub made_rows : (batch : ChangeList) (before after rows : List StoreRow) → batch.clear ≡ true → after ≡ applied batch before → rows ≡ after → rows ≡ after_changes batch.changes []
 made_rows batch before after rows clear made is = is ∙ made ∙ ap (λ (b : Bool). after_changes batch.changes (if b then [] else before)) clear
 
--- the batch of rows that a clear and puts make
-pub made_by : (s : State) (batch : ChangeList) (rows : List StoreRow) → IsBatch batch → batch.clear ≡ true → rows ≡ after_changes batch.changes [] → rows ≡ rows_of s → batch ≡ whole_of (rows_of s)
-made_by s batch rows rules clear made is = cleared_is_whole batch rules clear ∙ ap whole_of (sym made ∙ is)
+-- where they are a form of a state, the batch makes that form
+pub makes : (s : State) (batch : ChangeList) (rows : List StoreRow) → IsBatch batch → batch.clear ≡ true → rows ≡ after_changes batch.changes [] → IsForm s rows → MakesForm s batch
+makes s batch rows rules clear made form = record { rows = rows; form = form; whole = cleared_is_whole batch rules clear ∙ ap whole_of (sym made) }
 
-pub rows_made : (s : State) (batch : ChangeList) (rows : List StoreRow) → IsConsistent s → rows ≡ after_changes batch.changes [] → batch ≡ whole_of (rows_of s) → rows ≡ rows_of s
-rows_made s batch rows is made whole = made ∙ ap (λ (b : ChangeList). after_changes b.changes []) whole ∙ made_of_none (rows_of s) (rows_rise s is)
+-- a batch that makes a form of a state gives that form
+pub form_made : (s : State) (batch : ChangeList) (rows : List StoreRow) → IsConsistent s → rows ≡ after_changes batch.changes [] → MakesForm s batch → IsForm s rows
+form_made s batch rows is made m =
+    let same : rows ≡ m.rows = made ∙ ap (λ (b : ChangeList). after_changes b.changes []) m.whole ∙ made_of_none m.rows (form_rises s m.rows is m.form) in
+    subst (IsForm s) (sym same) m.form
 
-pub read_as : (rows : List StoreRow) (s : State) → IsSound s → rows ≡ rows_of s → state_in rows ≡ Some s
-read_as rows s sound is = ap state_in is ∙ state_read s sound.consistent sound.records
+-- a batch of bytes that are spelled makes the form, and bytes of such a batch are spelled
+pub text_makes : (s : State) (bytes : List ℕ) (batch : ChangeList) → bytes ≡ batch_text batch → IsBatch batch → IsSound s → Text s bytes → MakesForm s batch
+text_makes s bytes batch text rules sound t =
+    record { rows = t.rows; form = t.form; whole = batch_spelling batch (whole_of t.rows) rules (form_rule s t.rows sound t.form) (sym text ∙ t.text) }
+
+pub spelled_makes : (s : State) (bytes : List ℕ) (batch : ChangeList) → bytes ≡ batch_text batch → IsBatch batch → IsSound s → IsSpelled s bytes → MakesForm s batch
+spelled_makes s bytes batch text rules sound is = text_makes s bytes batch text rules sound (text_of_form s bytes is)
+
+pub made_spelled : (s : State) (bytes : List ℕ) (batch : ChangeList) → bytes ≡ batch_text batch → MakesForm s batch → IsSpelled s bytes
+made_spelled s bytes batch text m = form_spelled s bytes m.rows m.form (text ∙ ap batch_text m.whole)
 
 pub not_read : (rows : List StoreRow) (s : State) → state_in rows ≡ None → state_in rows ≡ Some s → ⊥
 not_read rows s none some = cc

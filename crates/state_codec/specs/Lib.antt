@@ -1,9 +1,9 @@
-pub mod Statuses
 pub mod Kinds
 pub mod Spelling
+pub mod Forms
 pub mod Sound
 pub mod SoundParts
 pub mod Laws
-pub mod Outcome
+pub mod Folds
 pub mod Reading
 pub mod Walking

@@ -6,6 +6,7 @@ use Rattle.enrol_states.specs.Order.{Rise, is_in}
 use Rattle.enrol_states.specs.State.{slugs_of}
 use Rattle.enrol_states.specs.Statuses.{last_moment, IsSlug, IsStatus}
 use Rattle.enrol_states.specs.Consistent.{AreKept, ArePending, HasRecipe, HasBranch, IsNotOptedOut, IsParticipating}
+use Rattle.enrol_states.specs.Participation.{may_take_part}
 use Rattle.enrol_states.specs.Recipes.{offers}
 use Rattle.enrol_states.specs.declared.state.State.{State}
 use Rattle.enrol_states.specs.declared.state.Row.{Row}
@@ -39,9 +40,9 @@ pub record HasRows (s : State) : Type 0 where
   pub order : Rise (slugs_of s.rows)
   pub each : All (IsRowOf s) s.rows
 
--- the client takes part, its user didn't opt out of the slug, and the slug's recipe has the branch
+-- participation of the kind of the slug's recipe is on, the user didn't opt out of the slug, and the recipe has the branch
 pub record MayBeEnrolled (s : State) (slug branch : List ℕ) : Type 0 where
   pub slug_fits : IsSlug branch
-  pub participation : IsTrue s.participating
+  pub participation : IsTrue (may_take_part s (recipe_with slug s.live))
   pub choice : is_in s.opted_out slug ≡ false
   pub offer : IsTrue (offers (recipe_with slug s.live) branch)

@@ -6,7 +6,8 @@ use Rattle.enrol_states.specs.declared.state.State.{State}
 use Rattle.row_batches.specs.Between.{put_where_differs, changes_between}
 use Rattle.row_batches.specs.Rows.{key_cmp}
 use Rattle.row_batches.specs.declared.change.RowChange.{RowChange}
-use Rattle.state_codec.specs.Spelling.{hyphenated, row, key_row}
+use Rattle.state_values.specs.Values.{hyphenated}
+use Rattle.state_codec.specs.Spelling.{row, key_row}
 use Rattle.state_codec.specs.declared.walking.Step.{Step}
 use Rattle.state_codec.specs.declared.walking.Step.TheVariants.{Gone, New, Differs, Same}
 

@@ -6,11 +6,12 @@ ghost use Rattle.enrol_states.specs.Statuses.{IsStatus};
 ghost use Rattle.row_batches.specs.Batch.{applied, batch_text, whole_of};
 ghost use Rattle.row_batches.specs.Between.{put_where_differs, changes_between, between};
 ghost use Rattle.state_codec.specs.Kinds.{letter};
+ghost use Rattle.state_values.specs.Values.{participation};
 ghost use Rattle.state_codec.specs.Spelling.{key_row, recipe_row, status_row, status_rows, last_rows, pending_recipes, rows_behind_recipes, rows_of, spelling};
 ghost use Rattle.state_codec.specs.Walking.{feature_changes, id_changes};
 
 use crate::row_kind::RowKind;
-use crate::row_making::{flag_row, id_row, moment_row, version_row};
+use crate::row_making::{flag_row, id_row, moment_row, participation_row, version_row};
 use crate::rows::rows_of;
 use crate::walking::add_changes;
 use enrol_states::{Row, State};
@@ -20,8 +21,7 @@ use row_batches::{Batch, RowChange, StoreRow};
 use sequences::{Sequence, Text};
 use std::alloc::{AllocError, Global};
 
-/// The batch that makes the state's rows: a clear of all rows, and a put of each. Its bytes are the state's spelling. The one
-/// error is want of memory.
+/// The batch that makes the state's rows: a clear of all rows, and a put of each. Its bytes are the state's spelling.
 #[tactic(auto, using(crate::proofs::Room::rows_room), unfolding(crate::specs::Spelling::spelling))]
 pub fn whole_batch(alloc: Global, state: &State) -> Result<Batch, AllocError>
     requires state { IsConsistent state.now }
@@ -35,8 +35,9 @@ pub fn whole_batch(alloc: Global, state: &State) -> Result<Batch, AllocError>
 }
 
 /// The batch from the rows of a state to those of the next: a put for each row that is new or differs, a delete for each that
-/// is gone, and nothing else. Its cost is that of comparing the states: a row is made only where it changes. The one error is
-/// want of memory.
+/// is gone, and nothing else. Its cost is that of comparing the states: a row is made only where it changes, and recipes are
+/// compared as values. Of a list of recipes that both states share each is compared with itself: where the caller knows that
+/// the recipes are the same, `change_beside_recipes` gives the same batch and looks at none.
 pub fn change_between(alloc: Global, old: &State, new: &State) -> Result<Batch, AllocError>
     requires old_state { IsConsistent old.now }
     requires new_state { IsConsistent new.now }
@@ -54,7 +55,7 @@ pub fn change_between(alloc: Global, old: &State, new: &State) -> Result<Batch, 
 }
 
 /// The batch from the rows of a state to those of the next, as `change_between` gives it, where both have the same recipes:
-/// these aren't looked at. The one error is want of memory.
+/// these aren't looked at, so the cost is that of the other lists, which are walked once.
 pub fn change_beside_recipes(alloc: Global, old: &State, new: &State) -> Result<Batch, AllocError>
     requires old_state { IsConsistent old.now }
     requires new_state { IsConsistent new.now }
@@ -147,7 +148,7 @@ fn add_behind_recipes(
 ) -> Result<(), AllocError>
     requires old_statuses { All (λ row. IsStatus row.status) old.now.rows }
     requires new_statuses { All (λ row. IsStatus row.status) new.now.rows }
-    ensures { OnOk result (changes.new ≡ changes.old ++ changes_between (rows_behind_recipes old.now) (rows_behind_recipes new.now)) }
+    ensures { OnOk result (changes.new ≡ changes.old ++ changes_between (rows_behind_recipes (participation old.now) old.now) (rows_behind_recipes (participation new.now) new.now)) }
 {
     add_opt_outs(
         alloc,
@@ -159,7 +160,7 @@ fn add_behind_recipes(
     add_last(alloc, changes, old, new)
 }
 
-// Adds the changes of the rows of whether the client participates, of whether recipes are pending, and of the statuses.
+// Adds the changes of the rows of participation, of whether recipes are pending, and of the statuses.
 fn add_statuses(
     alloc: Global,
     changes: &mut Sequence<RowChange>,
@@ -168,11 +169,11 @@ fn add_statuses(
 ) -> Result<(), AllocError>
     requires old_statuses { All (λ row. IsStatus row.status) old.now.rows }
     requires new_statuses { All (λ row. IsStatus row.status) new.now.rows }
-    ensures { OnOk result (changes.new ≡ changes.old ++ changes_between (status_rows old.now) (status_rows new.now)) }
+    ensures { OnOk result (changes.new ≡ changes.old ++ changes_between (status_rows (participation old.now) old.now) (status_rows (participation new.now) new.now)) }
 {
-    let was_participating = flag_row(alloc, RowKind::Participating, old.participating)?;
-    let participates = flag_row(alloc, RowKind::Participating, new.participating)?;
-    add_row(changes, was_participating, participates)?;
+    let old_participation = participation_row(alloc, old)?;
+    let participation = participation_row(alloc, new)?;
+    add_row(changes, old_participation, participation)?;
     let was_pending = flag_row(alloc, RowKind::IsPending, old.pending.is_some())?;
     let is_pending = flag_row(alloc, RowKind::IsPending, new.pending.is_some())?;
     add_row(changes, was_pending, is_pending)?;

@@ -1,8 +1,14 @@
-// A law of the definitions. The function does nothing: its contract is the law.
-ghost use Rattle.state_codec.specs.Laws.{IsOneToOne};
+// Laws of the definitions. The functions do nothing: their contracts are the laws.
+ghost use Rattle.state_codec.specs.Laws.{IsOneToOne, IsFormOfOne, IsSpelledByOne};
 
 /// Two sound states that have one spelling are one state. It takes no memory.
-#[tactic(auto, using(crate::proofs::OneSpelling::one_spelling))]
+#[tactic(auto, using(crate::proofs::OneState::one_spelling))]
 pub fn one_spelling()
     ensures { IsOneToOne }
+{}
+
+/// Rows that are a sound state's, or their old form, are of no other sound state, and neither are bytes. It takes no memory.
+pub fn one_state()
+    ensures rows { IsFormOfOne }
+    ensures bytes { IsSpelledByOne }
 {}

@@ -1,21 +1,19 @@
-// The state of a spelling.
-ghost use Rattle.std.specs.Prelude.{◌≡◌, IfOk, IsErrOf};
+// The state of bytes.
+ghost use Rattle.std.specs.Prelude.{IfOk, IsErrOf};
 ghost use Rattle.enrol_states.specs.declared.state.State.{State};
-ghost use Rattle.row_batches.specs.Batch.{whole_of};
-ghost use Rattle.state_codec.specs.Spelling.{rows_of, spelling};
+ghost use Rattle.state_codec.specs.Forms.{IsSpelled, MakesForm};
 ghost use Rattle.state_codec.specs.Sound.{IsSound};
 
-use crate::fault::CodecFault;
 use crate::row_reading::{MAX_SIZE, state_of};
 use enrol_states::State;
 use row_batches::{Batch, BatchFault, RowMap, batch_of};
+use state_values::CodecFault;
 use std::alloc::Global;
 
-/// The sound state of which the bytes are the spelling. `NotAState` comes exactly where there is
-/// none.
+/// The sound state of which the bytes are the spelling, or spell the old form. `NotAState` comes exactly where there is none.
 pub fn read_state(alloc: Global, bytes: &[u8]) -> Result<State, CodecFault>
-    ensures state { IfOk result (λ s. IsSound s × (bytes.now ≡ spelling s)) }
-    ensures not_a_state { IsErrOf result CodecFault.NotAState → (s : State) → IsSound s → bytes.now ≡ spelling s → ⊥ }
+    ensures state { IfOk result (λ s. IsSound s × IsSpelled s bytes.now) }
+    ensures not_a_state { IsErrOf result CodecFault.NotAState → (s : State) → IsSound s → IsSpelled s bytes.now → ⊥ }
 {
     if bytes.len() > MAX_SIZE {
         return Err(CodecFault::NotAState);
@@ -27,11 +25,11 @@ pub fn read_state(alloc: Global, bytes: &[u8]) -> Result<State, CodecFault>
     }
 }
 
-/// The sound state of which this is the batch that makes its rows. `NotAState` comes exactly where
-/// there is none.
+// The sound state of which this is the batch that makes its rows, or their old form. `NotAState` comes exactly where there is
+// none.
 fn state_made(alloc: Global, batch: Batch) -> Result<State, CodecFault>
-    ensures state { IfOk result (λ s. IsSound s × (batch ≡ whole_of (rows_of s))) }
-    ensures not_a_state { IsErrOf result CodecFault.NotAState → (s : State) → IsSound s → batch ≡ whole_of (rows_of s) → ⊥ }
+    ensures state { IfOk result (λ s. IsSound s × MakesForm s batch) }
+    ensures not_a_state { IsErrOf result CodecFault.NotAState → (s : State) → IsSound s → MakesForm s batch → ⊥ }
 {
     if !batch.is_clear() {
         return Err(CodecFault::NotAState);

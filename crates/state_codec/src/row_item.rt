@@ -5,18 +5,18 @@ ghost use Rattle.recipe_reader.specs.declared.recipe.Recipe.{Recipe};
 ghost use Rattle.enrol_states.specs.Statuses.{IsStatus};
 ghost use Rattle.enrol_states.specs.declared.state.Row.{Row};
 ghost use Rattle.state_codec.specs.Kinds.{letter};
-ghost use Rattle.state_codec.specs.Spelling.{item_row, recipe_text};
-ghost use Rattle.state_codec.specs.Statuses.{status_bytes};
+ghost use Rattle.state_values.specs.Values.{recipe_text};
+ghost use Rattle.state_codec.specs.Spelling.{item_row};
+ghost use Rattle.state_values.specs.Statuses.{status_bytes};
 
-use crate::record_text::recipe_text;
 use crate::row_kind::RowKind;
 use crate::row_making::row_of;
-use crate::status::push_status;
 use enrol_states::Row;
 use plain_text::Slug;
 use recipe_reader::{Recipe, record_length};
 use row_batches::StoreRow;
 use sequences::Text;
+use state_values::{push_status, recipe_text};
 use std::alloc::{AllocError, Global};
 
 /// An item of a state's list, which has a row.

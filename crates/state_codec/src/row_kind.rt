@@ -15,8 +15,8 @@ pub(crate) enum RowKind {
     Pending,
     /// A slug that the user opted out of.
     OptedOut,
-    /// Whether the client takes part.
-    Participating,
+    /// Which kinds of recipes the client takes part in.
+    Participation,
     /// Whether recipes are pending.
     IsPending,
     /// What the client is to a recipe.
@@ -40,7 +40,7 @@ impl RowKind {
             RowKind::Live => b'l',
             RowKind::Pending => b'n',
             RowKind::OptedOut => b'o',
-            RowKind::Participating => b'p',
+            RowKind::Participation => b'p',
             RowKind::IsPending => b'q',
             RowKind::Status => b'r',
             RowKind::Installed => b't',

@@ -1,17 +1,15 @@
-// The rows of a state's parts, one by one.
+// The rows that a state has one of each.
 ghost use Rattle.std.specs.Prelude.{◌≡◌, ◌∷◌, [], codes, IfOk};
 ghost use Rattle.state_codec.specs.Kinds.{letter};
-ghost use Rattle.state_codec.specs.Spelling.{hyphenated, row, key_row, recipe_row, status_row, bit};
-ghost use Rattle.state_codec.specs.Statuses as statuses;
+ghost use Rattle.state_values.specs.Values.{hyphenated, bit, participation};
+ghost use Rattle.state_codec.specs.Spelling.{row};
+ghost use Rattle.state_values.specs.Statuses as statuses;
 
-use crate::record_text::recipe_text;
 use crate::row_kind::RowKind;
-use crate::status::{number, push_status};
-use enrol_states::Row;
-use plain_text::Slug;
-use recipe_reader::Recipe;
+use enrol_states::State;
 use row_batches::StoreRow;
 use sequences::{Sequence, Text};
+use state_values::{number_bytes, participation_byte};
 use std::alloc::{AllocError, Global};
 use uuid::Uuid;
 
@@ -41,19 +39,8 @@ pub(crate) fn row_of(
     })
 }
 
-pub(crate) fn feature_row(alloc: Global, feature: &Text) -> Result<StoreRow, AllocError>
-    ensures { IfOk result (λ r. r ≡ key_row (codes "c") feature.now) }
-{
-    row_of(
-        alloc,
-        RowKind::Coenrolling,
-        feature.as_str(),
-        Vec::new(alloc),
-    )
-}
-
 /// The row of the id's text, in lower case and with hyphens (RFC 9562).
-#[tactic(auto, unfolding(crate::specs::Spelling::hyphenated))]
+#[tactic(auto, unfolding(state_values::specs::Values::hyphenated))]
 pub(crate) fn id_row(alloc: Global, id: Uuid) -> Result<StoreRow, AllocError>
     ensures { IfOk result (λ r. r ≡ row (codes "i") (hyphenated id)) }
 {
@@ -62,43 +49,32 @@ pub(crate) fn id_row(alloc: Global, id: Uuid) -> Result<StoreRow, AllocError>
     row_of(alloc, RowKind::Id, "", text.as_bytes().to_vec(alloc)?)
 }
 
-pub(crate) fn recipe_row(
-    alloc: Global,
-    kind: RowKind,
-    recipe: &Recipe,
-) -> Result<StoreRow, AllocError>
-    ensures { IfOk result (λ r. r ≡ recipe_row (letter kind ∷ []) recipe.now) }
+/// The row whose value is one byte.
+pub(crate) fn byte_row(alloc: Global, kind: RowKind, byte: u8) -> Result<StoreRow, AllocError>
+    ensures { IfOk result (λ r. r ≡ row (letter kind ∷ []) (byte ∷ [])) }
 {
-    let text = recipe_text(alloc, recipe)?;
-    row_of(alloc, kind, recipe.slug.text(), text)
+    let mut value = Vec::new(alloc);
+    value.push(byte)?;
+    row_of(alloc, kind, "", value)
 }
 
-pub(crate) fn slug_row(alloc: Global, slug: &Slug) -> Result<StoreRow, AllocError>
-    ensures { IfOk result (λ r. r ≡ key_row (codes "o") slug.now) }
+/// The row of participation.
+pub(crate) fn participation_row(alloc: Global, state: &State) -> Result<StoreRow, AllocError>
+    ensures { IfOk result (λ r. r ≡ row (codes "p") (participation state.now ∷ [])) }
 {
-    row_of(alloc, RowKind::OptedOut, slug.text(), Vec::new(alloc))
+    byte_row(alloc, RowKind::Participation, participation_byte(state))
 }
 
 pub(crate) fn flag_row(alloc: Global, kind: RowKind, flag: bool) -> Result<StoreRow, AllocError>
     ensures { IfOk result (λ r. r ≡ row (letter kind ∷ []) (bit flag ∷ [])) }
 {
-    let mut value = Vec::new(alloc);
-    value.push(bit(flag))?;
-    row_of(alloc, kind, "", value)
-}
-
-pub(crate) fn status_row(alloc: Global, client_row: &Row) -> Result<StoreRow, AllocError>
-    ensures { IfOk result (λ r. r ≡ status_row client_row.now) }
-{
-    let mut status = Vec::new(alloc);
-    push_status(&mut status, &client_row.status)?;
-    row_of(alloc, RowKind::Status, client_row.slug.text(), status)
+    byte_row(alloc, kind, bit(flag))
 }
 
 pub(crate) fn moment_row(alloc: Global, kind: RowKind, moment: u64) -> Result<StoreRow, AllocError>
     ensures { IfOk result (λ r. r ≡ row (letter kind ∷ []) (statuses.number moment)) }
 {
-    let value = number(moment).as_slice().to_vec(alloc)?;
+    let value = number_bytes(moment).as_slice().to_vec(alloc)?;
     row_of(alloc, kind, "", value)
 }
 
@@ -109,7 +85,8 @@ pub(crate) fn version_row(alloc: Global, version: &Text) -> Result<StoreRow, All
     row_of(alloc, RowKind::Version, "", value)
 }
 
-fn bit(flag: bool) -> u8
+/// 1 for a set flag, else 0.
+pub(crate) fn bit(flag: bool) -> u8
     ensures { result ≡ bit flag }
 {
     if flag { 1 } else { 0 }

@@ -1,30 +1,31 @@
-// What rows have under a tag, which is the first byte of their keys.
+// What the rows of a kind say.
 ghost use Rattle.std.specs.Prelude.{◌≡◌, option_map, IfOk, OnOk};
 ghost use Rattle.recipe_reader.specs.Payloads.{AreValid};
-ghost use Rattle.state_codec.specs.Outcome.{Gives, with_last};
+ghost use Rattle.state_codec.specs.Kinds.{letter};
+ghost use Rattle.state_values.specs.Outcome.{Gives};
+ghost use Rattle.state_codec.specs.Folds.{with_last};
 ghost use Rattle.state_codec.specs.Reading.{after_tag, slug_row, text_row, recipe_row, client_row_in, client_row, slugs_under, texts_under, client_rows_under, inserted, recipes_under, value_under, IsValidIf};
 
-use crate::fault::CodecFault;
-use crate::status_reading::status_in;
-use crate::values::{recipe_in, slug_in, text_in};
+use crate::row_kind::RowKind;
 use enrol_states::{MAX_RECIPES, Row};
 use plain_text::Slug;
 use recipe_reader::{Recipe, Recipes};
 use row_batches::StoreRow;
 use sequences::{Sequence, Text};
+use state_values::{CodecFault, recipe_in, slug_in, status_in, text_in};
 use std::alloc::{AllocError, Global};
 
 #[tactic(auto, unfolding(crate::specs::Reading::texts_under))]
 pub(crate) fn texts_under(
     alloc: Global,
-    tag: u8,
+    kind: RowKind,
     rows: &[StoreRow],
 ) -> Result<Sequence<Text>, CodecFault>
-    ensures { Gives (λ ts. ts) result (texts_under tag rows.now) }
+    ensures { Gives (λ ts. ts) result (texts_under (letter kind) rows.now) }
 {
     let mut texts = Sequence::new(alloc);
     for row in rows {
-        let text = text_row(alloc, tag, row)?;
+        let text = text_row(alloc, kind, row)?;
         keep(&mut texts, text)?;
     }
     Ok(texts)
@@ -33,14 +34,14 @@ pub(crate) fn texts_under(
 #[tactic(auto, unfolding(crate::specs::Reading::slugs_under))]
 pub(crate) fn slugs_under(
     alloc: Global,
-    tag: u8,
+    kind: RowKind,
     rows: &[StoreRow],
 ) -> Result<Sequence<Slug>, CodecFault>
-    ensures { Gives (λ ss. ss) result (slugs_under tag rows.now) }
+    ensures { Gives (λ ss. ss) result (slugs_under (letter kind) rows.now) }
 {
     let mut slugs = Sequence::new(alloc);
     for row in rows {
-        let slug = slug_row(alloc, tag, row)?;
+        let slug = slug_row(alloc, kind, row)?;
         keep(&mut slugs, slug)?;
     }
     Ok(slugs)
@@ -49,14 +50,14 @@ pub(crate) fn slugs_under(
 #[tactic(auto, unfolding(crate::specs::Reading::client_rows_under))]
 pub(crate) fn client_rows_under(
     alloc: Global,
-    tag: u8,
+    kind: RowKind,
     rows: &[StoreRow],
 ) -> Result<Sequence<Row>, CodecFault>
-    ensures { Gives (λ rs. rs) result (client_rows_under tag rows.now) }
+    ensures { Gives (λ rs. rs) result (client_rows_under (letter kind) rows.now) }
 {
     let mut client_rows = Sequence::new(alloc);
     for row in rows {
-        let client_row = client_row(alloc, tag, row)?;
+        let client_row = client_row(alloc, kind, row)?;
         keep(&mut client_rows, client_row)?;
     }
     Ok(client_rows)
@@ -66,26 +67,26 @@ pub(crate) fn client_rows_under(
 #[tactic(auto, unfolding(crate::specs::Reading::recipes_under))]
 pub(crate) fn recipes_under(
     alloc: Global,
-    tag: u8,
+    kind: RowKind,
     rows: &[StoreRow],
 ) -> Result<Recipes, CodecFault>
-    ensures recipes { Gives (λ rs. rs) result (recipes_under tag rows.now) }
+    ensures recipes { Gives (λ rs. rs) result (recipes_under (letter kind) rows.now) }
     ensures valid { IfOk result AreValid }
 {
     let mut recipes = Recipes::new(alloc);
     for row in rows {
-        let recipe = recipe_row(alloc, tag, row)?;
+        let recipe = recipe_row(alloc, kind, row)?;
         insert(&mut recipes, recipe)?;
     }
     Ok(recipes)
 }
 
-/// The value of the first row that has the tag.
-pub(crate) fn value_under(tag: u8, rows: &[StoreRow]) -> Result<&[u8], CodecFault>
-    ensures { Gives (λ v. v.now) result (value_under tag rows.now) }
+/// The value of the first row of the kind.
+pub(crate) fn value_under(kind: RowKind, rows: &[StoreRow]) -> Result<&[u8], CodecFault>
+    ensures { Gives (λ v. v.now) result (value_under (letter kind) rows.now) }
 {
     for row in rows {
-        if after_tag(tag, row.key.as_slice()).is_some() {
+        if after_letter(kind, row.key.as_slice()).is_some() {
             return Ok(row.value.as_slice());
         }
     }
@@ -93,30 +94,30 @@ pub(crate) fn value_under(tag: u8, rows: &[StoreRow]) -> Result<&[u8], CodecFaul
 }
 
 #[tactic(auto, unfolding(crate::specs::Reading::text_row))]
-fn text_row(alloc: Global, tag: u8, row: &StoreRow) -> Result<Option<Text>, CodecFault>
-    ensures { Gives (λ o. o) result (text_row tag row.now) }
+fn text_row(alloc: Global, kind: RowKind, row: &StoreRow) -> Result<Option<Text>, CodecFault>
+    ensures { Gives (λ o. o) result (text_row (letter kind) row.now) }
 {
-    match after_tag(tag, row.key.as_slice()) {
+    match after_letter(kind, row.key.as_slice()) {
         Some(rest) => Ok(Some(text_in(alloc, rest)?)),
         None => Ok(None),
     }
 }
 
 #[tactic(auto, unfolding(crate::specs::Reading::slug_row))]
-fn slug_row(alloc: Global, tag: u8, row: &StoreRow) -> Result<Option<Slug>, CodecFault>
-    ensures { Gives (λ o. o) result (slug_row tag row.now) }
+fn slug_row(alloc: Global, kind: RowKind, row: &StoreRow) -> Result<Option<Slug>, CodecFault>
+    ensures { Gives (λ o. o) result (slug_row (letter kind) row.now) }
 {
-    match after_tag(tag, row.key.as_slice()) {
+    match after_letter(kind, row.key.as_slice()) {
         Some(rest) => Ok(Some(slug_in(alloc, rest)?)),
         None => Ok(None),
     }
 }
 
 #[tactic(auto, unfolding(crate::specs::Reading::client_row))]
-fn client_row(alloc: Global, tag: u8, row: &StoreRow) -> Result<Option<Row>, CodecFault>
-    ensures { Gives (λ o. o) result (client_row tag row.now) }
+fn client_row(alloc: Global, kind: RowKind, row: &StoreRow) -> Result<Option<Row>, CodecFault>
+    ensures { Gives (λ o. o) result (client_row (letter kind) row.now) }
 {
-    match after_tag(tag, row.key.as_slice()) {
+    match after_letter(kind, row.key.as_slice()) {
         Some(rest) => Ok(Some(client_row_in(alloc, rest, row.value.as_slice())?)),
         None => Ok(None),
     }
@@ -132,27 +133,28 @@ fn client_row_in(alloc: Global, rest: &[u8], value: &[u8]) -> Result<Row, CodecF
 }
 
 #[tactic(auto, unfolding(crate::specs::Reading::recipe_row))]
-fn recipe_row(alloc: Global, tag: u8, row: &StoreRow) -> Result<Option<Recipe>, CodecFault>
-    ensures recipe { Gives (λ o. o) result (recipe_row tag row.now) }
+fn recipe_row(alloc: Global, kind: RowKind, row: &StoreRow) -> Result<Option<Recipe>, CodecFault>
+    ensures recipe { Gives (λ o. o) result (recipe_row (letter kind) row.now) }
     ensures valid { IfOk result IsValidIf }
 {
-    match after_tag(tag, row.key.as_slice()) {
+    match after_letter(kind, row.key.as_slice()) {
         Some(_) => Ok(Some(recipe_in(alloc, row.value.as_slice())?)),
         None => Ok(None),
     }
 }
 
-/// What follows the tag in a key that begins with it.
-fn after_tag(tag: u8, key: &[u8]) -> Option<&[u8]>
-    ensures { option_map (λ rest. rest.now) result ≡ after_tag tag key.now }
+// What follows the kind's letter in a key that begins with it.
+fn after_letter(kind: RowKind, key: &[u8]) -> Option<&[u8]>
+    ensures { option_map (λ rest. rest.now) result ≡ after_tag (letter kind) key.now }
 {
+    let letter = kind.letter();
     match key {
-        [first, rest @ ..] if *first == tag => Some(rest),
+        [first, rest @ ..] if *first == letter => Some(rest),
         _ => None,
     }
 }
 
-/// Puts an item at the end, where there is one.
+// Puts an item at the end, where there is one.
 fn keep<T: Drop>(items: &mut Sequence<T>, item: Option<T>) -> Result<(), AllocError>
     ensures { OnOk result (items.new ≡ with_last items.old item) }
 {
@@ -162,8 +164,8 @@ fn keep<T: Drop>(items: &mut Sequence<T>, item: Option<T>) -> Result<(), AllocEr
     Ok(())
 }
 
-/// Puts a recipe at its place, where there is one. No recipe that is there may have its slug, and
-/// fewer than 2,000 may be there.
+// Puts a recipe at its place, where there is one. No recipe that is there may have its slug, and
+// fewer than 2,000 may be there.
 fn insert(recipes: &mut Recipes, recipe: Option<Recipe>) -> Result<(), CodecFault>
     ensures recipes { Gives (λ _. recipes.new) result (inserted recipes.old recipe) }
     ensures valid { OnOk result (IsValidIf recipe → AreValid recipes.old → AreValid recipes.new) }

@@ -4,26 +4,28 @@ ghost use Rattle.recipe_reader.specs.Payloads.{AreValid};
 ghost use Rattle.plain_text.specs.Names.{is_name};
 ghost use Rattle.enrol_states.specs.Consistent.{IsConsistent};
 ghost use Rattle.row_batches.specs.Batch.{puts_text};
+ghost use Rattle.state_codec.specs.Forms.{old_spelling};
 ghost use Rattle.state_codec.specs.Spelling.{spelling, key_row, recipe_row, recipe_rows, status_row, pending_recipes};
 ghost use Rattle.state_codec.specs.Sound.{IsSound, HaveRecords, AreRecords};
 
-use crate::status::status_len;
 use enrol_states::{Row, State};
 use plain_text::Slug;
 use recipe_reader::{Recipe, Recipes, record_length};
 use sequences::Text;
+use state_values::status_len;
 
 /// The bytes of a put beside its key and its value.
 const PUT: u128 = 7;
 
-/// The clear, and the rows of a state that are always there: the id, whether the client
-/// participates, whether recipes are pending, two moments, and the version without its value.
+/// The clear, and the rows that a state has one of each: the id, participation, whether recipes are pending, two moments, and
+/// the version without its value.
 const FRAME: u128 = 103;
 
-/// How many bytes the state's spelling has. It is counted without a text, and takes no memory.
+/// How many bytes the state's spelling has, and its old form. It is counted without a text, and takes no memory.
 pub fn state_size(state: &State) -> u128
     requires { IsConsistent state.now }
     ensures size { result ≡ length (spelling state.now) }
+    ensures old_size { result ≡ length (old_spelling state.now) }
     ensures records { HaveRecords state.now }
 {
     let live = recipes_size(state.live.as_slice());

@@ -5,6 +5,7 @@ ghost use Rattle.recipe_reader.specs.Payloads.{AreValid, has_slug, recipe_with};
 ghost use Rattle.enrol_states.specs.Order.{Rise};
 ghost use Rattle.enrol_states.specs.State.{slugs_of};
 ghost use Rattle.enrol_states.specs.Statuses.{IsSlug};
+ghost use Rattle.enrol_states.specs.Participation.{may_take_part};
 ghost use Rattle.enrol_states.specs.Recipes.{offers};
 ghost use Rattle.enrol_states.specs.Consistent.{IsConsistent, AreKept, ArePending};
 ghost use Rattle.state_codec.specs.Reading.{AreValidIf};
@@ -18,7 +19,7 @@ use recipe_reader::Recipes;
 use sequences::Text;
 use std::alloc::{AllocError, Global};
 
-/// Whether the state, whose recipes are valid, is consistent. The one error is want of memory.
+/// Whether the state, whose recipes are valid, is consistent.
 pub(crate) fn is_consistent(alloc: Global, state: &State) -> Result<bool, AllocError>
     requires live { AreValid state.now.live }
     requires pending { AreValidIf state.now.pending }
@@ -111,7 +112,7 @@ fn are_rows_of(state: &State, rows: &[Row]) -> bool
     true
 }
 
-/// Whether the row fits the state's recipes, and what the user chose.
+// Whether the row fits the state's recipes, and what the user chose.
 fn is_row_of(state: &State, row: &Row) -> bool
     requires { Rise state.now.opted_out }
     ensures { IsTrue result ↔ IsRowOf state.now row.now }
@@ -136,9 +137,19 @@ fn may_be_enrolled(state: &State, slug: &Slug, branch: &Slug) -> bool
     ensures { IsTrue result ↔ MayBeEnrolled state.now slug.now branch.now }
 {
     slug_fits(branch);
-    state.participating
+    may_take_part(state, slug.text())
         && !state.is_opted_out(slug.text())
         && offers(&state.live, slug.text(), branch.text())
+}
+
+// Whether participation of the kind of the slug's recipe is on.
+fn may_take_part(state: &State, slug: &str) -> bool
+    ensures { result ≡ may_take_part state.now (recipe_with slug.now state.now.live) }
+{
+    match state.live.get(slug) {
+        Some(recipe) => state.takes_part(recipe.kind()),
+        None => true,
+    }
 }
 
 fn has_recipe(state: &State, slug: &Slug) -> bool
@@ -147,7 +158,7 @@ fn has_recipe(state: &State, slug: &Slug) -> bool
     state.live.get(slug.text()).is_some()
 }
 
-/// Whether the slug has a recipe that has the branch.
+// Whether the slug has a recipe that has the branch.
 fn offers(recipes: &Recipes, slug: &str, branch: &str) -> bool
     ensures { result ≡ offers (recipe_with slug.now recipes.now) branch.now }
 {
@@ -190,7 +201,7 @@ fn rows_rise(rows: &[Row]) -> bool
 
 // ---- what the types keep
 
-/// What the type of slugs says. The call changes nothing.
+// What the type of slugs says. The call changes nothing.
 fn slugs_fit(slugs: &[Slug])
     ensures { All IsSlug slugs.now }
 {

@@ -1,17 +1,20 @@
 // What rows say of a state. Of rows that spell a state it is that state.
 ghost use Rattle.std.specs.Prelude.{◌≡◌, IfOk};
 ghost use Rattle.recipe_reader.specs.Payloads.{AreValid};
-ghost use Rattle.state_codec.specs.Outcome.{Gives};
-ghost use Rattle.state_codec.specs.Reading.{id_under, version_under, number_under, flag_under, pending_if, lists_in, recipes_in, last_in, state_in, HaveValid, AreValidIf};
+ghost use Rattle.state_codec.specs.Kinds.{letter};
+ghost use Rattle.state_values.specs.Outcome.{Gives};
+ghost use Rattle.state_codec.specs.Reading.{id_under, participation_under, version_under, number_under, flag_under, pending_if, lists_in, recipes_in, last_in, state_in, HaveValid, AreValidIf};
 
-use crate::fault::CodecFault;
+use crate::row_kind::RowKind;
 use crate::sections::{client_rows_under, recipes_under, slugs_under, texts_under, value_under};
-use crate::values::{flag_in, id_in, number_in, text_in};
 use enrol_states::{Row, State};
 use plain_text::Slug;
 use recipe_reader::Recipes;
 use row_batches::StoreRow;
 use sequences::{SharedList, Text};
+use state_values::{
+    CodecFault, Participation, flag_in, id_in, number_in, participation_in, text_in,
+};
 use std::alloc::Global;
 use uuid::Uuid;
 
@@ -45,7 +48,7 @@ pub(crate) fn state_in(alloc: Global, rows: &[StoreRow]) -> Result<State, CodecF
     ensures pending { IfOk result (λ s. AreValidIf s.pending) }
 {
     let id = id_under(rows)?;
-    let participating = flag_under(b'p', rows)?;
+    let participation = participation_under(rows)?;
     let lists = lists_in(alloc, rows)?;
     let recipes = recipes_in(alloc, rows)?;
     let last = last_in(alloc, rows)?;
@@ -54,7 +57,8 @@ pub(crate) fn state_in(alloc: Global, rows: &[StoreRow]) -> Result<State, CodecF
         installed: last.installed,
         updated: last.updated,
         version: last.version,
-        participating,
+        experiments: participation.experiments,
+        rollouts: participation.rollouts,
         opted_out: lists.opted_out,
         coenrolling: lists.coenrolling,
         live: recipes.live,
@@ -67,9 +71,9 @@ pub(crate) fn state_in(alloc: Global, rows: &[StoreRow]) -> Result<State, CodecF
 fn lists_in(alloc: Global, rows: &[StoreRow]) -> Result<Lists, CodecFault>
     ensures { Gives (λ l. l) result (lists_in rows.now) }
 {
-    let coenrolling = texts_under(alloc, b'c', rows)?;
-    let opted_out = slugs_under(alloc, b'o', rows)?;
-    let rows = client_rows_under(alloc, b'r', rows)?;
+    let coenrolling = texts_under(alloc, RowKind::Coenrolling, rows)?;
+    let opted_out = slugs_under(alloc, RowKind::OptedOut, rows)?;
+    let rows = client_rows_under(alloc, RowKind::Status, rows)?;
     Ok(Lists {
         coenrolling: SharedList::from_sequence(alloc, coenrolling)?,
         opted_out: SharedList::from_sequence(alloc, opted_out)?,
@@ -82,9 +86,9 @@ fn recipes_in(alloc: Global, rows: &[StoreRow]) -> Result<StateRecipes, CodecFau
     ensures recipes { Gives (λ r. r) result (recipes_in rows.now) }
     ensures valid { IfOk result HaveValid }
 {
-    let live = recipes_under(alloc, b'l', rows)?;
-    let waiting = recipes_under(alloc, b'n', rows)?;
-    let pending = flag_under(b'q', rows)?;
+    let live = recipes_under(alloc, RowKind::Live, rows)?;
+    let waiting = recipes_under(alloc, RowKind::Pending, rows)?;
+    let pending = flag_under(RowKind::IsPending, rows)?;
     Ok(StateRecipes {
         live,
         pending: pending_if(pending, waiting),
@@ -102,8 +106,8 @@ fn pending_if(pending: bool, waiting: Recipes) -> Option<Recipes>
 fn last_in(alloc: Global, rows: &[StoreRow]) -> Result<Last, CodecFault>
     ensures { Gives (λ l. l) result (last_in rows.now) }
 {
-    let installed = number_under(b't', rows)?;
-    let updated = number_under(b'u', rows)?;
+    let installed = number_under(RowKind::Installed, rows)?;
+    let updated = number_under(RowKind::Updated, rows)?;
     let version = version_under(alloc, rows)?;
     Ok(Last {
         installed,
@@ -116,30 +120,38 @@ fn last_in(alloc: Global, rows: &[StoreRow]) -> Result<Last, CodecFault>
 fn id_under(rows: &[StoreRow]) -> Result<Uuid, CodecFault>
     ensures { Gives (λ id. id) result (id_under rows.now) }
 {
-    let value = value_under(b'i', rows)?;
+    let value = value_under(RowKind::Id, rows)?;
     id_in(value)
+}
+
+#[tactic(auto, unfolding(crate::specs::Reading::participation_under))]
+fn participation_under(rows: &[StoreRow]) -> Result<Participation, CodecFault>
+    ensures { Gives (λ p. p) result (participation_under rows.now) }
+{
+    let value = value_under(RowKind::Participation, rows)?;
+    participation_in(value)
 }
 
 #[tactic(auto, unfolding(crate::specs::Reading::version_under))]
 fn version_under(alloc: Global, rows: &[StoreRow]) -> Result<Text, CodecFault>
     ensures { Gives (λ t. t) result (version_under rows.now) }
 {
-    let value = value_under(b'v', rows)?;
+    let value = value_under(RowKind::Version, rows)?;
     text_in(alloc, value)
 }
 
 #[tactic(auto, unfolding(crate::specs::Reading::number_under))]
-fn number_under(tag: u8, rows: &[StoreRow]) -> Result<u64, CodecFault>
-    ensures { Gives (λ n. n) result (number_under tag rows.now) }
+fn number_under(kind: RowKind, rows: &[StoreRow]) -> Result<u64, CodecFault>
+    ensures { Gives (λ n. n) result (number_under (letter kind) rows.now) }
 {
-    let value = value_under(tag, rows)?;
+    let value = value_under(kind, rows)?;
     number_in(value)
 }
 
 #[tactic(auto, unfolding(crate::specs::Reading::flag_under))]
-fn flag_under(tag: u8, rows: &[StoreRow]) -> Result<bool, CodecFault>
-    ensures { Gives (λ b. b) result (flag_under tag rows.now) }
+fn flag_under(kind: RowKind, rows: &[StoreRow]) -> Result<bool, CodecFault>
+    ensures { Gives (λ b. b) result (flag_under (letter kind) rows.now) }
 {
-    let value = value_under(tag, rows)?;
+    let value = value_under(kind, rows)?;
     Ok(flag_in(value))
 }

@@ -8,7 +8,7 @@ use enrol_states::State;
 use std::alloc::{AllocError, Global};
 
 /// The spelling of the state: a clear of all rows, and a put of each of its rows in the order of
-/// their keys. The one error is want of memory.
+/// their keys.
 pub fn write_state(alloc: Global, state: &State) -> Result<Vec<u8>, AllocError>
     requires { IsSound state.now }
     ensures { IfOk result (λ bytes. bytes.items ≡ spelling state.now) }

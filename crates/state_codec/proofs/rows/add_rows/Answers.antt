@@ -1,17 +1,18 @@
 -- The rows of the parts, one behind the other.
 use Rattle.std.proofs.Common.{◌++◌, ◌∙◌, ap, map, codes}
 use Rattle.std.proofs.lemmas.Result.{on_ok_weaker}
-use Rattle.state_codec.specs.Spelling.{hyphenated, row, key_row, recipe_row, status_rows, last_rows, pending_recipes, rows_of}
+use Rattle.state_values.specs.Values.{hyphenated}
+use Rattle.state_codec.specs.Spelling.{row, key_row, recipe_row, status_rows, last_rows, pending_recipes, rows_with}
 use Rattle.state_codec.proofs.Added.{follow, row_then}
 use Rattle.state_codec.proofs.rows.add_rows.Goals as goal
 
 pub returns : goal.returns
-unfolding rows_of
+unfolding rows_with
 returns c =
     let s = c.args.state.now in
-    let features = c.in_ok-add_features.ensures ∙ ap (λ xs. c.args.rows.now ++ map (key_row (codes "c")) xs) c.as_slice.ensures in
-    let live = c.in_ok-add_recipes.ensures ∙ ap (λ rs. c.push.new.self ++ map (recipe_row (codes "l")) rs) c.as_slice-2.ensures.recipes in
-    let opted_out = c.in_ok-add_slugs.ensures ∙ ap (λ ss. c.add_pending.new.rows ++ map (key_row (codes "o")) ss) c.as_slice-3.ensures in
+    let features = c.in_ok-add_items.ensures ∙ ap (λ xs. c.args.rows.now ++ map (key_row (codes "c")) xs) c.as_slice.ensures in
+    let live = c.in_ok-add_items-2.ensures ∙ ap (λ rs. c.push.new.self ++ map (recipe_row (codes "l")) rs) c.as_slice-2.ensures.recipes in
+    let opted_out = c.in_ok-add_items-3.ensures ∙ ap (λ ss. c.add_pending.new.rows ++ map (key_row (codes "o")) ss) c.as_slice-3.ensures in
     on_ok_weaker c.add_last.result
     (λ last.
     (follow (map (key_row (codes "c")) s.coenrolling) _ _ features
@@ -19,6 +20,6 @@ returns c =
     (follow (map (recipe_row (codes "l")) s.live) _ _ live
     (follow (map (recipe_row (codes "n")) (pending_recipes s.pending)) _ _ c.in_ok-add_pending.ensures
     (follow (map (key_row (codes "o")) s.opted_out) _ _ opted_out
-    (follow (status_rows s) (last_rows s) _ c.in_ok-add_statuses.ensures
+    (follow (status_rows c.args.byte s) (last_rows s) _ c.in_ok-add_statuses.ensures
     last)))))))
     c.add_last.ensures

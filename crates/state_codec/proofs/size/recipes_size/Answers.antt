@@ -3,8 +3,9 @@ use Rattle.std.proofs.Common.{◌≡◌, ◌∷◌, [], length, refl, ap, arith}
 use Rattle.json_tree.specs.Bytes.{text_of}
 use Rattle.recipe_reader.specs.Records.{record_json}
 use Rattle.recipe_reader.specs.declared.recipe.Recipe.{Recipe}
-use Rattle.state_codec.specs.Spelling.{recipe_row, recipe_text}
-use Rattle.state_codec.proofs.Names.{slug_short}
+use Rattle.state_values.specs.Values.{recipe_text}
+use Rattle.state_codec.specs.Spelling.{recipe_row}
+use Rattle.state_values.proofs.Names.{slug_short}
 use Rattle.state_codec.proofs.Sizes.{size_more}
 use Rattle.state_codec.proofs.Records.{records_more}
 use Rattle.state_codec.proofs.Valids.{valid_at}

@@ -1,0 +1,4 @@
+pub mod Statuses
+pub mod Values
+pub mod Outcome
+pub mod Reading
