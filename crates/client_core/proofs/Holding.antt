@@ -1,5 +1,5 @@
 -- What a host holds on which a client is open.
-use Rattle.std.proofs.Common.{◌≡◌, inl, inr, ℕ, ◌<◌, List, [], ◌∷◌, length, sym, ◌∙◌, ap, subst, arith}
+use Rattle.std.proofs.Common.{◌≡◌, inl, inr, ℕ, ◌<◌, List, [], length, refl, sym, ◌∙◌, ap, subst, arith}
 use Rattle.host_model.specs.declared.host.Host.{Ghosts}
 use Rattle.host_model.specs.declared.side.Side.{Side}
 use Rattle.host_model.specs.declared.side.Side.TheVariants.{Left, Right}
@@ -19,16 +19,17 @@ use Rattle.row_store.specs.Folding.{Fold}
 use Rattle.row_store.specs.Moments.{KeepsEitherRows}
 use Rattle.row_store.specs.Store.{StoredRows, RowsStand, RowsStandWithGate}
 use Rattle.enrol_states.specs.declared.state.State.{State}
+use Rattle.state_codec.specs.Forms.{IsForm}
 use Rattle.state_codec.specs.Sound.{IsSound}
 use Rattle.state_codec.specs.Spelling.{rows_of}
 use Rattle.client_core.specs.declared.client.Client.{Client}
 use Rattle.client_core.specs.Clients.{state_of, end_of, IsOpenOn, HasGateOn, IsSameClient}
 use Rattle.client_core.specs.Moments.{WhileWritten}
 use Rattle.client_core.specs.OpenStore.{IsSettled, AllKept, AllStand}
-use Rattle.client_core.specs.Store.{StandsFor, KeptFor, KeptAmong}
+use Rattle.client_core.specs.Store.{StandsFor, KeptFor}
 
 pub stands_of_kept : (l r : List ℕ) (s : State) → KeptFor l r s → StandsFor l r s
-stands_of_kept l r s kept = record { sound = kept.sound; rows = (kept.rows.0, (kept.rows.1.0, kept.rows.1.1), kept.rows.2) }
+stands_of_kept l r s kept = record { sound = kept.sound; stored = kept.stored; form = kept.form; rows = (kept.rows.0, (kept.rows.1.0, kept.rows.1.1), kept.rows.2) }
 
 -- ---- rows that stand
 
@@ -39,17 +40,21 @@ module _ {H : Type 0} (h : Ghosts H) (store : StoredRows) (host : H) where
   pub ungated : RowsStandWithGate h store host → RowsStand h store host
   ungated gated = record { payloads = gated.payloads; pair = gated.pair.stands; made = gated.made }
 
-  module _ (s : State) (sound : IsSound s) (same : store.rows ≡ rows_of s) where
+  module _ (s : State) (sound : IsSound s) (form : IsForm s store.rows) where
     pub rows_stand : RowsStand h store host → AllStand h host s
     rows_stand stands l r left right = record {
       sound = sound;
-      rows = (stands.payloads, each_has_list h store.records host stands.payloads l r left right stands.pair, subst (Fold stands.payloads []) same stands.made);
+      stored = store.rows;
+      form = form;
+      rows = (stands.payloads, each_has_list h store.records host stands.payloads l r left right stands.pair, stands.made);
     }
 
     pub rows_kept : RowsStandWithGate h store host → AllKept h host s
     rows_kept gated l r left right = record {
       sound = sound;
-      rows = (gated.payloads, each_has_kept_list h store.records host gated.payloads l r left right gated.pair, subst (Fold gated.payloads []) same gated.made);
+      stored = store.rows;
+      form = form;
+      rows = (gated.payloads, each_has_kept_list h store.records host gated.payloads l r left right gated.pair, gated.made);
     }
 
   -- the same rows at the same place stand too
@@ -102,19 +107,14 @@ module _ {H : Type 0} (h : Ghosts H) (store : StoredRows) (host : H) (left : h.i
         made = stands.made;
       }
 
-  pub gated_among : (states : List State) → KeptAmong (h.reads host Left) (h.reads host Right) states → RowsStandWithGate h store host
-  gated_among [] among = absurd among
-  gated_among (s ∷ states) (inl kept) = rows_gated kept.rows.0 kept.rows.1
-  gated_among (s ∷ states) (inr among) = gated_among states among
-
 -- ---- a client
 
 module _ {H : Type 0} (h : Ghosts H) (client : Client) (host : H) (open_on : IsOpenOn h client host) where
   pub all_stand : AllStand h host (state_of client)
-  all_stand = rows_stand h client.store.rows host (state_of client) open_on.stored.sound open_on.stored.same open_on.stands
+  all_stand = rows_stand h client.store.rows host (state_of client) open_on.stored.sound (inl open_on.stored.same) open_on.stands
 
   pub all_kept : HasGateOn h client host → AllKept h host (state_of client)
-  all_kept gated = rows_kept h client.store.rows host (state_of client) open_on.stored.sound open_on.stored.same gated
+  all_kept gated = rows_kept h client.store.rows host (state_of client) open_on.stored.sound (inl open_on.stored.same) gated
 
   pub settled : IsSettled h host
   settled = rows_settled h client.store.rows host open_on.stands
@@ -145,8 +145,8 @@ pub while_written : {H : Type 0} (h : Ghosts H) (start new : H) (s t : State) �
 while_written h start new s t s_sound t_sound run =
     met_weaker h.moment h.might start new _ _ run (λ l r u met. (
       elim met.0 [
-        | inl kept ↦ inl (record { sound = s_sound; rows = kept })
-        | inr kept ↦ inr (record { sound = t_sound; rows = kept })
+        | inl kept ↦ inl (record { sound = s_sound; stored = rows_of s; form = inl refl; rows = kept })
+        | inr kept ↦ inr (record { sound = t_sound; stored = rows_of t; form = inl refl; rows = kept })
       ],
       met.1,
     ))

@@ -7,30 +7,46 @@ use Rattle.client_core.specs.declared.faults.ClientFault.TheVariants as opening
 use Rattle.client_core.specs.declared.faults.MakeFault.{MakeFault}
 use Rattle.client_core.specs.declared.faults.MakeFault.TheVariants as making
 use Rattle.client_core.specs.Finds.{OpenFinds, OpenFailed, MakeFinds, MakeFailed}
+use Rattle.client_core.specs.Openings.{OpenJudges}
 use Rattle.client_core.specs.Store.{StandsFor, IsStore, IsAbsent, IsBad}
 use Rattle.client_core.proofs.Refusing.{stands_not_absent}
 
+-- what the end of an opening says of the pair
+abbrev Finds : List ℕ → List ℕ → Result Client ClientFault → Type 0
+Finds l r (Ok client) = StandsFor l r client.store.state
+Finds l r (Err fault) = OpenFinds l r fault
+
 module _ (l r : List ℕ) where
-  pub opened_where : (result : Result Client ClientFault) → OpenFinds l r result → (s : State) → StandsFor l r s → IsOk result ⊎ OpenFailed result
+  opened_where : (result : Result Client ClientFault) → Finds l r result → (s : State) → StandsFor l r s → IsOk result ⊎ OpenFailed result
   opened_where (Ok client) finds s stands = inl refl
   opened_where (Err opening.NoStore) finds s stands = absurd (stands_not_absent l r s stands finds)
   opened_where (Err opening.BadStore) finds s stands = absurd (finds.no_state s stands)
   opened_where (Err opening.DiskFault) finds s stands = inr (inl refl)
   opened_where (Err opening.OutOfMemory) finds s stands = inr (inr refl)
 
-  pub no_store_where : (result : Result Client ClientFault) → OpenFinds l r result → IsAbsent l r → IsErrOf result opening.NoStore ⊎ OpenFailed result
+  no_store_where : (result : Result Client ClientFault) → Finds l r result → IsAbsent l r → IsErrOf result opening.NoStore ⊎ OpenFailed result
   no_store_where (Ok client) finds absent = absurd (stands_not_absent l r client.store.state finds absent)
   no_store_where (Err opening.NoStore) finds absent = inl refl
   no_store_where (Err opening.BadStore) finds absent = absurd (finds.found absent)
   no_store_where (Err opening.DiskFault) finds absent = inr (inl refl)
   no_store_where (Err opening.OutOfMemory) finds absent = inr (inr refl)
 
-  pub bad_store_where : (result : Result Client ClientFault) → OpenFinds l r result → IsBad l r → IsErrOf result opening.BadStore ⊎ OpenFailed result
+  bad_store_where : (result : Result Client ClientFault) → Finds l r result → IsBad l r → IsErrOf result opening.BadStore ⊎ OpenFailed result
   bad_store_where (Ok client) finds bad = absurd (bad.no_state client.store.state finds)
   bad_store_where (Err opening.NoStore) finds bad = absurd (bad.found finds)
   bad_store_where (Err opening.BadStore) finds bad = inl refl
   bad_store_where (Err opening.DiskFault) finds bad = inr (inl refl)
   bad_store_where (Err opening.OutOfMemory) finds bad = inr (inr refl)
+
+  judged : (result : Result Client ClientFault) → Finds l r result → OpenJudges l r result
+  judged result finds = record { opened = opened_where result finds; no_store = no_store_where result finds; bad_store = bad_store_where result finds }
+
+  -- which answer each pair has
+  pub opened_judges : (client : Client) → StandsFor l r client.store.state → OpenJudges l r (Ok client)
+  opened_judges client stands = judged (Ok client) stands
+
+  pub unopened_judges : (fault : ClientFault) → OpenFinds l r fault → OpenJudges {T = Client} l r (Err fault)
+  unopened_judges fault finds = judged (Err fault) finds
 
   module _ {T : Type 0} where
     pub made_where : (result : Result T MakeFault) → MakeFinds l r result → IsAbsent l r → IsOk result ⊎ MakeFailed result
@@ -55,7 +71,7 @@ module _ (l r : List ℕ) where
     bad_making_where (Err making.OutOfMemory) finds bad = inr (inr refl)
 
 -- what an opening found that opened nothing
-pub open_finds : (l r : List ℕ) (fault : ClientFault) → (fault ≡ opening.NoStore → IsAbsent l r) → (fault ≡ opening.BadStore → IsBad l r) → OpenFinds l r (Err fault)
+pub open_finds : (l r : List ℕ) (fault : ClientFault) → (fault ≡ opening.NoStore → IsAbsent l r) → (fault ≡ opening.BadStore → IsBad l r) → OpenFinds l r fault
 open_finds l r opening.NoStore absent bad = absent refl
 open_finds l r opening.BadStore absent bad = bad refl
 open_finds l r opening.DiskFault absent bad = tt

@@ -2,6 +2,7 @@
 use Rattle.std.proofs.Common.{ℕ, Bool, true, false, List, length, Option, Some, None, Result, Ok, Err, unwrap_or}
 use Rattle.std.specs.Prelude.{IfOk, nat_lt, if◌then◌else◌}
 use Rattle.json_tree.specs.Json.{Json, IsSound}
+use Rattle.recipe_reader.specs.Kinds.{kind_of}
 use Rattle.recipe_reader.specs.Payloads.{payload_of, recipe_with}
 use Rattle.recipe_reader.specs.declared.payload.Payload.{Payload}
 use Rattle.recipe_reader.specs.declared.payload.PayloadFault.{PayloadFault}
@@ -13,6 +14,7 @@ use Rattle.app_context.specs.declared.key.ContextKey.{ContextKey}
 use Rattle.enrol_evolver.specs.Evolution.{evolution}
 use Rattle.enrol_states.specs.Choices.{has_no_room}
 use Rattle.enrol_states.specs.Commands.{after_opt_out}
+use Rattle.enrol_states.specs.Participation.{takes_part}
 use Rattle.enrol_states.specs.Recipes.{has_branch}
 use Rattle.enrol_states.specs.declared.state.State.{State}
 use Rattle.state_codec.specs.Sound.{max_size, AreRecords, HaveRecords}
@@ -30,7 +32,7 @@ use Rattle.client_core.specs.Choosing.{first_taker}
 use Rattle.client_core.specs.Fetching.{file_tree}
 use Rattle.client_core.specs.Manifests.{manifest_of}
 use Rattle.client_core.specs.Settings.{Setting}
-use Rattle.client_core.specs.Steps.{Outcome, Accepted, Refused, Step, taking, choosing, fetched, fetching, context_read, reading_context, setting_manifest, applying, valued, serving, outcome, done, step}
+use Rattle.client_core.specs.Steps.{Outcome, Accepted, Refused, Step, taking, offering, choosing, fetched, fetching, context_read, reading_context, setting_manifest, applying, valued, serving, outcome, done, step}
 use Rattle.client_core.proofs.ReadFiles.{file_sound}
 use Rattle.client_core.proofs.ReadRecords.{OfPayload, payload_records}
 
@@ -101,22 +103,22 @@ module _ (at : Setting) (s : State) (session : Session) (h : HaveRecords s) wher
     branch-keeps r true = taking-keeps (first_taker s r s.rows)
     branch-keeps r false = tt
 
+    part-keeps : (r : Recipe) (on : Bool) → Keeps (if on then offering s session slug branch r else Refused NotParticipating)
+    part-keeps r true = branch-keeps r (has_branch r branch)
+    part-keeps r false = tt
+
     choosing-keeps : (found : Option Recipe) → Keeps (choosing s session slug branch found)
     choosing-keeps None = tt
-    choosing-keeps (Some r) = branch-keeps r (has_branch r branch)
-
-    in-keeps : (on : Bool) → Keeps (if on then choosing s session slug branch (recipe_with slug s.live) else Refused NotParticipating)
-    in-keeps true = choosing-keeps (recipe_with slug s.live)
-    in-keeps false = tt
+    choosing-keeps (Some r) = part-keeps r (takes_part s (kind_of r))
 
   outcome-keeps : (command : Command) → Keeps (outcome at s session command)
   outcome-keeps (commands.Manifest file channel) = manifest-keeps (manifest_of at.files file channel)
   outcome-keeps (commands.Context file) = file-keeps (file_tree file (at.files file))
   outcome-keeps (Fetch file) = fetch-keeps (file_tree file (at.files file)) (file_sound file (at.files file))
   outcome-keeps Apply = apply-keeps session.manifest session.context
-  outcome-keeps (Participate on) = record { live = h.live; pending = h.pending }
+  outcome-keeps (Participate part on) = record { live = h.live; pending = h.pending }
   outcome-keeps (OptOut slug) = out-keeps slug (has_no_room s.opted_out slug)
-  outcome-keeps (OptIn slug branch) = in-keeps slug branch s.participating
+  outcome-keeps (OptIn slug branch) = choosing-keeps slug branch (recipe_with slug s.live)
   outcome-keeps (Reset id) = record { live = h.live; pending = h.pending }
   outcome-keeps Show = h
   outcome-keeps (Feature name) = feature-keeps name session.manifest

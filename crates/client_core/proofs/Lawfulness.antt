@@ -2,6 +2,7 @@
 use Rattle.std.proofs.Common.{◌≡◌, ℕ, Bool, true, false, List, length, Option, Some, None, Result, Ok, Err, IsUtf8, refl, subst}
 use Rattle.std.specs.Prelude.{IfOk, nat_lt, if◌then◌else◌}
 use Rattle.json_tree.specs.Json.{Json, IsSound}
+use Rattle.recipe_reader.specs.Kinds.{kind_of}
 use Rattle.recipe_reader.specs.Payloads.{payload_of, recipe_with}
 use Rattle.recipe_reader.specs.declared.payload.Payload.{Payload}
 use Rattle.recipe_reader.specs.declared.payload.PayloadFault.{PayloadFault}
@@ -13,6 +14,7 @@ use Rattle.app_context.specs.declared.key.ContextKey.{ContextKey}
 use Rattle.enrol_evolver.specs.Evolution.{version_of}
 use Rattle.enrol_states.specs.Choices.{has_no_room}
 use Rattle.enrol_states.specs.Commands.{after_opt_out}
+use Rattle.enrol_states.specs.Participation.{takes_part}
 use Rattle.enrol_states.specs.Recipes.{has_branch}
 use Rattle.enrol_states.specs.declared.state.State.{State}
 use Rattle.state_codec.specs.Sound.{max_size}
@@ -32,7 +34,7 @@ use Rattle.client_core.specs.Manifests.{manifest_of}
 use Rattle.client_core.specs.Sessions.{with_manifest, with_context}
 use Rattle.client_core.specs.Settings.{Setting}
 use Rattle.client_core.specs.Soundness.{HasVersion, HasLinked, IsSession, IsLawfulManifest, IsLawfulContext, IsLawful}
-use Rattle.client_core.specs.Steps.{Outcome, Accepted, Refused, Step, taking, choosing, fetched, fetching, context_read, reading_context, setting_manifest, applying, valued, serving, outcome, done, step}
+use Rattle.client_core.specs.Steps.{Outcome, Accepted, Refused, Step, taking, offering, choosing, fetched, fetching, context_read, reading_context, setting_manifest, applying, valued, serving, outcome, done, step}
 use Rattle.client_core.proofs.LinkedManifests.{manifest_linked}
 use Rattle.client_core.proofs.ReadContexts.{context_version}
 use Rattle.client_core.proofs.ReadFiles.{file_sound}
@@ -99,22 +101,22 @@ module _ (P : Session → Type 0) (at : Setting) (s : State) (session : Session)
     branch-carries r true = taking-carries (first_taker s r s.rows)
     branch-carries r false = tt
 
+    part-carries : (r : Recipe) (on : Bool) → Carries (if on then offering s session slug branch r else Refused NotParticipating)
+    part-carries r true = branch-carries r (has_branch r branch)
+    part-carries r false = tt
+
     choosing-carries : (found : Option Recipe) → Carries (choosing s session slug branch found)
     choosing-carries None = tt
-    choosing-carries (Some r) = branch-carries r (has_branch r branch)
-
-    in-carries : (on : Bool) → Carries (if on then choosing s session slug branch (recipe_with slug s.live) else Refused NotParticipating)
-    in-carries true = choosing-carries (recipe_with slug s.live)
-    in-carries false = tt
+    choosing-carries (Some r) = part-carries r (takes_part s (kind_of r))
 
   outcome-carries : (command : Command) → Carries (outcome at s session command)
   outcome-carries (commands.Manifest file channel) = manifest-carries file channel (manifest_of at.files file channel) refl
   outcome-carries (commands.Context file) = file-carries (file_tree file (at.files file)) (file_sound file (at.files file))
   outcome-carries (Fetch file) = fetch-carries (file_tree file (at.files file))
   outcome-carries Apply = apply-carries session.manifest session.context
-  outcome-carries (Participate on) = was
+  outcome-carries (Participate part on) = was
   outcome-carries (OptOut slug) = out-carries slug (has_no_room s.opted_out slug)
-  outcome-carries (OptIn slug branch) = in-carries slug branch s.participating
+  outcome-carries (OptIn slug branch) = choosing-carries slug branch (recipe_with slug s.live)
   outcome-carries (Reset id) = was
   outcome-carries Show = was
   outcome-carries (Feature name) = feature-carries name session.manifest

@@ -2,6 +2,7 @@ mod Takers
 mod Coenrolling
 mod Payloads
 mod Stepping
+pub mod Asking
 pub mod OptOuts
 pub mod Holding
 mod Judging
@@ -21,4 +22,6 @@ pub mod Repairing
 mod SoundValues
 mod WholeStates
 mod Storing
+mod Migrating
+pub mod Openings
 mod NewStores

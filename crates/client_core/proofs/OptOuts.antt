@@ -5,6 +5,7 @@ use Rattle.std.specs.BTreeSet.{insert_key}
 use Rattle.std.specs.Cmp.Lexicographic.{bytes_decides}
 use Rattle.std.specs.Ordering.{match_ordering}
 use Rattle.json_tree.specs.Json.{Json}
+use Rattle.recipe_reader.specs.Kinds.{kind_of}
 use Rattle.recipe_reader.specs.Payloads.{slug_cmp, payload_of, recipe_with}
 use Rattle.recipe_reader.specs.declared.payload.Payload.{Payload}
 use Rattle.recipe_reader.specs.declared.payload.PayloadFault.{PayloadFault}
@@ -13,6 +14,7 @@ use Rattle.recipe_reader.specs.declared.recipe.Recipe.{Recipe}
 use Rattle.enrol_states.specs.Choices.{has_no_room}
 use Rattle.enrol_states.specs.Commands.{after_opt_out, after_opt_in, after_reset, without_text}
 use Rattle.enrol_states.specs.Order.{is_in}
+use Rattle.enrol_states.specs.Participation.{takes_part}
 use Rattle.enrol_states.specs.Recipes.{has_branch}
 use Rattle.enrol_states.specs.declared.state.State.{State}
 use Rattle.enrol_states.proofs.OptOuts.{is_in-insert}
@@ -37,7 +39,7 @@ use Rattle.client_core.specs.Fetching.{file_tree}
 use Rattle.client_core.specs.Manifests.{manifest_of}
 use Rattle.client_core.specs.OptOuts.{BringsBack, OptOutsHold}
 use Rattle.client_core.specs.Settings.{Setting}
-use Rattle.client_core.specs.Steps.{Outcome, Accepted, Refused, Step, participation, opting_out, taking, choosing, fetched, fetching, context_read, reading_context, setting_manifest, applying, valued, serving, done, step}
+use Rattle.client_core.specs.Steps.{Outcome, Accepted, Refused, Step, participation, opting_out, taking, offering, choosing, fetched, fetching, context_read, reading_context, setting_manifest, applying, valued, serving, done, step}
 
 -- ---- one slug more or less
 
@@ -125,10 +127,6 @@ module _ (at : Setting) (s : State) (session : Session) (slug : List ℕ) (there
   feature-keeps name None = tt
   feature-keeps name (Some manifest) = value-keeps (served manifest s name)
 
-  participation-keeps : (on : Bool) → Keeps (participation s session on)
-  participation-keeps true = there
-  participation-keeps false = there
-
   out-keeps : (other : List ℕ) (full : Bool) → Keeps (if full then Refused OptedOutLimit else Accepted (after_opt_out s other) session Okay)
   out-keeps other true = tt
   out-keeps other false = kept-insert other slug s.opted_out there
@@ -156,13 +154,13 @@ module _ (at : Setting) (s : State) (session : Session) (slug : List ℕ) (there
     branch-unless r true = taking-unless (first_taker s r s.rows)
     branch-unless r false = λ never. there
 
+    part-unless : (r : Recipe) (on : Bool) → KeepsUnless (bytes_eq other slug) (if on then offering s session other branch r else Refused NotParticipating)
+    part-unless r true = branch-unless r (has_branch r branch)
+    part-unless r false = λ never. there
+
     choosing-unless : (found : Option Recipe) → KeepsUnless (bytes_eq other slug) (choosing s session other branch found)
     choosing-unless None = λ never. there
-    choosing-unless (Some r) = branch-unless r (has_branch r branch)
-
-    in-unless : (on : Bool) → KeepsUnless (bytes_eq other slug) (if on then choosing s session other branch (recipe_with other s.live) else Refused NotParticipating)
-    in-unless true = choosing-unless (recipe_with other s.live)
-    in-unless false = λ never. there
+    choosing-unless (Some r) = part-unless r (takes_part s (kind_of r))
 
   kept : (command : Command) → (BringsBack at s session slug command → ⊥) → is_in (step at s session command).state.opted_out slug ≡ true
   unfolding step
@@ -170,9 +168,9 @@ module _ (at : Setting) (s : State) (session : Session) (slug : List ℕ) (there
   kept (commands.Context file) never = done-keeps (reading_context s session (file_tree file (at.files file))) (file-keeps (file_tree file (at.files file)))
   kept (Fetch file) never = done-keeps (fetching s session (file_tree file (at.files file))) (fetch-keeps (file_tree file (at.files file)))
   kept Apply never = done-keeps (applying at.now s session session.manifest session.context) (apply-keeps session.manifest session.context)
-  kept (Participate on) never = done-keeps (participation s session on) (participation-keeps on)
+  kept (Participate part on) never = done-keeps (participation s session part on) there
   kept (OptOut other) never = done-keeps (opting_out s session other) (out-keeps other (has_no_room s.opted_out other))
-  kept (OptIn other branch) never = in-unless other branch s.participating (λ back is_done. never (back, is_done))
+  kept (OptIn other branch) never = choosing-unless other branch (recipe_with other s.live) (λ back is_done. never (back, is_done))
   kept (Reset id) never = accepted-unless (after_reset s id) session true (λ apart. absurd cc) (λ back is_done. never (back, is_done))
   kept Show never = done-keeps (Accepted s session _) there
   kept (Feature name) never = done-keeps (serving s session name session.manifest) (feature-keeps name session.manifest)

@@ -4,13 +4,12 @@ use Rattle.std.proofs.lemmas.Str.{IsUtf8-nil}
 use Rattle.std.specs.Prelude.{⊤, IfSome, IfOk, bytes_eq, if◌then◌else◌}
 use Rattle.json_tree.specs.Json as json
 use Rattle.json_tree.specs.Json.{Json, Members, no_members, member, IsSound, AreSoundMembers}
-use Rattle.app_context.specs.Contexts.{members_in, wants, context_in, judged, context_of}
+use Rattle.app_context.specs.Contexts.{members_in, context_in, judged, context_of}
 use Rattle.app_context.specs.Keys.{name_of, bad_key}
 use Rattle.app_context.specs.Named.{text_with, text_where, texts_where}
 use Rattle.app_context.specs.declared.context.Context.{Context}
 use Rattle.app_context.specs.declared.key.ContextKey.{ContextKey}
 use Rattle.app_context.specs.declared.key.ContextKey.TheVariants.{AppVersion}
-use Rattle.app_context.specs.declared.members.Wanted.TheVariants as wanted
 use Rattle.enrol_evolver.specs.Evolution.{version_of}
 
 -- the texts under names are in UTF-8
@@ -62,9 +61,7 @@ or_empty (Some s) h = h
 
 version_utf8 : (x : Json) → IsSound x → IsUtf8 (version_of (context_in x))
 unfolding context_in
-version_utf8 x h =
-    let test = wants wanted.OptionalTexts in
-    or_empty (text_with (name_of AppVersion) (texts_where test (members_in (Some x)))) (text_with_utf8 (name_of AppVersion) (texts_where test (members_in (Some x))) (texts_where_texts test (members_in (Some x)) (members_in_sound x h)))
+version_utf8 x h = or_empty _ (text_with_utf8 (name_of AppVersion) _ (texts_where_texts _ (members_in (Some x)) (members_in_sound x h)))
 
 judged_utf8 : (key : Option ContextKey) (c : Context) → IsUtf8 (version_of c) → IfOk (judged key c) (λ d. IsUtf8 (version_of d))
 judged_utf8 None c u = u

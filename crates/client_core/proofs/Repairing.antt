@@ -98,6 +98,8 @@ module _ {H : Type 0} (h : Ghosts H) (start : H) (l r : List ℕ) (repaired : Is
   pub repaired_kept : (s : State) → KeptFor (h.reads start Left) (h.reads start Right) s → KeptFor l r s
   repaired_kept s kept = record {
     sound = kept.sound;
+    stored = kept.stored;
+    form = kept.form;
     rows = (kept.rows.0, has_kept_list (h.reads start Left) (h.reads start Right) l r repaired.side later_is as_before_is kept.rows.0 kept.rows.1, kept.rows.2);
   }
 

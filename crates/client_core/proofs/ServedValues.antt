@@ -15,6 +15,7 @@ use Rattle.fml_link.specs.declared.fault.LinkRefusal.TheVariants as link
 use Rattle.fml_merge.specs.Faults.{bad_default}
 use Rattle.feature_serving.specs.Serving.{served, HasFeatureType}
 use Rattle.feature_serving.proofs.Types.{served_typed}
+use Rattle.recipe_reader.specs.Kinds.{kind_of}
 use Rattle.recipe_reader.specs.Payloads.{payload_of, recipe_with}
 use Rattle.recipe_reader.specs.declared.payload.Payload.{Payload}
 use Rattle.recipe_reader.specs.declared.payload.PayloadFault.{PayloadFault}
@@ -25,6 +26,7 @@ use Rattle.app_context.specs.declared.context.Context.{Context}
 use Rattle.app_context.specs.declared.key.ContextKey.{ContextKey}
 use Rattle.enrol_states.specs.Choices.{has_no_room}
 use Rattle.enrol_states.specs.Commands.{after_opt_out}
+use Rattle.enrol_states.specs.Participation.{takes_part}
 use Rattle.enrol_states.specs.Recipes.{has_branch}
 use Rattle.enrol_states.specs.declared.state.State.{State}
 use Rattle.state_codec.specs.Sound.{max_size}
@@ -41,7 +43,7 @@ use Rattle.client_core.specs.Manifests.{IsLinked, link_refusal, where_fits, chec
 use Rattle.client_core.specs.ServedValues.{IsServed, ValuesAreServed, IsTyped, ValuesHaveTypes}
 use Rattle.client_core.specs.Settings.{Setting}
 use Rattle.client_core.specs.Soundness.{IsGiven, IsLawfulManifest}
-use Rattle.client_core.specs.Steps.{Outcome, Accepted, Refused, Step, participation, opting_out, taking, choosing, opting_in, resetting, showing, fetched, fetching, context_read, reading_context, setting_manifest, applying, valued, serving, done, step}
+use Rattle.client_core.specs.Steps.{Outcome, Accepted, Refused, Step, participation, opting_out, taking, offering, choosing, opting_in, resetting, showing, fetched, fetching, context_read, reading_context, setting_manifest, applying, valued, serving, done, step}
 use Rattle.fml_reader.specs.Trees.{tree_from}
 use Rattle.client_core.proofs.LinkedManifests.{manifest_linked}
 use Rattle.client_core.proofs.SoundValues.{records_sound}
@@ -155,13 +157,13 @@ module _ (at : Setting) (s : State) (session : Session) where
     branch-none r true = taking-none (first_taker s r s.rows)
     branch-none r false = refl
 
+    part-none : (r : Recipe) (on : Bool) → NoValue (if on then offering s session slug branch r else Refused NotParticipating)
+    part-none r true = branch-none r (has_branch r branch)
+    part-none r false = refl
+
     choosing-none : (found : Option Recipe) → NoValue (choosing s session slug branch found)
     choosing-none None = refl
-    choosing-none (Some r) = branch-none r (has_branch r branch)
-
-    in-none : (on : Bool) → NoValue (if on then choosing s session slug branch (recipe_with slug s.live) else Refused NotParticipating)
-    in-none true = choosing-none (recipe_with slug s.live)
-    in-none false = refl
+    choosing-none (Some r) = part-none r (takes_part s (kind_of r))
 
   never : (asked : Outcome) (tree : Tree) → NoValue asked → (done s session asked).answer ≡ Value tree → ⊥
   never asked tree none is = absurd (let clash = ap is_value is in let plain = done-none asked none in cc)
@@ -198,9 +200,9 @@ module _ (at : Setting) (s : State) (session : Session) where
       absurd (never (reading_context s session (file_tree file (at.files file))) tree (file-none (file_tree file (at.files file)) (file-plain file (at.files file))) is)
   values_at (Fetch file) tree is = absurd (never (fetching s session (file_tree file (at.files file))) tree (fetch-none (file_tree file (at.files file)) (file-plain file (at.files file))) is)
   values_at Apply tree is = absurd (never (applying at.now s session session.manifest session.context) tree (apply-none session.manifest session.context) is)
-  values_at (Participate on) tree is = absurd (never (participation s session on) tree refl is)
+  values_at (Participate part on) tree is = absurd (never (participation s session part on) tree refl is)
   values_at (OptOut slug) tree is = absurd (never (opting_out s session slug) tree (out-none slug (has_no_room s.opted_out slug)) is)
-  values_at (OptIn slug branch) tree is = absurd (never (opting_in s session slug branch) tree (in-none slug branch s.participating) is)
+  values_at (OptIn slug branch) tree is = absurd (never (opting_in s session slug branch) tree (choosing-none slug branch (recipe_with slug s.live)) is)
   values_at (Reset id) tree is = absurd (never (resetting s session id) tree refl is)
   values_at Show tree is = absurd (never (showing s session) tree refl is)
   values_at (Feature name) tree is = set_at name tree session.manifest refl is

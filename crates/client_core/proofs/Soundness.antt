@@ -4,6 +4,7 @@ use Rattle.std.specs.Prelude.{All, nat_lt, if◌then◌else◌}
 use Rattle.std.proofs.lemmas.Bool.{ltb-false}
 use Rattle.std.proofs.lemmas.List.Elements.{All-head, All-tail}
 use Rattle.json_tree.specs.Json.{Json}
+use Rattle.recipe_reader.specs.Kinds.{kind_of}
 use Rattle.recipe_reader.specs.Payloads.{payload_of, recipe_with}
 use Rattle.recipe_reader.specs.declared.payload.Payload.{Payload}
 use Rattle.recipe_reader.specs.declared.payload.PayloadFault.{PayloadFault}
@@ -16,6 +17,7 @@ use Rattle.enrol_evolver.proofs.Consistency.{evolved}
 use Rattle.enrol_states.specs.Choices.{has_no_room}
 use Rattle.enrol_states.specs.Commands.{after_opt_out}
 use Rattle.enrol_states.specs.Consistent.{IsConsistent}
+use Rattle.enrol_states.specs.Participation.{takes_part}
 use Rattle.enrol_states.specs.Recipes.{has_branch}
 use Rattle.enrol_states.specs.Statuses.{last_moment, IsSlug}
 use Rattle.enrol_states.specs.declared.state.State.{State}
@@ -40,7 +42,7 @@ use Rattle.client_core.specs.Fetching.{file_tree}
 use Rattle.client_core.specs.Manifests.{manifest_of}
 use Rattle.client_core.specs.Settings.{Setting}
 use Rattle.client_core.specs.Soundness.{IsCommand, HasVersion, HasLinked, IsSession, IsLawful, Line, IsLine, all_after, StepsStaySound}
-use Rattle.client_core.specs.Steps.{Outcome, Accepted, Refused, Step, participation, opting_out, taking, choosing, opting_in, resetting, showing, fetched, fetching, context_read, reading_context, setting_manifest, applying, valued, serving, outcome, done, step}
+use Rattle.client_core.specs.Steps.{Outcome, Accepted, Refused, Step, participation, opting_out, taking, offering, choosing, opting_in, resetting, showing, fetched, fetching, context_read, reading_context, setting_manifest, applying, valued, serving, outcome, done, step}
 use Rattle.client_core.proofs.Coenrolling.{coenrolling_names, coenrolling_rise}
 use Rattle.client_core.proofs.KeptRecords.{step_keeps_records}
 use Rattle.client_core.proofs.Lawfulness.{step_keeps_texts, step_keeps_lawful, lawful_texts}
@@ -104,22 +106,23 @@ module _ (at : Setting) (s : State) (session : Session) (c : IsConsistent s) whe
   out-keeps slug is_slug true e = tt
   out-keeps slug is_slug false e = opt_outs.consistent s slug is_slug e c
 
-  module _ (slug branch : List ℕ) (is_slug : IsSlug slug) (is_branch : IsSlug branch) (on : s.participating ≡ true) where
-    taking-keeps : (r : Recipe) → recipe_with slug s.live ≡ Some r → has_branch r branch ≡ true → (taker : Option (List ℕ × List ℕ)) → first_taker s r s.rows ≡ taker → Keeps (taking s session slug branch taker)
-    taking-keeps r found has None free = enrolments.consistent s slug branch r is_slug is_branch (record { participating = on; recipe = found; offered = has }) (free_where s r free) c
-    taking-keeps r found has (Some taker) taken = tt
+  module _ (slug branch : List ℕ) (is_slug : IsSlug slug) (is_branch : IsSlug branch) where
+    module _ (r : Recipe) (found : recipe_with slug s.live ≡ Some r) (on : takes_part s (kind_of r) ≡ true) where
+      taking-keeps : has_branch r branch ≡ true → (taker : Option (List ℕ × List ℕ)) → first_taker s r s.rows ≡ taker → Keeps (taking s session slug branch taker)
+      taking-keeps has None free = enrolments.consistent s slug branch r is_slug is_branch (record { recipe = found; participating = on; offered = has }) (free_where s r free) c
+      taking-keeps has (Some taker) taken = tt
 
-    branch-keeps : (r : Recipe) → recipe_with slug s.live ≡ Some r → (has : Bool) → has_branch r branch ≡ has → Keeps (if has then taking s session slug branch (first_taker s r s.rows) else Refused NoSuchBranch)
-    branch-keeps r found true has = taking-keeps r found has (first_taker s r s.rows) refl
-    branch-keeps r found false has = tt
+      branch-keeps : (has : Bool) → has_branch r branch ≡ has → Keeps (if has then taking s session slug branch (first_taker s r s.rows) else Refused NoSuchBranch)
+      branch-keeps true has = taking-keeps has (first_taker s r s.rows) refl
+      branch-keeps false has = tt
+
+    part-keeps : (r : Recipe) → recipe_with slug s.live ≡ Some r → (on : Bool) → takes_part s (kind_of r) ≡ on → Keeps (if on then offering s session slug branch r else Refused NotParticipating)
+    part-keeps r found true on = branch-keeps r found on (has_branch r branch) refl
+    part-keeps r found false on = tt
 
     choosing-keeps : (found : Option Recipe) → recipe_with slug s.live ≡ found → Keeps (choosing s session slug branch found)
     choosing-keeps None e = tt
-    choosing-keeps (Some r) e = branch-keeps r e (has_branch r branch) refl
-
-  in-keeps : (slug branch : List ℕ) → IsSlug slug → IsSlug branch → (on : Bool) → s.participating ≡ on → Keeps (if on then choosing s session slug branch (recipe_with slug s.live) else Refused NotParticipating)
-  in-keeps slug branch is_slug is_branch true on = choosing-keeps slug branch is_slug is_branch on (recipe_with slug s.live) refl
-  in-keeps slug branch is_slug is_branch false on = tt
+    choosing-keeps (Some r) e = part-keeps r e (takes_part s (kind_of r)) refl
 
   consistent : (command : Command) → at.now ≤ last_moment → IsCommand command → IsSession session → IsConsistent (step at s session command).state
   unfolding step
@@ -127,9 +130,9 @@ module _ (at : Setting) (s : State) (session : Session) (c : IsConsistent s) whe
   consistent (commands.Context file) moment is texts = done-keeps (reading_context s session (file_tree file (at.files file))) (file-keeps (file_tree file (at.files file)))
   consistent (Fetch file) moment is texts = done-keeps (fetching s session (file_tree file (at.files file))) (fetch-keeps (file_tree file (at.files file)))
   consistent Apply moment is texts = done-keeps (applying at.now s session session.manifest session.context) (apply-keeps moment session.manifest texts.manifest session.context texts.context)
-  consistent (Participate on) moment is texts = done-keeps (participation s session on) (participations.consistent s on c)
+  consistent (Participate part on) moment is texts = done-keeps (participation s session part on) (participations.consistent s part on c)
   consistent (OptOut slug) moment is texts = done-keeps (opting_out s session slug) (out-keeps slug is (has_no_room s.opted_out slug) refl)
-  consistent (OptIn slug branch) moment is texts = done-keeps (opting_in s session slug branch) (in-keeps slug branch is.0 is.1 s.participating refl)
+  consistent (OptIn slug branch) moment is texts = done-keeps (opting_in s session slug branch) (choosing-keeps slug branch is.0 is.1 (recipe_with slug s.live) refl)
   consistent (Reset id) moment is texts = done-keeps (resetting s session id) (reset-consistent s id is c)
   consistent Show moment is texts = done-keeps (showing s session) c
   consistent (Feature name) moment is texts = done-keeps (serving s session name session.manifest) (feature-keeps name session.manifest)

@@ -28,7 +28,7 @@ use Rattle.enrol_states.proofs.Takings.{NoneTakenBefore}
 use Rattle.enrol_states.specs.Commands.{after_opt_in}
 use Rattle.client_core.specs.declared.answer.Answer.TheVariants.{Okay, FeatureTaken, NotParticipating, NoSuchBranch}
 use Rattle.client_core.specs.declared.session.Session.{Session}
-use Rattle.client_core.specs.Steps.{Accepted, Refused, taking, choosing, opting_in}
+use Rattle.client_core.specs.Steps.{Accepted, Refused, taking, offering, choosing, opting_in}
 use Rattle.client_core.specs.Choosing.{features_in, if_passes, least_of, taker_or, first_taker}
 
 -- ---- the least of texts
@@ -174,8 +174,8 @@ module _ (s : State) (session : Session) (slug branch : List ℕ) (r : Recipe) (
   -- a branch that may be chosen is taken unless another recipe takes a feature
   chosen : opting_in s session slug branch ≡ taking s session slug branch (first_taker s r s.rows)
   chosen =
-      ap (λ b. if b then choosing s session slug branch (recipe_with slug s.live) else Refused NotParticipating) may.participating
-      ∙ ap (choosing s session slug branch) may.recipe
+      ap (choosing s session slug branch) may.recipe
+      ∙ ap (λ b. if b then offering s session slug branch r else Refused NotParticipating) may.participating
       ∙ ap (λ b. if b then taking s session slug branch (first_taker s r s.rows) else Refused NoSuchBranch) may.offered
 
   pub taken_in : (t : State) → IsFree s r → t ≡ after_opt_in s slug branch → Accepted t session Okay ≡ opting_in s session slug branch

@@ -7,23 +7,24 @@ use Rattle.client_core.specs.declared.answer.Answer.TheVariants.{StateTooLarge}
 use Rattle.client_core.specs.declared.asked.Asked.{Asked}
 use Rattle.client_core.specs.declared.asked.Asked.TheVariants as asked
 use Rattle.client_core.specs.declared.session.Session.{Session}
+use Rattle.client_core.specs.RecipeLists.{HasLists}
 use Rattle.client_core.specs.Sessions.{changed_by}
 use Rattle.client_core.specs.Steps.{Outcome, Accepted, Refused}
 
 abbrev pub asked_outcome : State → Session → Asked → Outcome
-asked_outcome s session (asked.NewState next answer) = Accepted next session answer
+asked_outcome s session (asked.NewState next recipes answer) = Accepted next session answer
 asked_outcome s session (asked.SameState change answer) = Accepted s (changed_by session change) answer
 asked_outcome s session (asked.Refused refusal) = Refused refusal
 
 abbrev pub answer_for : Asked → Answer
-answer_for (asked.NewState next answer) = answer
+answer_for (asked.NewState next recipes answer) = answer
 answer_for (asked.SameState change answer) = answer
 answer_for (asked.Refused refusal) = refusal
 
--- a new state is consistent
-abbrev pub HasConsistentState : Asked → Type 0
-HasConsistentState (asked.NewState next answer) = IsConsistent next
-HasConsistentState asked = Unit {0}
+-- from this state: a new state is consistent, and its lists of recipes are as said
+abbrev pub IsAskedOf : State → Asked → Type 0
+IsAskedOf s (asked.NewState next recipes answer) = IsConsistent next × HasLists recipes s next
+IsAskedOf s asked = Unit {0}
 
 -- the answer, or that the new state is too large
 abbrev pub IsAnswerOrTooLarge : Answer → Answer → Type 0

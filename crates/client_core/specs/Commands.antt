@@ -1,5 +1,8 @@
--- Which commands name a file.
-use Rattle.std.specs.Prelude.{Bool, true, false}
+-- Which commands name a file, and which files they ask the shelf for.
+use Rattle.std.specs.Prelude.{◌≡◌, ℕ, Bool, true, false, List, [], ◌∷◌}
+use Rattle.host_model.specs.declared.shelf.Shelf.{Ghosts}
+use Rattle.host_model.specs.Shelf.{IsReached}
+use Rattle.fml_link.specs.Asked.{BeginWith}
 use Rattle.client_core.specs.declared.command.Command.{Command}
 use Rattle.client_core.specs.declared.command.Command.TheVariants as commands
 
@@ -8,3 +11,16 @@ names_file (commands.Manifest file channel) = true
 names_file (commands.Context file) = true
 names_file (commands.Fetch file) = true
 names_file command = false
+
+-- the names of the files, in order: a manifest's begin with its first one, and may be none
+abbrev pub AsksFor : Command → List (List ℕ) → Type 0
+AsksFor (commands.Manifest file channel) names = BeginWith file names
+AsksFor (commands.Context file) names = names ≡ file ∷ []
+AsksFor (commands.Fetch file) names = names ≡ file ∷ []
+AsksFor command names = names ≡ []
+
+-- one shelf is left of another when the command has asked it for its files, and for no other
+pub record HasAsked {F : Type 0} (f : Ghosts F) (command : Command) (shelf left : F) : Type 0 where
+  pub names : List (List ℕ)
+  pub files : AsksFor command names
+  pub reached : IsReached f.asks shelf names left

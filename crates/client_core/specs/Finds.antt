@@ -1,19 +1,17 @@
 -- What the pair of sides was, as the answer of a call tells it.
 use Rattle.std.specs.Prelude.{◌⊎◌, ℕ, List, Result, Ok, Err, IsErrOf}
-use Rattle.client_core.specs.declared.client.Client.{Client}
 use Rattle.client_core.specs.declared.faults.ClientFault.{ClientFault}
 use Rattle.client_core.specs.declared.faults.ClientFault.TheVariants as opening
 use Rattle.client_core.specs.declared.faults.MakeFault.{MakeFault}
 use Rattle.client_core.specs.declared.faults.MakeFault.TheVariants as making
-use Rattle.client_core.specs.Store.{StandsFor, IsStore, IsAbsent, IsBad}
+use Rattle.client_core.specs.Store.{IsStore, IsAbsent, IsBad}
 
--- of an opening
-abbrev pub OpenFinds : List ℕ → List ℕ → Result Client ClientFault → Type 0
-OpenFinds l r (Ok client) = StandsFor l r client.store.state
-OpenFinds l r (Err opening.NoStore) = IsAbsent l r
-OpenFinds l r (Err opening.BadStore) = IsBad l r
-OpenFinds l r (Err opening.DiskFault) = Unit {0}
-OpenFinds l r (Err opening.OutOfMemory) = Unit {0}
+-- of an opening that opened nothing
+abbrev pub OpenFinds : List ℕ → List ℕ → ClientFault → Type 0
+OpenFinds l r opening.NoStore = IsAbsent l r
+OpenFinds l r opening.BadStore = IsBad l r
+OpenFinds l r opening.DiskFault = Unit {0}
+OpenFinds l r opening.OutOfMemory = Unit {0}
 
 -- of a making
 abbrev pub MakeFinds : {T : Type 0} → List ℕ → List ℕ → Result T MakeFault → Type 0

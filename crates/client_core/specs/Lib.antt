@@ -7,11 +7,14 @@ pub mod Fetching
 pub mod Finds
 pub mod Found
 pub mod Manifests
+pub mod Migrations
 pub mod Moments
 pub mod OpenStore
+pub mod Openings
 pub mod OptOuts
 pub mod Places
 pub mod Prepared
+pub mod RecipeLists
 pub mod ServedValues
 pub mod Sessions
 pub mod Settings

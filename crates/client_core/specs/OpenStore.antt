@@ -4,9 +4,8 @@ use Rattle.host_model.specs.declared.side.Side.{Side}
 use Rattle.host_model.specs.declared.side.Side.TheVariants.{Left, Right}
 use Rattle.host_model.specs.declared.host.Host.{Ghosts}
 use Rattle.host_model.specs.Hosts.{IsDurable}
-use Rattle.row_store.specs.Rows.{HasPlace}
 use Rattle.enrol_states.specs.declared.state.State.{State}
-use Rattle.client_core.specs.Store.{StandsFor, KeptFor, KeptAmong, IsAbsent}
+use Rattle.client_core.specs.Store.{StandsFor, KeptFor, KeptAmong}
 
 -- each image of either side is what reads give
 abbrev pub IsSettled : {H : Type 0} → Ghosts H → H → Type 0
@@ -27,15 +26,3 @@ AllKeptAmong h host states = (l r : List ℕ) → h.images host Left l → h.ima
 -- each pair of images stands for s
 abbrev pub AllStand : {H : Type 0} → Ghosts H → H → State → Type 0
 AllStand h host s = (l r : List ℕ) → h.images host Left l → h.images host Right r → StandsFor l r s
-
--- no pair of images is a store
-abbrev pub AllAbsent : {H : Type 0} → Ghosts H → H → Type 0
-AllAbsent h host = (l r : List ℕ) → h.images host Left l → h.images host Right r → IsAbsent l r
-
--- in each pair of images the next record begins at this place
-abbrev pub AllHavePlace : {H : Type 0} → Ghosts H → H → ℕ → Type 0
-AllHavePlace h host place = (l r : List ℕ) → h.images host Left l → h.images host Right r → HasPlace l r place
-
--- in one of them
-abbrev pub SomeHavePlace : {H : Type 0} → Ghosts H → H → ℕ → Type 0
-SomeHavePlace h host place = (l : List ℕ) × (r : List ℕ) × h.images host Left l × h.images host Right r × HasPlace l r place

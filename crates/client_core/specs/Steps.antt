@@ -4,7 +4,9 @@ use Rattle.json_tree.specs.Json.{Json}
 use Rattle.recipe_reader.specs.declared.payload.Payload.{Payload}
 use Rattle.recipe_reader.specs.declared.payload.PayloadFault.{PayloadFault}
 use Rattle.recipe_reader.specs.declared.payload.PayloadFault.TheVariants as payload
+use Rattle.enrol_states.specs.declared.participation.Part.{Part}
 use Rattle.enrol_states.specs.declared.state.State.{State}
+use Rattle.recipe_reader.specs.Kinds.{kind_of}
 use Rattle.recipe_reader.specs.Payloads.{payload_of, recipe_with}
 use Rattle.recipe_reader.specs.declared.recipe.Recipe.{Recipe}
 use Rattle.app_context.specs.Contexts.{context_of}
@@ -18,6 +20,7 @@ use Rattle.fml_value.specs.Trees.{tree_of}
 use Rattle.fml_value.specs.Typed.{TypedValue}
 use Rattle.feature_serving.specs.Serving.{served}
 use Rattle.enrol_states.specs.Commands.{after_participate, after_opt_out, after_opt_in, after_reset}
+use Rattle.enrol_states.specs.Participation.{takes_part}
 use Rattle.enrol_states.specs.Recipes.{has_branch}
 use Rattle.enrol_states.specs.Statuses.{is_enrolled}
 use Rattle.state_codec.specs.Spelling.{spelling}
@@ -41,26 +44,30 @@ pub data Outcome : Type 0 where
   Refused : (answer : Answer) → Outcome
 
 -- `participate`
-abbrev pub participation : State → Session → Bool → Outcome
-participation s session on = Accepted (after_participate s on) session Okay
+abbrev pub participation : State → Session → Part → Bool → Outcome
+participation s session part on = Accepted (after_participate s part on) session Okay
 
 -- `opt-out`
 abbrev pub opting_out : State → Session → List ℕ → Outcome
 opting_out s session slug = if has_no_room s.opted_out slug then Refused OptedOutLimit else Accepted (after_opt_out s slug) session Okay
 
--- `opt-in`, where the recipe has the branch: nobody else may hold a feature of it
+-- `opt-in`, where the recipe has the branch: no other recipe may hold a feature of it
 abbrev pub taking : State → Session → List ℕ → List ℕ → Option (List ℕ × List ℕ) → Outcome
 taking s session slug branch None = Accepted (after_opt_in s slug branch) session Okay
 taking s session slug branch (Some taker) = Refused (FeatureTaken taker.0 taker.1)
 
+-- `opt-in`, where the client takes part in recipes of the kind: the recipe has the branch
+abbrev pub offering : State → Session → List ℕ → List ℕ → Recipe → Outcome
+offering s session slug branch r = if has_branch r branch then taking s session slug branch (first_taker s r s.rows) else Refused NoSuchBranch
+
 -- `opt-in`, of the slug's live recipe
 abbrev pub choosing : State → Session → List ℕ → List ℕ → Option Recipe → Outcome
 choosing s session slug branch None = Refused NoSuchExperiment
-choosing s session slug branch (Some r) = if has_branch r branch then taking s session slug branch (first_taker s r s.rows) else Refused NoSuchBranch
+choosing s session slug branch (Some r) = if takes_part s (kind_of r) then offering s session slug branch r else Refused NotParticipating
 
 -- `opt-in`
 abbrev pub opting_in : State → Session → List ℕ → List ℕ → Outcome
-opting_in s session slug branch = if s.participating then choosing s session slug branch (recipe_with slug s.live) else Refused NotParticipating
+opting_in s session slug branch = choosing s session slug branch (recipe_with slug s.live)
 
 -- `reset`
 abbrev pub resetting : State → Session → List ℕ → Outcome
@@ -68,7 +75,7 @@ resetting s session id = Accepted (after_reset s id) session Okay
 
 -- `show`
 abbrev pub shown_answer : State → Answer
-shown_answer s = Shown s.id s.participating (is_some s.pending) s.opted_out s.rows
+shown_answer s = Shown s.id s.experiments s.rollouts (is_some s.pending) s.opted_out s.rows
 
 abbrev pub showing : State → Session → Outcome
 showing s session = Accepted s session (shown_answer s)
@@ -129,7 +136,7 @@ abbrev pub outcome : Setting → State → Session → Command → Outcome
 outcome at s session (commands.Manifest file channel) = setting_manifest s session (manifest_of at.files file channel)
 outcome at s session (commands.Context file) = reading_context s session (file_tree file (at.files file))
 outcome at s session Apply = applying at.now s session session.manifest session.context
-outcome at s session (Participate on) = participation s session on
+outcome at s session (Participate part on) = participation s session part on
 outcome at s session (OptOut slug) = opting_out s session slug
 outcome at s session (OptIn slug branch) = opting_in s session slug branch
 outcome at s session (Reset id) = resetting s session id

@@ -1,20 +1,25 @@
 -- What a pair of sides stands for. In l, r the left side comes first.
-use Rattle.std.specs.Prelude.{◌≡◌, ◌⊎◌, ℕ, List, [], ◌∷◌}
+use Rattle.std.specs.Prelude.{◌⊎◌, ℕ, List, [], ◌∷◌}
 use Rattle.pair_store.specs.Pair.{HasNoStore}
+use Rattle.row_batches.specs.declared.store_row.StoreRow.{StoreRow}
 use Rattle.row_store.specs.Rows.{HasRows, HasKeptRows}
 use Rattle.enrol_states.specs.declared.state.State.{State}
+use Rattle.state_codec.specs.Forms.{IsForm}
 use Rattle.state_codec.specs.Sound.{IsSound}
-use Rattle.state_codec.specs.Spelling.{rows_of}
 
--- the records fold to the rows of s, which is sound
+-- the records fold to the rows of s, which is sound, or to their old form
 pub record StandsFor (l r : List ℕ) (s : State) : Type 0 where
   pub sound : IsSound s
-  pub rows : HasRows l r (rows_of s)
+  pub stored : List StoreRow
+  pub form : IsForm s stored
+  pub rows : HasRows l r stored
 
 -- and a byte stands where the next record begins
 pub record KeptFor (l r : List ℕ) (s : State) : Type 0 where
   pub sound : IsSound s
-  pub rows : HasKeptRows l r (rows_of s)
+  pub stored : List StoreRow
+  pub form : IsForm s stored
+  pub rows : HasKeptRows l r stored
 
 -- kept for one of these states
 abbrev pub KeptAmong : List ℕ → List ℕ → List State → Type 0

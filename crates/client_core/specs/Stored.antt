@@ -2,6 +2,7 @@
 use Rattle.std.specs.Prelude.{◌≡◌}
 use Rattle.row_store.specs.Store.{StoredRows}
 use Rattle.enrol_states.specs.declared.state.State.{State}
+use Rattle.state_codec.specs.Forms.{IsForm}
 use Rattle.state_codec.specs.Sound.{IsSound}
 use Rattle.state_codec.specs.Spelling.{rows_of}
 
@@ -14,6 +15,11 @@ pub record StoredState : Type 0 where
 pub record IsStored (stored : StoredState) : Type 0 where
   pub sound : IsSound stored.state
   pub same : stored.rows.rows ≡ rows_of stored.state
+
+-- what is found at an opening: the state is sound, and these are its rows, or their old form
+pub record IsFound (stored : StoredState) : Type 0 where
+  pub sound : IsSound stored.state
+  pub form : IsForm stored.state stored.rows.rows
 
 -- the same rows at the same place, and the same state; there may be room for more rows
 pub record IsSameStored (old new : StoredState) : Type 0 where

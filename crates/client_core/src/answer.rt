@@ -28,7 +28,10 @@ pub enum Answer {
     /// The state.
     Shown {
         id: Uuid,
-        participating: bool,
+        /// Whether the client takes part in experiments.
+        experiments: bool,
+        /// Whether the client takes part in rollouts.
+        rollouts: bool,
         /// Whether recipes are pending.
         pending: bool,
         opted_out: SharedList<Slug>,
@@ -74,10 +77,10 @@ pub enum Answer {
     UnknownFeature,
     /// The slug isn't opted out, and 4,096 slugs are.
     OptedOutLimit,
-    /// The client takes part in nothing.
-    NotParticipating,
     /// No live recipe has the slug.
     NoSuchExperiment,
+    /// The client doesn't take part in recipes of the kind of the slug's.
+    NotParticipating,
     /// The recipe has no such branch.
     NoSuchBranch,
     /// The client is enrolled in another recipe of the same kind that shares a feature, which may not be shared: the

@@ -2,6 +2,7 @@
 ghost use Rattle.std.specs.Prelude.{◌≡◌};
 
 use crate::answer::Answer;
+use crate::recipe_lists::RecipeLists;
 use crate::session::SessionChange;
 use enrol_states::State;
 
@@ -11,6 +12,7 @@ pub(crate) enum Asked {
     /// A new state, in the same session.
     NewState {
         next: State,
+        recipes: RecipeLists,
         answer: Answer,
     },
     /// The same state.

@@ -1,4 +1,5 @@
 // What a client is asked for.
+use enrol_states::Part;
 use plain_text::Slug;
 use sequences::Text;
 
@@ -13,8 +14,8 @@ pub enum Command {
     Fetch { file: Text },
     /// The pending recipes become the live ones, and enrolments follow them.
     Apply,
-    /// Whether the client takes part at all.
-    Participate { on: bool },
+    /// Whether the client takes part in experiments, in rollouts, or in both.
+    Participate { part: Part, on: bool },
     /// The slug is opted out, whether or not it has a recipe.
     OptOut { slug: Slug },
     /// The client is enrolled in this branch of the slug's recipe.

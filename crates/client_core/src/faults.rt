@@ -1,4 +1,5 @@
 // Why a call of a client did not do what it was asked.
+use host_model::DiskFailed;
 use row_store::{PairFault, RowMakeFault};
 use std::alloc::AllocError;
 
@@ -27,6 +28,28 @@ impl From<PairFault> for ClientFault {
             PairFault::DiskFault => ClientFault::DiskFault,
             PairFault::OutOfMemory => ClientFault::OutOfMemory,
         }
+    }
+}
+
+impl From<AllocError> for ClientFault {
+    ghost use Rattle.std.specs.Prelude.{◌≡◌};
+    ghost use Rattle.client_core.specs.declared.faults.ClientFault.TheVariants.{OutOfMemory};
+
+    ghost from_gives = { λ _ fault. fault ≡ OutOfMemory };
+
+    fn from(_: AllocError) -> Self {
+        ClientFault::OutOfMemory
+    }
+}
+
+impl From<DiskFailed> for ClientFault {
+    ghost use Rattle.std.specs.Prelude.{◌≡◌};
+    ghost use Rattle.client_core.specs.declared.faults.ClientFault.TheVariants.{DiskFault};
+
+    ghost from_gives = { λ _ fault. fault ≡ DiskFault };
+
+    fn from(_: DiskFailed) -> Self {
+        ClientFault::DiskFault
     }
 }
 

@@ -37,7 +37,8 @@ pub fn values_have_types()
     ensures { ValuesHaveTypes }
 {}
 
-/// A store of whole states, each in one record of the left side, stands for the last of them. It takes no memory.
+/// A store of whole states, each in one record of the left side and in either form, stands for the last of them. It takes no
+/// memory.
 pub fn whole_states_stand()
     ensures { WholeStatesStand }
 {}

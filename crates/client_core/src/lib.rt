@@ -3,22 +3,31 @@
 #![tactic(auto)]
 
 mod answer;
-mod applying;
+mod apply;
 mod asked;
-mod choosing;
 mod client;
 mod command;
+mod context;
 mod faults;
-mod fetching;
+mod feature;
+mod fetch;
+mod files;
+mod found_store;
 mod laws;
 mod linked_manifest;
 mod making;
-mod manifests;
+mod manifest;
 mod opening;
+mod opt_in;
+mod opt_out;
+mod participate;
 mod prepared;
 mod preparing;
-mod serving;
+mod recipe_lists;
+mod reset;
 mod session;
+mod show;
+mod sized_state;
 mod state_store;
 
 pub use answer::Answer;

@@ -1,13 +1,14 @@
 // A store is made.
-ghost use Rattle.std.specs.Prelude.{◌≡◌, ◌⊎◌, ◌≤◌, ◌+◌, List, [], IfOk, OnOk, IsOk, IsErrOf};
+ghost use Rattle.std.specs.Prelude.{◌≡◌, ◌⊎◌, ◌≤◌, ◌+◌, List, [], ◌∷◌, drop, IfOk, OnOk, IsOk, IsErrOf};
 ghost use Rattle.gate_journal.specs.Costs.{HasCost};
 ghost use Rattle.host_model.specs.declared.side.Side.TheVariants.{Left, Right};
 ghost use Rattle.host_model.specs.Causes.{Rose};
 ghost use Rattle.host_model.specs.Hosts.{MeetsAll};
 ghost use Rattle.pair_store.specs.Moments.{IsOpening, StaysBelow};
-ghost use Rattle.pair_store.specs.Repair.{repair_cost};
+ghost use Rattle.pair_store.specs.Repair.{repair_cost, IsLeftByOpening};
 ghost use Rattle.enrol_states.specs.declared.state.State.{State};
 ghost use Rattle.enrol_states.specs.State.{fresh, last_moment};
+ghost use Rattle.row_store.specs.Rows.{HasRows};
 ghost use Rattle.row_batches.specs.Batch.{whole_of, applied, batch_text};
 ghost use Rattle.state_codec.specs.Sound.{IsSound};
 ghost use Rattle.state_codec.specs.Spelling.{rows_of, spelling};
@@ -19,7 +20,7 @@ ghost use Rattle.client_core.specs.Store.{IsStore, IsAbsent, IsBad};
 
 use crate::client::Client;
 use crate::faults::{ClientFault, MakeFault};
-use crate::state_store::StateStore;
+use crate::found_store::FoundStore;
 use enrol_states::State;
 use host_model::Host;
 use row_batches::Batch;
@@ -29,19 +30,24 @@ use std::alloc::{AllocError, Global};
 use uuid::Uuid;
 
 impl Client {
-    /// Makes a store with the state of a new client, where there is none. Nothing is said.
+    /// Makes a store with the state of a new client, where there is none. Nothing is said, and no store is migrated.
     ///
     /// Its rows are built before the sides are looked at. A crash meanwhile may leave no store, or a damaged one.
     pub fn make<H: Host>(alloc: Global, host: &mut H, id: Uuid, now: u64) -> Result<(), MakeFault>
         requires { now ≤ last_moment }
         ensures made { OnOk result (H.tells → AllKept H.Host host.new (fresh id now)) }
         ensures settled { OnOk result (H.tells → IsSettled H.Host host.new) }
+        ensures spelled { OnOk result (H.tells → HasRows (H.reads host.new Left) (H.reads host.new Right) (rows_of (fresh id now))) }
+        ensures right { OnOk result (H.tells → H.reads host.new Right ≡ 0 ∷ drop 1 (H.reads host.old Right)) }
 
         // What the pair was that it read, by its answer, and which answer each such pair has.
         ensures finds { H.tells → MakeFinds (H.reads host.old Left) (H.reads host.old Right) result }
         ensures made_where { H.tells → IsAbsent (H.reads host.old Left) (H.reads host.old Right) → IsOk result ⊎ MakeFailed result }
         ensures already_store_where { H.tells → IsStore (H.reads host.old Left) (H.reads host.old Right) → IsErrOf result MakeFault.AlreadyStore ⊎ MakeFailed result }
         ensures bad_store_where { H.tells → IsBad (H.reads host.old Left) (H.reads host.old Right) → IsErrOf result MakeFault.BadStore ⊎ MakeFailed result }
+
+        // A pair that is a store, or a damaged one, is left as reads gave it, but for the byte that an opening writes.
+        ensures left_as_read { H.tells → IsErrOf result MakeFault.AlreadyStore ⊎ IsErrOf result MakeFault.BadStore → IsLeftByOpening H.Host host.old host.new }
 
         // Where a side was open, and where memory was wanting, it does no more than open the store: at each moment the images
         // are those of the start, or what reads gave but for the one byte that an opening writes. So each is kept where each
@@ -65,7 +71,7 @@ impl Client {
         ensures say_faults { H.say_faults host.new ≡ H.say_faults host.old }
     {
         let first = first_rows(alloc, id, now)?;
-        match StateStore::open(alloc, host) {
+        match FoundStore::open(alloc, host) {
             Ok(_) => Err(MakeFault::AlreadyStore),
             Err(ClientFault::NoStore) => Ok(RowStore::make(alloc, host, &first)?),
             Err(ClientFault::BadStore) => Err(MakeFault::BadStore),

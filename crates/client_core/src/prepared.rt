@@ -3,13 +3,13 @@ ghost use Rattle.std.specs.Prelude.{◌≡◌};
 
 use crate::answer::Answer;
 use crate::session::SessionChange;
-use enrol_states::State;
+use crate::sized_state::SizedState;
 use row_store::Ready;
 
 /// A new state, and the changed rows, ready to be committed.
 #[derive(Drop)]
 pub struct Change {
-    pub(crate) state: State,
+    pub(crate) state: SizedState,
     pub(crate) ready: Ready,
 }
 

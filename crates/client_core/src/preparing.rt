@@ -3,12 +3,12 @@ ghost use Rattle.std.specs.Prelude.{◌≡◌, ◌≤◌, List, ℕ, IfOk, IsErr
 ghost use Rattle.host_model.specs.Causes.{Rose};
 ghost use Rattle.enrol_states.specs.Consistent.{IsConsistent};
 ghost use Rattle.enrol_states.specs.State.{last_moment};
-ghost use Rattle.jexl_transforms.specs.Meaning.{standard_names};
-ghost use Rattle.jexl_transforms.specs.Table.{names_of};
+ghost use Rattle.jexl_transforms.specs.Table.{HasStandardNames};
 ghost use Rattle.state_codec.specs.Sound.{max_size};
 ghost use Rattle.state_codec.specs.Spelling.{spelling};
-ghost use Rattle.client_core.specs.Asked.{asked_outcome, answer_for, HasConsistentState, IsAnswerOrTooLarge};
-ghost use Rattle.client_core.specs.Commands.{names_file};
+ghost use Rattle.client_core.specs.Asked.{asked_outcome, answer_for, IsAskedOf, IsAnswerOrTooLarge};
+ghost use Rattle.client_core.specs.Commands.{names_file, HasAsked};
+ghost use Rattle.client_core.specs.RecipeLists.{HasLists};
 ghost use Rattle.client_core.specs.ServedValues.{IsTyped};
 ghost use Rattle.client_core.specs.Settings.{setting};
 ghost use Rattle.client_core.specs.Sessions.{changed_by};
@@ -18,19 +18,17 @@ use crate::answer::Answer;
 use crate::asked::Asked;
 use crate::client::Client;
 use crate::command::Command;
+use crate::context::reading_context;
 use crate::faults::StepFault;
-use crate::fetching::{fetching, reading_context};
-use crate::manifests::setting_manifest;
+use crate::fetch::fetching;
+use crate::manifest::setting_manifest;
 use crate::prepared::Prepared;
+use crate::recipe_lists::RecipeLists;
 use crate::session::SessionChange;
 use enrol_states::State;
 use host_model::Shelf;
 use jexl_transforms::TransformTable;
-use state_codec::state_size;
 use std::alloc::{AllocError, Global};
-
-/// The most bytes of a state's spelling.
-const MAX_STATE_BYTES: u128 = 16_777_216;
 
 impl Client {
     ghost use Rattle.client_core.specs.Clients.{state_of, session_of, step_of, IsSameClient};
@@ -48,7 +46,7 @@ impl Client {
         shelf: &mut F,
     ) -> Result<Prepared, StepFault>
         requires moment { now ≤ last_moment }
-        requires table { names_of table.now ≡ standard_names }
+        requires table { HasStandardNames table.now }
 
         ensures same { IsSameClient self.old self.new }
         ensures made { IfOk result (λ prepared. IsMadeOn self.new prepared) }
@@ -60,7 +58,8 @@ impl Client {
         // A value that is answered of a feature has the feature's type.
         ensures typed { IfOk result (λ prepared. IsTyped (state_of self.old) (session_of self.old) command.now (answer_in prepared)) }
 
-        // The shelf is asked for nothing by a command that names no file.
+        // The shelf is asked for the files of the command alone, and for nothing by a command that names no file.
+        ensures asked { HasAsked F.Shelf command.now shelf.old shelf.new }
         ensures unasked { names_file command.now ≡ false → shelf.new ≡ shelf.old }
         ensures shelf_fault { IsErrOf result StepFault.ShelfFault → IsTrue (names_file command.now) }
         ensures files { F.tells → (name : List ℕ) → F.file shelf.new name ≡ F.file shelf.old name }
@@ -72,6 +71,7 @@ impl Client {
     }
 
     // What a command asks for.
+    #[tactic(auto, using(crate::proofs::Asking::none_asked, crate::proofs::Asking::manifest_asked, crate::proofs::Asking::context_asked, crate::proofs::Asking::fetch_asked))]
     fn asked<F: Shelf>(
         &self,
         alloc: Global,
@@ -81,11 +81,12 @@ impl Client {
         shelf: &mut F,
     ) -> Result<Asked, StepFault>
         requires moment { now ≤ last_moment }
-        requires table { names_of table.now ≡ standard_names }
+        requires table { HasStandardNames table.now }
         ensures outcome { (IsTrue (names_file command.now) → F.tells) → IfOk result (λ asked. asked_outcome (state_of self.now) (session_of self.now) asked
             ≡ outcome (setting F.Shelf shelf.old now) (state_of self.now) (session_of self.now) command.now) }
-        ensures consistent { IfOk result HasConsistentState }
+        ensures follows { IfOk result (λ asked. IsAskedOf (state_of self.now) asked) }
         ensures typed { IfOk result (λ asked. IsTyped (state_of self.now) (session_of self.now) command.now (answer_for asked)) }
+        ensures asked { HasAsked F.Shelf command.now shelf.old shelf.new }
         ensures unasked { names_file command.now ≡ false → shelf.new ≡ shelf.old }
         ensures shelf_fault { IsErrOf result StepFault.ShelfFault → IsTrue (names_file command.now) }
         ensures files { F.tells → (name : List ℕ) → F.file shelf.new name ≡ F.file shelf.old name }
@@ -97,7 +98,7 @@ impl Client {
             Command::Context { file } => reading_context(alloc, shelf, file),
             Command::Fetch { file } => fetching(alloc, self.state(), shelf, file),
             Command::Apply => Ok(self.applying(alloc, table, now)?),
-            Command::Participate { on } => Ok(self.participating(alloc, *on)?),
+            Command::Participate { part, on } => Ok(self.participating(alloc, *part, *on)?),
             Command::OptOut { slug } => Ok(self.opting_out(alloc, slug)?),
             Command::OptIn { slug, branch } => Ok(self.opting_in(alloc, slug, branch)?),
             Command::Reset { id } => Ok(self.resetting(alloc, *id)?),
@@ -108,7 +109,7 @@ impl Client {
 
     // The step of what is asked for, unless the new state is too large.
     fn done(&mut self, alloc: Global, asked: Asked) -> Result<Prepared, AllocError>
-        requires { HasConsistentState asked }
+        requires { IsAskedOf (state_of self.old) asked }
         ensures same { IsSameClient self.old self.new }
         ensures made { IfOk result (λ prepared. IsMadeOn self.new prepared) }
         ensures step { IfOk result (λ prepared. Leads self.new prepared (done (state_of self.old) (session_of self.old)
@@ -116,7 +117,11 @@ impl Client {
         ensures answer { IfOk result (λ prepared. IsAnswerOrTooLarge (answer_for asked) (answer_in prepared)) }
     {
         match asked {
-            Asked::NewState { next, answer } => self.with_state(alloc, next, answer),
+            Asked::NewState {
+                next,
+                recipes,
+                answer,
+            } => self.with_state(alloc, next, recipes, answer),
             Asked::SameState { change, answer } => Ok(self.unchanged(change, answer)),
             Asked::Refused(refusal) => Ok(self.unchanged(SessionChange::Stays, refusal)),
         }
@@ -127,23 +132,24 @@ impl Client {
         &mut self,
         alloc: Global,
         next: State,
+        recipes: RecipeLists,
         answer: Answer,
     ) -> Result<Prepared, AllocError>
-        requires { IsConsistent next }
+        requires consistent { IsConsistent next }
+        requires recipes { HasLists recipes (state_of self.old) next }
         ensures same { IsSameClient self.old self.new }
         ensures made { IfOk result (λ prepared. IsMadeOn self.new prepared) }
         ensures step { IfOk result (λ prepared. Leads self.new prepared (done (state_of self.old) (session_of self.old) (Accepted next (session_of self.old) answer))) }
         ensures answer { IfOk result (λ prepared. IsAnswerOrTooLarge answer (answer_in prepared)) }
     {
-        let size = state_size(&next);
-        if size > MAX_STATE_BYTES {
-            return Ok(self.unchanged(SessionChange::Stays, Answer::StateTooLarge(size)));
+        match self.store.sized(next, recipes) {
+            Ok(next) => Ok(Prepared {
+                change: self.store.change_to(alloc, next, recipes)?,
+                session: SessionChange::Stays,
+                answer,
+            }),
+            Err(size) => Ok(self.unchanged(SessionChange::Stays, Answer::StateTooLarge(size))),
         }
-        Ok(Prepared {
-            change: self.store.change_to(alloc, next)?,
-            session: SessionChange::Stays,
-            answer,
-        })
     }
 
     // The state is as before.

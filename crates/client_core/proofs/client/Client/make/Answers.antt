@@ -1,10 +1,14 @@
 -- A store is made where there is none.
-use Rattle.std.proofs.Common.{Err, ap, refl}
+use Rattle.std.proofs.Common.{Err, ap, refl, subst}
 use Rattle.host_model.specs.declared.side.Side.TheVariants.{Left, Right}
 use Rattle.host_model.proofs.Meeting.{started}
 use Rattle.pair_store.specs.Moments.{StaysBelow}
 use Rattle.pair_store.proofs.Below.{now_below}
+use Rattle.row_store.specs.Rows.{HasRows}
+use Rattle.client_core.specs.declared.faults.MakeFault.TheVariants.{BadStore}
+use Rattle.client_core.proofs.Judging.{already_store_where, bad_making_where}
 use Rattle.client_core.proofs.NewStores.{kept_not_absent, below_twice, below_quiet}
+use Rattle.client_core.proofs.Openings.{found_stands}
 use Rattle.client_core.proofs.Repairing.{opening_left, opening_quiet}
 use Rattle.client_core.proofs.client.Client.make.Goals as goal
 
@@ -15,7 +19,9 @@ returns-in_err-first-clause-below g c tells =
     started h.moment h.might host (StaysBelow h host) (λ l r u met. now_below h host l r u (g.met.H.Host.only_now host l r u tells met))
 
 pub returns-in-Ok-clause-finds : goal.returns-in-Ok-clause-finds
-returns-in-Ok-clause-finds g c tells = (c.in-Ok.field-0.state, c.in-Ok.ensures.stands tells)
+returns-in-Ok-clause-finds g c tells =
+    let found = c.in-Ok.field-0 in
+    (found.state, found_stands g.H.Host c.args.host.now found c.in-Ok.ensures.found (c.in-Ok.ensures.rows tells))
 
 pub returns-in-Ok-clause-left : goal.returns-in-Ok-clause-left
 returns-in-Ok-clause-left g c tells states all =
@@ -142,3 +148,17 @@ returns-clause-text g c tells =
     let run = c.open.ensures.any_moment tells in
     opening_quiet h start l r (h.said new)
     (run.each l r (h.said new) (g.met.H.Host.counts_now new (h.moment start) l r (h.said new) tells run.later (g.met.H.Host.read_is_image new Left tells, g.met.H.Host.read_is_image new Right tells, refl)))
+
+pub returns-in-Err-NoStore-clause-spelled : goal.returns-in-Err-NoStore-clause-spelled
+returns-in-Err-NoStore-clause-spelled g c tells =
+    let h = g.H.Host in
+    let new = c.make.new.host in
+    let kept = (c.in_ok-make-in-Err-NoStore.ensures.made tells).each (h.reads new Left) (h.reads new Right) (g.met.H.Host.read_is_image new Left tells) (g.met.H.Host.read_is_image new Right tells) in
+    subst (HasRows (h.reads new Left) (h.reads new Right)) c.in_ok-first.ensures.gives (kept.0, (kept.1.0, kept.1.1), kept.2)
+
+pub returns-in-Ok-clause-bad_store_where : goal.returns-in-Ok-clause-bad_store_where
+returns-in-Ok-clause-bad_store_where g c tells bad = bad_making_where (g.H.Host.reads c.args.host.now Left) (g.H.Host.reads c.args.host.now Right) _ (returns-in-Ok-clause-finds g c tells) bad
+
+pub returns-in-Err-BadStore-clause-already_store_where : goal.returns-in-Err-BadStore-clause-already_store_where
+returns-in-Err-BadStore-clause-already_store_where g c tells store =
+    already_store_where (g.H.Host.reads c.args.host.now Left) (g.H.Host.reads c.args.host.now Right) (Err BadStore) (c.in-Err-BadStore.ensures.bad_store tells (ap Err c.in-Err-BadStore.field-0-is)) store

@@ -1,5 +1,5 @@
 -- A change is written.
-use Rattle.std.proofs.Common.{◌∙◌, refl, ap, arith}
+use Rattle.std.proofs.Common.{◌∙◌, inl, refl, ap, arith}
 use Rattle.std.proofs.lemmas.Result.{err_from_is_err_and}
 use Rattle.host_model.specs.declared.side.Side.TheVariants.{Left, Right}
 use Rattle.state_codec.specs.Spelling.{rows_of}
@@ -51,12 +51,12 @@ returns-clause-settled g c tells = rows_settled g.H.Host c.commit.new.self.rows 
 
 pub returns-clause-stands : goal.returns-clause-stands
 returns-clause-stands g c tells =
-    rows_stand g.H.Host c.commit.new.self.rows c.commit.new.host c.args.change.state c.requires.change.sound (c.commit.ensures.stored.same ∙ ap rows_of c.in_ok-commit.ensures.state)
+    rows_stand g.H.Host c.commit.new.self.rows c.commit.new.host c.args.change.state c.requires.change.sound (inl (c.commit.ensures.stored.same ∙ ap rows_of c.in_ok-commit.ensures.state))
     (ungated g.H.Host c.commit.new.self.rows c.commit.new.host (c.in_ok-commit.ensures.acknowledged tells))
 
 pub returns-clause-kept : goal.returns-clause-kept
 returns-clause-kept g c tells =
-    rows_kept g.H.Host c.commit.new.self.rows c.commit.new.host c.args.change.state c.requires.change.sound (c.commit.ensures.stored.same ∙ ap rows_of c.in_ok-commit.ensures.state) (c.in_ok-commit.ensures.acknowledged tells)
+    rows_kept g.H.Host c.commit.new.self.rows c.commit.new.host c.args.change.state c.requires.change.sound (inl (c.commit.ensures.stored.same ∙ ap rows_of c.in_ok-commit.ensures.state)) (c.in_ok-commit.ensures.acknowledged tells)
 
 pub returns-clause-cost : goal.returns-clause-cost
 returns-clause-cost g c tells =

@@ -1,15 +1,15 @@
-// Enrolments follow the recipes, and the state is shown.
+// `apply`: enrolments follow the recipes.
 ghost use Rattle.std.specs.Prelude.{◌≡◌, ◌≤◌, count_by, IfOk};
 ghost use Rattle.enrol_states.specs.State.{last_moment};
 ghost use Rattle.enrol_states.specs.Statuses.{is_enrolled};
-ghost use Rattle.jexl_transforms.specs.Meaning.{standard_names};
-ghost use Rattle.jexl_transforms.specs.Table.{names_of};
-ghost use Rattle.client_core.specs.Asked.{asked_outcome, HasConsistentState};
-ghost use Rattle.client_core.specs.Steps.{applying, applied_answer, shown_answer, showing};
+ghost use Rattle.jexl_transforms.specs.Table.{HasStandardNames};
+ghost use Rattle.client_core.specs.Asked.{asked_outcome, IsAskedOf};
+ghost use Rattle.client_core.specs.Steps.{applying, applied_answer};
 
 use crate::answer::Answer;
 use crate::asked::Asked;
 use crate::client::Client;
+use crate::recipe_lists::RecipeLists;
 use enrol_evolver::evolve;
 use enrol_states::{Row, State};
 use jexl_transforms::TransformTable;
@@ -26,10 +26,10 @@ impl Client {
         now: u64,
     ) -> Result<Asked, AllocError>
         requires moment { now ≤ last_moment }
-        requires table { names_of table.now ≡ standard_names }
+        requires table { HasStandardNames table.now }
         ensures asks { IfOk result (λ asked. asked_outcome (state_of self.now) (session_of self.now) asked
             ≡ applying now (state_of self.now) (session_of self.now) (session_of self.now).manifest (session_of self.now).context) }
-        ensures consistent { IfOk result HasConsistentState }
+        ensures follows { IfOk result (λ asked. IsAskedOf (state_of self.now) asked) }
     {
         let Some(linked) = &self.session.manifest else {
             return Ok(Asked::Refused(Answer::NoManifest));
@@ -40,16 +40,11 @@ impl Client {
         let coenrolling = linked.coenrolling(alloc)?;
         let next = evolve(alloc, self.state(), context, coenrolling, table, now)?;
         let answer = applied_answer(&next);
-        Ok(Asked::NewState { next, answer })
-    }
-
-    /// What `show` asks for.
-    pub(crate) fn showing(&self, alloc: Global) -> Result<Asked, AllocError>
-        ensures asks { IfOk result (λ asked. asked_outcome (state_of self.now) (session_of self.now) asked ≡ showing (state_of self.now) (session_of self.now)) }
-        ensures consistent { IfOk result HasConsistentState }
-    {
-        let answer = answer_of(alloc, self.state())?;
-        Ok(Asked::same(answer))
+        Ok(Asked::NewState {
+            next,
+            recipes: RecipeLists::MayDiffer,
+            answer,
+        })
     }
 }
 
@@ -69,17 +64,4 @@ fn enrolled_rows(rows: &[Row]) -> usize
     ensures { result ≡ count_by (λ row. is_enrolled row.status) rows.now }
 {
     rows.iter().filter(|row| row.status.is_enrolled()).count()
-}
-
-/// The answer that shows a state.
-fn answer_of(alloc: Global, state: &State) -> Result<Answer, AllocError>
-    ensures { IfOk result (λ answer. answer ≡ shown_answer state.now) }
-{
-    Ok(Answer::Shown {
-        id: state.id,
-        participating: state.participating,
-        pending: state.pending.is_some(),
-        opted_out: state.opted_out.clone()?,
-        rows: state.rows.clone()?,
-    })
 }

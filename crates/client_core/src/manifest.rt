@@ -2,10 +2,11 @@
 ghost use Rattle.std.specs.Prelude.{◌≡◌, ◌≤◌, List, ℕ, IfOk, IsErrOf};
 ghost use Rattle.host_model.specs.Causes.{Rose};
 ghost use Rattle.fml_types.specs.Sound.{IsSoundManifest};
+ghost use Rattle.fml_link.specs.Asked.{IsAskedFrom};
 ghost use Rattle.fml_merge.specs.Faults.{bad_default};
 ghost use Rattle.enrol_states.specs.declared.state.State.{State};
 ghost use Rattle.client_core.specs.declared.session.Session.{Session};
-ghost use Rattle.client_core.specs.Asked.{asked_outcome, HasConsistentState};
+ghost use Rattle.client_core.specs.Asked.{asked_outcome, IsAskedOf};
 ghost use Rattle.client_core.specs.Manifests.{link_refusal, where_fits, manifest_of};
 ghost use Rattle.client_core.specs.Steps.{setting_manifest};
 
@@ -30,8 +31,9 @@ pub(crate) fn setting_manifest<F: Shelf>(
 ) -> Result<Asked, StepFault>
     ensures asks { F.tells → IfOk result (λ asked. (s : State) (session : Session)
         → asked_outcome s session asked ≡ setting_manifest s session (manifest_of (F.file shelf.old) file.now channel.now)) }
-    ensures consistent { IfOk result HasConsistentState }
+    ensures follows { IfOk result (λ asked. (s : State) → IsAskedOf s asked) }
     ensures files { F.tells → (name : List ℕ) → F.file shelf.new name ≡ F.file shelf.old name }
+    ensures asked { IsAskedFrom F.asks file.now shelf.old shelf.new }
     ensures cause { IsErrOf result StepFault.ShelfFault → Rose (F.faults shelf.old) (F.faults shelf.new) }
     ensures faults { F.faults shelf.old ≤ F.faults shelf.new }
 {
@@ -54,6 +56,7 @@ fn read_manifest<F: Shelf>(
 ) -> Result<Result<LinkedManifest, Answer>, StepFault>
     ensures found { F.tells → IfOk result (λ found. found ≡ manifest_of (F.file shelf.old) name.now channel.now) }
     ensures files { F.tells → (other : List ℕ) → F.file shelf.new other ≡ F.file shelf.old other }
+    ensures asked { IsAskedFrom F.asks name.now shelf.old shelf.new }
     ensures cause { IsErrOf result StepFault.ShelfFault → Rose (F.faults shelf.old) (F.faults shelf.new) }
     ensures faults { F.faults shelf.old ≤ F.faults shelf.new }
 {

@@ -1,7 +1,7 @@
 -- What is kept is in order, valid and not too much.
 use Rattle.json_tree.specs.Tree.{json_of}
 use Rattle.client_core.proofs.Payloads.{payload_length}
-use Rattle.client_core.proofs.fetching.payload_in.Goals as goal
+use Rattle.client_core.proofs.fetch.payload_in.Goals as goal
 
 pub returns-in-Ok-clause-kept : goal.returns-in-Ok-clause-kept
 returns-in-Ok-clause-kept c = record {

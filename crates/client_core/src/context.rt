@@ -1,0 +1,75 @@
+// `context`: the context of the run is read.
+ghost use Rattle.std.specs.Prelude.{◌≡◌, ◌≤◌, List, ℕ, IfOk, IsErrOf};
+ghost use Rattle.json_tree.specs.Tree.{json_of};
+ghost use Rattle.host_model.specs.Causes.{Rose};
+ghost use Rattle.app_context.specs.Contexts.{context_of};
+ghost use Rattle.enrol_states.specs.declared.state.State.{State};
+ghost use Rattle.client_core.specs.declared.session.Session.{Session};
+ghost use Rattle.client_core.specs.Asked.{asked_outcome, IsAskedOf};
+ghost use Rattle.client_core.specs.Fetching.{file_tree};
+ghost use Rattle.client_core.specs.Found.{context_outcome};
+ghost use Rattle.client_core.specs.Steps.{context_read, reading_context};
+
+use crate::answer::Answer;
+use crate::asked::Asked;
+use crate::faults::StepFault;
+use crate::files::read_tree;
+use crate::session::SessionChange;
+use app_context::{Context, ContextFault, read_context};
+use host_model::Shelf;
+use json_tree::Tree;
+use sequences::Text;
+use std::alloc::{AllocError, Global};
+
+/// What `context` asks for.
+pub(crate) fn reading_context<F: Shelf>(
+    alloc: Global,
+    shelf: &mut F,
+    file: &Text,
+) -> Result<Asked, StepFault>
+    ensures asks { F.tells → IfOk result (λ asked. (s : State) (session : Session)
+        → asked_outcome s session asked ≡ reading_context s session (file_tree file.now (F.file shelf.old file.now))) }
+    ensures follows { IfOk result (λ asked. (s : State) → IsAskedOf s asked) }
+    ensures files { F.tells → (name : List ℕ) → F.file shelf.new name ≡ F.file shelf.old name }
+    ensures asked { F.asks shelf.old file.now shelf.new }
+    ensures cause { IsErrOf result StepFault.ShelfFault → Rose (F.faults shelf.old) (F.faults shelf.new) }
+    ensures faults { F.faults shelf.old ≤ F.faults shelf.new }
+{
+    match read_context_file(alloc, shelf, file)? {
+        Ok(context) => Ok(Asked::SameState {
+            change: SessionChange::Context(context),
+            answer: Answer::Okay,
+        }),
+        Err(refusal) => Ok(Asked::Refused(refusal)),
+    }
+}
+
+/// The context of the file of this name, or the refusal of the command.
+fn read_context_file<F: Shelf>(
+    alloc: Global,
+    shelf: &mut F,
+    name: &Text,
+) -> Result<Result<Context, Answer>, StepFault>
+    ensures found { F.tells → IfOk result (λ found. (s : State) (session : Session)
+        → reading_context s session (file_tree name.now (F.file shelf.old name.now)) ≡ context_outcome s session found) }
+    ensures files { F.tells → (other : List ℕ) → F.file shelf.new other ≡ F.file shelf.old other }
+    ensures asked { F.asks shelf.old name.now shelf.new }
+    ensures cause { IsErrOf result StepFault.ShelfFault → Rose (F.faults shelf.old) (F.faults shelf.new) }
+    ensures faults { F.faults shelf.old ≤ F.faults shelf.new }
+{
+    match read_tree(alloc, shelf, name)? {
+        Ok(tree) => Ok(context_in(alloc, &tree)?),
+        Err(refusal) => Ok(Err(refusal)),
+    }
+}
+
+/// The context of a tree, or the refusal of the command.
+fn context_in(alloc: Global, tree: &Tree) -> Result<Result<Context, Answer>, AllocError>
+    ensures { IfOk result (λ found. (s : State) (session : Session) → context_read s session (context_of (json_of tree.now)) ≡ context_outcome s session found) }
+{
+    match read_context(alloc, tree) {
+        Ok(context) => Ok(Ok(context)),
+        Err(ContextFault::BadContext(key)) => Ok(Err(Answer::BadContext(key))),
+        Err(ContextFault::OutOfMemory) => Err(AllocError),
+    }
+}

@@ -1,0 +1,100 @@
+// `fetch`: the recipes of a payload become pending.
+ghost use Rattle.std.specs.Prelude.{◌≡◌, ◌≤◌, List, ℕ, IfOk, IsErrOf};
+ghost use Rattle.json_tree.specs.Tree.{json_of};
+ghost use Rattle.recipe_reader.specs.Payloads.{payload_of};
+ghost use Rattle.host_model.specs.Causes.{Rose};
+ghost use Rattle.enrol_states.specs.declared.state.State.{State};
+ghost use Rattle.enrol_states.specs.Consistent.{IsConsistent, AreKept};
+ghost use Rattle.client_core.specs.declared.session.Session.{Session};
+ghost use Rattle.client_core.specs.Asked.{asked_outcome, IsAskedOf};
+ghost use Rattle.client_core.specs.Fetching.{file_tree};
+ghost use Rattle.client_core.specs.Found.{accepted, outcome_of};
+ghost use Rattle.client_core.specs.Steps.{fetched, fetching};
+
+use crate::answer::Answer;
+use crate::asked::Asked;
+use crate::faults::StepFault;
+use crate::files::read_tree;
+use crate::recipe_lists::RecipeLists;
+use enrol_states::State;
+use host_model::Shelf;
+use json_tree::Tree;
+use recipe_reader::{Payload, PayloadFault, read_payload};
+use sequences::Text;
+use std::alloc::{AllocError, Global};
+
+/// What `fetch` asks for in this state.
+pub(crate) fn fetching<F: Shelf>(
+    alloc: Global,
+    state: &State,
+    shelf: &mut F,
+    file: &Text,
+) -> Result<Asked, StepFault>
+    requires { IsConsistent state.now }
+    ensures asks { F.tells → IfOk result (λ asked. (session : Session)
+        → asked_outcome state.now session asked ≡ fetching state.now session (file_tree file.now (F.file shelf.old file.now))) }
+    ensures follows { IfOk result (λ asked. (s : State) → IsAskedOf s asked) }
+    ensures files { F.tells → (name : List ℕ) → F.file shelf.new name ≡ F.file shelf.old name }
+    ensures asked { F.asks shelf.old file.now shelf.new }
+    ensures cause { IsErrOf result StepFault.ShelfFault → Rose (F.faults shelf.old) (F.faults shelf.new) }
+    ensures faults { F.faults shelf.old ≤ F.faults shelf.new }
+{
+    match fetch(alloc, shelf, file)? {
+        Ok(payload) => Ok(with_pending(state, payload)?),
+        Err(refusal) => Ok(Asked::Refused(refusal)),
+    }
+}
+
+/// The state with the recipes of a payload pending.
+fn with_pending(state: &State, payload: Payload) -> Result<Asked, AllocError>
+    requires consistent { IsConsistent state.now }
+    requires kept { AreKept payload.recipes }
+    ensures asks { IfOk result (λ asked. (session : Session) → asked_outcome state.now session asked ≡ accepted state.now session payload) }
+    ensures follows { IfOk result (λ asked. (s : State) → IsAskedOf s asked) }
+{
+    let Payload { recipes, skipped } = payload;
+    let kept = recipes.as_slice().len() as u32;
+    let mut next = state.clone()?;
+    next.pending = Some(recipes);
+    Ok(Asked::NewState {
+        next,
+        recipes: RecipeLists::MayDiffer,
+        answer: Answer::Fetched { kept, skipped },
+    })
+}
+
+/// The payload of the file of this name, or the refusal of the command.
+fn fetch<F: Shelf>(
+    alloc: Global,
+    shelf: &mut F,
+    name: &Text,
+) -> Result<Result<Payload, Answer>, StepFault>
+    ensures found { F.tells → IfOk result (λ found. (s : State) (session : Session)
+        → fetching s session (file_tree name.now (F.file shelf.old name.now)) ≡ outcome_of s session found) }
+    ensures kept { IfOk result (λ found. IfOk found (λ payload. AreKept payload.recipes)) }
+    ensures files { F.tells → (other : List ℕ) → F.file shelf.new other ≡ F.file shelf.old other }
+    ensures asked { F.asks shelf.old name.now shelf.new }
+    ensures cause { IsErrOf result StepFault.ShelfFault → Rose (F.faults shelf.old) (F.faults shelf.new) }
+    ensures faults { F.faults shelf.old ≤ F.faults shelf.new }
+{
+    match read_tree(alloc, shelf, name)? {
+        Ok(tree) => Ok(payload_in(alloc, &tree)?),
+        Err(refusal) => Ok(Err(refusal)),
+    }
+}
+
+/// The payload of a tree, or the refusal of the command.
+fn payload_in(alloc: Global, tree: &Tree) -> Result<Result<Payload, Answer>, AllocError>
+    ensures found { IfOk result (λ found. (s : State) (session : Session) → fetched s session (payload_of (json_of tree.now)) ≡ outcome_of s session found) }
+    ensures kept { IfOk result (λ found. IfOk found (λ payload. AreKept payload.recipes)) }
+{
+    match read_payload(alloc, tree) {
+        Ok(payload) => {
+            payload.recipes.as_slice();
+            Ok(Ok(payload))
+        }
+        Err(PayloadFault::NoData) => Ok(Err(Answer::NoData)),
+        Err(PayloadFault::TooManyRecipes(count)) => Ok(Err(Answer::TooManyRecipes(count))),
+        Err(PayloadFault::OutOfMemory) => Err(AllocError),
+    }
+}

@@ -1,0 +1,32 @@
+// `opt-out`: nothing of a slug is enrolled any more.
+ghost use Rattle.std.specs.Prelude.{◌≡◌, IfOk};
+ghost use Rattle.client_core.specs.Asked.{asked_outcome, IsAskedOf};
+ghost use Rattle.client_core.specs.Steps.{opting_out};
+
+use crate::answer::Answer;
+use crate::asked::Asked;
+use crate::client::Client;
+use crate::recipe_lists::RecipeLists;
+use enrol_states::{OptOutFault, opt_out};
+use plain_text::Slug;
+use std::alloc::{AllocError, Global};
+
+impl Client {
+    ghost use Rattle.client_core.specs.Clients.{state_of, session_of};
+
+    /// What `opt-out` asks for.
+    pub(crate) fn opting_out(&self, alloc: Global, slug: &Slug) -> Result<Asked, AllocError>
+        ensures asks { IfOk result (λ asked. asked_outcome (state_of self.now) (session_of self.now) asked ≡ opting_out (state_of self.now) (session_of self.now) slug.now) }
+        ensures follows { IfOk result (λ asked. IsAskedOf (state_of self.now) asked) }
+    {
+        match opt_out(alloc, self.state(), slug) {
+            Ok(next) => Ok(Asked::NewState {
+                next,
+                recipes: RecipeLists::AsBefore,
+                answer: Answer::Okay,
+            }),
+            Err(OptOutFault::OptedOutLimit) => Ok(Asked::Refused(Answer::OptedOutLimit)),
+            Err(OptOutFault::OutOfMemory) => Err(AllocError),
+        }
+    }
+}

@@ -1,0 +1,34 @@
+// `participate`: the client takes part in experiments, in rollouts or in both, or leaves them.
+ghost use Rattle.std.specs.Prelude.{◌≡◌, IfOk};
+ghost use Rattle.client_core.specs.Asked.{asked_outcome, IsAskedOf};
+ghost use Rattle.client_core.specs.Steps.{participation};
+
+use crate::answer::Answer;
+use crate::asked::Asked;
+use crate::client::Client;
+use crate::recipe_lists::RecipeLists;
+use enrol_states::{Part, participate};
+use std::alloc::{AllocError, Global};
+
+impl Client {
+    ghost use Rattle.client_core.specs.Clients.{state_of, session_of};
+
+    /// What `participate` asks for.
+    pub(crate) fn participating(
+        &self,
+        alloc: Global,
+        part: Part,
+        on: bool,
+    ) -> Result<Asked, AllocError>
+        ensures asks { IfOk result (λ asked. asked_outcome (state_of self.now) (session_of self.now) asked
+            ≡ participation (state_of self.now) (session_of self.now) part on) }
+        ensures follows { IfOk result (λ asked. IsAskedOf (state_of self.now) asked) }
+    {
+        let next = participate(alloc, self.state(), part, on)?;
+        Ok(Asked::NewState {
+            next,
+            recipes: RecipeLists::AsBefore,
+            answer: Answer::Okay,
+        })
+    }
+}
