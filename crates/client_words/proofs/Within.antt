@@ -5,7 +5,7 @@ use Rattle.std.specs.List.{slice_split, onto_first}
 use Rattle.std.proofs.lemmas.List.Elements.{All-append, All-nil}
 use Rattle.std.proofs.lemmas.List.Splits.{length-slice_split}
 use Rattle.plain_text.specs.Spans.{lines, words, line_spans, word_spans, word_span, trimmed_len, is_line_end, is_blank}
-use Rattle.client_words.specs.Commands.{IsWithin, part_at, lines_of}
+use Rattle.client_words.specs.Commands.{IsWithin, bytes_at, lines_of}
 
 -- how long the parts are, each with the byte behind it
 extent : List (List ℕ) → ℕ
@@ -62,6 +62,6 @@ pub lines-within : (script : List ℕ) → All (IsWithin (length script)) (lines
 lines-within script = lines_within (length script) 0 (slice_split is_line_end script) (omega (arith, extent-slice_split is_line_end script))
 
 -- the lines at the spans of a script's lines
-pub lines_at : (script : List ℕ) (spans : List (ℕ × ℕ)) → spans ≡ lines script → map (part_at script) spans ≡ lines_of script
+pub lines_at : (script : List ℕ) (spans : List (ℕ × ℕ)) → spans ≡ lines script → map (bytes_at script) spans ≡ lines_of script
 unfolding lines_of
-lines_at script spans is = ap (map (part_at script)) is
+lines_at script spans is = ap (map (bytes_at script)) is

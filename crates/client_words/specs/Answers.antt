@@ -92,10 +92,17 @@ status_words (status.Error cause) = codes "Error " ++ cause_name cause
 abbrev pub row_line : Row → List ℕ
 row_line row = row.slug ++ codes " " ++ status_words row.status ++ 10 ∷ []
 
+-- the kinds of recipes that the client takes part in: `yes` for both, `no` for none
+abbrev pub participating_in : Bool → Bool → List ℕ
+participating_in true true = codes "yes"
+participating_in true false = codes "experiments"
+participating_in false true = codes "rollouts"
+participating_in false false = codes "no"
+
 -- what `show` says
-unfoldable pub shown_lines : List ℕ → Bool → Bool → List (List ℕ) → List Row → List ℕ
-shown_lines id participating pending opted_out rows =
-    codes "id " ++ hyphenated id ++ codes "\nparticipating " ++ yes_or_no participating ++ codes "\npending " ++ yes_or_no pending ++ codes "\n" ++ lines_for out_line opted_out ++ lines_for row_line rows ++ codes "end\n"
+unfoldable pub shown_lines : List ℕ → Bool → Bool → Bool → List (List ℕ) → List Row → List ℕ
+shown_lines id experiments rollouts pending opted_out rows =
+    codes "id " ++ hyphenated id ++ codes "\nparticipating " ++ participating_in experiments rollouts ++ codes "\npending " ++ yes_or_no pending ++ codes "\n" ++ lines_for out_line opted_out ++ lines_for row_line rows ++ codes "end\n"
 
 -- what `fetch` says
 unfoldable pub fetched_lines : ℕ → List (ℕ × SkipReason) → List ℕ
@@ -107,7 +114,7 @@ answer_lines Okay = codes "ok\n"
 answer_lines (Fetched kept skipped) = fetched_lines kept skipped
 answer_lines (Applied enrolled rows) = codes "applied " ++ decimal enrolled ++ codes " of " ++ decimal rows ++ 10 ∷ []
 answer_lines (Value tree) = codes "value " ++ text_of (json_of tree) ++ 10 ∷ []
-answer_lines (Shown id participating pending opted_out rows) = shown_lines id participating pending opted_out rows
+answer_lines (Shown id experiments rollouts pending opted_out rows) = shown_lines id experiments rollouts pending opted_out rows
 answer_lines NoManifest = codes "refused NoManifest\n"
 answer_lines NoContext = codes "refused NoContext\n"
 answer_lines (AbsentFile name) = codes "refused AbsentFile " ++ quoted name ++ 10 ∷ []

@@ -1,17 +1,19 @@
 -- The lines of a script, and the command of a line.
-use Rattle.std.specs.Prelude.{ℕ, ◌≤◌, nat_lt, true, false, List, [], ◌∷◌, Option, None, Some, Result, Ok, Err, map, length, slice_range, bytes_eq, codes, if◌then◌else◌}
+use Rattle.std.specs.Prelude.{ℕ, ◌≤◌, nat_lt, Bool, true, false, List, [], ◌∷◌, Option, None, Some, Result, Ok, Err, map, length, slice_range, bytes_eq, codes, if◌then◌else◌}
 use Rattle.std.specs.Str.{is_utf8}
 use Rattle.plain_text.specs.Names.{bad_place}
 use Rattle.plain_text.specs.Spans.{lines, words}
 use Rattle.uuid.specs.Text.{parsed}
+use Rattle.enrol_states.specs.declared.participation.Part.{Part}
+use Rattle.enrol_states.specs.declared.participation.Part.TheVariants.{Both, Experiments, Rollouts}
 use Rattle.client_core.specs.declared.command.Command.{Command}
 use Rattle.client_core.specs.declared.command.Command.TheVariants.{Manifest, Context, Fetch, Apply, Participate, OptOut, OptIn, Reset, Show, Feature}
 use Rattle.client_words.specs.declared.command.LineFault.{LineFault}
 use Rattle.client_words.specs.declared.command.LineFault.TheVariants.{LineTooLong, Blank, UnknownCommand, BadWords, BadSlug, BadId}
 
 -- the bytes at a span
-abbrev pub part_at : List ℕ → ℕ × ℕ → List ℕ
-part_at text span = slice_range text span.0 span.1
+abbrev pub bytes_at : List ℕ → ℕ × ℕ → List ℕ
+bytes_at text span = slice_range text span.0 span.1
 
 -- a span of a text of this length
 abbrev pub IsWithin : ℕ → ℕ × ℕ → Type 0
@@ -19,11 +21,11 @@ IsWithin len span = (span.0 ≤ span.1) × (span.1 ≤ len)
 
 -- the lines of a script, without their ends
 unfoldable pub lines_of : List ℕ → List (List ℕ)
-lines_of script = map (part_at script) (lines script)
+lines_of script = map (bytes_at script) (lines script)
 
 -- the words of a line
 unfoldable pub words_of : List ℕ → List (List ℕ)
-words_of line = map (part_at line) (words line)
+words_of line = map (bytes_at line) (words line)
 
 -- what was read makes more, or it is refused
 infixl 10 ◌>>=◌
@@ -75,11 +77,20 @@ abbrev pub alone : Command → List (List ℕ) → Result Command LineFault
 alone command [] = Ok command
 alone command (word ∷ more) = Err BadWords
 
--- the words behind `participate`
+-- `yes` or `no`
+abbrev pub yes_or_no_in : List ℕ → Result Bool LineFault
+yes_or_no_in word = if bytes_eq word (codes "yes") then Ok true else (if bytes_eq word (codes "no") then Ok false else Err BadWords)
+
+-- the recipes of one kind
+abbrev pub part_in : List ℕ → Result Part LineFault
+part_in word = if bytes_eq word (codes "experiments") then Ok Experiments else (if bytes_eq word (codes "rollouts") then Ok Rollouts else Err BadWords)
+
+-- the words behind `participate`: `yes` or `no`, for the recipes of both kinds or of the one that stands before it
 abbrev pub participation : List (List ℕ) → Result Command LineFault
 participation [] = Err BadWords
-participation (word ∷ []) = if bytes_eq word (codes "yes") then Ok (Participate true) else (if bytes_eq word (codes "no") then Ok (Participate false) else Err BadWords)
-participation (word ∷ next ∷ more) = Err BadWords
+participation (word ∷ []) = yes_or_no_in word >>= λ on. Ok (Participate Both on)
+participation (word ∷ next ∷ []) = part_in word >>= λ part. yes_or_no_in next >>= λ on. Ok (Participate part on)
+participation (word ∷ next ∷ more ∷ rest) = Err BadWords
 
 -- the words behind `opt-out`
 abbrev pub opting_out : List (List ℕ) → Result Command LineFault

@@ -1,6 +1,6 @@
 // The text of an answer.
 ghost use Rattle.std.specs.Prelude.{◌≡◌, ◌≢◌, IfOk};
-ghost use Rattle.client_words.specs.Answers.{yes_or_no, shown_lines, fetched_lines, answer_lines, fault_answer};
+ghost use Rattle.client_words.specs.Answers.{participating_in, yes_or_no, shown_lines, fetched_lines, answer_lines, fault_answer};
 ghost use Rattle.client_words.specs.Answers as spec;
 
 use crate::command::LineFault;
@@ -30,11 +30,20 @@ pub fn answer_text(alloc: Global, answer: &Answer) -> Result<Text, AllocError>
         Answer::Value(tree) => value_text(alloc, tree),
         Answer::Shown {
             id,
-            participating,
+            experiments,
+            rollouts,
             pending,
             opted_out,
             rows,
-        } => shown_text(alloc, *id, *participating, *pending, opted_out, rows),
+        } => shown_text(
+            alloc,
+            *id,
+            *experiments,
+            *rollouts,
+            *pending,
+            opted_out,
+            rows,
+        ),
         Answer::NoManifest => Text::new(alloc, "refused NoManifest\n"),
         Answer::NoContext => Text::new(alloc, "refused NoContext\n"),
         Answer::AbsentFile(name) => quoted_name(alloc, "refused AbsentFile ", name.as_str()),
@@ -140,17 +149,18 @@ fn value_text(alloc: Global, tree: &Tree) -> Result<Text, AllocError>
 fn shown_text(
     alloc: Global,
     id: Uuid,
-    participating: bool,
+    experiments: bool,
+    rollouts: bool,
     pending: bool,
     opted_out: &SharedList<Slug>,
     rows: &SharedList<Row>,
 ) -> Result<Text, AllocError>
-    ensures { IfOk result (λ text. text ≡ shown_lines id participating pending opted_out.now rows.now) }
+    ensures { IfOk result (λ text. text ≡ shown_lines id experiments rollouts pending opted_out.now rows.now) }
 {
     let mut text = String::from_str(alloc, "id ")?;
     text.push_str(hyphenated(alloc, id)?.as_str())?;
     text.push_str("\nparticipating ")?;
-    text.push_str(yes_or_no(participating))?;
+    text.push_str(participating_in(experiments, rollouts))?;
     text.push_str("\npending ")?;
     text.push_str(yes_or_no(pending))?;
     text.push_str("\n")?;
@@ -158,6 +168,18 @@ fn shown_text(
     push_row_lines(&mut text, rows.as_slice())?;
     text.push_str("end\n")?;
     Ok(Text::from_string(text))
+}
+
+/// The kinds of recipes that the client takes part in: `yes` for both, `no` for none.
+fn participating_in(experiments: bool, rollouts: bool) -> &'static str
+    ensures { result.now ≡ participating_in experiments rollouts }
+{
+    match (experiments, rollouts) {
+        (true, true) => "yes",
+        (true, false) => "experiments",
+        (false, true) => "rollouts",
+        (false, false) => "no",
+    }
 }
 
 fn yes_or_no(flag: bool) -> &'static str

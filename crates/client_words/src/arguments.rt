@@ -1,10 +1,11 @@
 // The words behind the name of a command.
 ghost use Rattle.std.specs.Prelude.{◌≡◌, ◌⊎◌, List, ℕ, Err, All, map, length};
-ghost use Rattle.client_words.specs.Commands.{text_in, slug_in, id_in, manifest_file, context_file, fetching, feature_name, participation, opting_out, opting_in, resetting, part_at, IsWithin};
+ghost use Rattle.client_words.specs.Commands.{yes_or_no_in, part_in, text_in, slug_in, id_in, manifest_file, context_file, fetching, feature_name, participation, opting_out, opting_in, resetting, bytes_at, IsWithin};
 ghost use Rattle.client_words.specs.Commands as spec;
 
-use crate::command::{LineFault, part};
+use crate::command::{LineFault, bytes_at};
 use client_core::Command;
+use enrol_states::Part;
 use plain_text::{Slug, SlugFault, slug_of};
 use sequences::Text;
 use std::alloc::Global;
@@ -18,13 +19,13 @@ pub(crate) fn manifest_file(
     arguments: &[(usize, usize)],
 ) -> Result<Command, LineFault>
     requires { All (IsWithin (length line.now)) arguments.now }
-    ensures { (result ≡ manifest_file (map (part_at line.now) arguments.now)) ⊎ (result ≡ Err LineFault.OutOfMemory) }
+    ensures { (result ≡ manifest_file (map (bytes_at line.now) arguments.now)) ⊎ (result ≡ Err LineFault.OutOfMemory) }
 {
     let [word, next] = arguments else {
         return Err(LineFault::BadWords);
     };
-    let file = text_in(alloc, part(line, *word))?;
-    let channel = text_in(alloc, part(line, *next))?;
+    let file = text_in(alloc, bytes_at(line, *word))?;
+    let channel = text_in(alloc, bytes_at(line, *next))?;
     Ok(Command::Manifest { file, channel })
 }
 
@@ -35,12 +36,12 @@ pub(crate) fn context_file(
     arguments: &[(usize, usize)],
 ) -> Result<Command, LineFault>
     requires { All (IsWithin (length line.now)) arguments.now }
-    ensures { (result ≡ context_file (map (part_at line.now) arguments.now)) ⊎ (result ≡ Err LineFault.OutOfMemory) }
+    ensures { (result ≡ context_file (map (bytes_at line.now) arguments.now)) ⊎ (result ≡ Err LineFault.OutOfMemory) }
 {
     let [word] = arguments else {
         return Err(LineFault::BadWords);
     };
-    let file = text_in(alloc, part(line, *word))?;
+    let file = text_in(alloc, bytes_at(line, *word))?;
     Ok(Command::Context { file })
 }
 
@@ -51,18 +52,18 @@ pub(crate) fn fetching(
     arguments: &[(usize, usize)],
 ) -> Result<Command, LineFault>
     requires { All (IsWithin (length line.now)) arguments.now }
-    ensures { (result ≡ fetching (map (part_at line.now) arguments.now)) ⊎ (result ≡ Err LineFault.OutOfMemory) }
+    ensures { (result ≡ fetching (map (bytes_at line.now) arguments.now)) ⊎ (result ≡ Err LineFault.OutOfMemory) }
 {
     let [word] = arguments else {
         return Err(LineFault::BadWords);
     };
-    let file = text_in(alloc, part(line, *word))?;
+    let file = text_in(alloc, bytes_at(line, *word))?;
     Ok(Command::Fetch { file })
 }
 
 /// A command that has no words behind it.
 pub(crate) fn alone(command: Command, arguments: &[(usize, usize)]) -> Result<Command, LineFault>
-    ensures { (line : List ℕ) → result ≡ spec.alone command (map (part_at line) arguments.now) }
+    ensures { (line : List ℕ) → result ≡ spec.alone command (map (bytes_at line) arguments.now) }
 {
     match arguments {
         [] => Ok(command),
@@ -70,21 +71,26 @@ pub(crate) fn alone(command: Command, arguments: &[(usize, usize)]) -> Result<Co
     }
 }
 
-/// The words behind `participate`: the one word `yes` or `no`.
+/// The words behind `participate`: `yes` or `no`, for the recipes of both kinds, or behind `experiments` or `rollouts`
+/// for those of one.
 pub(crate) fn participation(line: &[u8], arguments: &[(usize, usize)]) -> Result<Command, LineFault>
     requires { All (IsWithin (length line.now)) arguments.now }
-    ensures { result ≡ participation (map (part_at line.now) arguments.now) }
+    ensures { result ≡ participation (map (bytes_at line.now) arguments.now) }
 {
-    let [word] = arguments else {
-        return Err(LineFault::BadWords);
-    };
-    let word = part(line, *word);
-    if word == b"yes".as_slice() {
-        Ok(Command::Participate { on: true })
-    } else if word == b"no".as_slice() {
-        Ok(Command::Participate { on: false })
-    } else {
-        Err(LineFault::BadWords)
+    match arguments {
+        [word] => {
+            let on = yes_or_no_in(bytes_at(line, *word))?;
+            Ok(Command::Participate {
+                part: Part::Both,
+                on,
+            })
+        }
+        [word, next] => {
+            let part = part_in(bytes_at(line, *word))?;
+            let on = yes_or_no_in(bytes_at(line, *next))?;
+            Ok(Command::Participate { part, on })
+        }
+        _ => Err(LineFault::BadWords),
     }
 }
 
@@ -95,12 +101,12 @@ pub(crate) fn opting_out(
     arguments: &[(usize, usize)],
 ) -> Result<Command, LineFault>
     requires { All (IsWithin (length line.now)) arguments.now }
-    ensures { (result ≡ opting_out (map (part_at line.now) arguments.now)) ⊎ (result ≡ Err LineFault.OutOfMemory) }
+    ensures { (result ≡ opting_out (map (bytes_at line.now) arguments.now)) ⊎ (result ≡ Err LineFault.OutOfMemory) }
 {
     let [word] = arguments else {
         return Err(LineFault::BadWords);
     };
-    let slug = slug_in(alloc, part(line, *word))?;
+    let slug = slug_in(alloc, bytes_at(line, *word))?;
     Ok(Command::OptOut { slug })
 }
 
@@ -111,25 +117,25 @@ pub(crate) fn opting_in(
     arguments: &[(usize, usize)],
 ) -> Result<Command, LineFault>
     requires { All (IsWithin (length line.now)) arguments.now }
-    ensures { (result ≡ opting_in (map (part_at line.now) arguments.now)) ⊎ (result ≡ Err LineFault.OutOfMemory) }
+    ensures { (result ≡ opting_in (map (bytes_at line.now) arguments.now)) ⊎ (result ≡ Err LineFault.OutOfMemory) }
 {
     let [word, next] = arguments else {
         return Err(LineFault::BadWords);
     };
-    let slug = slug_in(alloc, part(line, *word))?;
-    let branch = slug_in(alloc, part(line, *next))?;
+    let slug = slug_in(alloc, bytes_at(line, *word))?;
+    let branch = slug_in(alloc, bytes_at(line, *next))?;
     Ok(Command::OptIn { slug, branch })
 }
 
 /// The words behind `reset`: the one id.
 pub(crate) fn resetting(line: &[u8], arguments: &[(usize, usize)]) -> Result<Command, LineFault>
     requires { All (IsWithin (length line.now)) arguments.now }
-    ensures { result ≡ resetting (map (part_at line.now) arguments.now) }
+    ensures { result ≡ resetting (map (bytes_at line.now) arguments.now) }
 {
     let [word] = arguments else {
         return Err(LineFault::BadWords);
     };
-    let id = id_in(part(line, *word))?;
+    let id = id_in(bytes_at(line, *word))?;
     Ok(Command::Reset { id })
 }
 
@@ -140,16 +146,42 @@ pub(crate) fn feature_name(
     arguments: &[(usize, usize)],
 ) -> Result<Command, LineFault>
     requires { All (IsWithin (length line.now)) arguments.now }
-    ensures { (result ≡ feature_name (map (part_at line.now) arguments.now)) ⊎ (result ≡ Err LineFault.OutOfMemory) }
+    ensures { (result ≡ feature_name (map (bytes_at line.now) arguments.now)) ⊎ (result ≡ Err LineFault.OutOfMemory) }
 {
     let [word] = arguments else {
         return Err(LineFault::BadWords);
     };
-    let name = text_in(alloc, part(line, *word))?;
+    let name = text_in(alloc, bytes_at(line, *word))?;
     Ok(Command::Feature { name })
 }
 
 // ---- words
+
+/// Whether the word is `yes`, where it is that or `no`.
+fn yes_or_no_in(word: &[u8]) -> Result<bool, LineFault>
+    ensures { result ≡ yes_or_no_in word.now }
+{
+    if word == b"yes".as_slice() {
+        Ok(true)
+    } else if word == b"no".as_slice() {
+        Ok(false)
+    } else {
+        Err(LineFault::BadWords)
+    }
+}
+
+/// The kind of recipes that the word names.
+fn part_in(word: &[u8]) -> Result<Part, LineFault>
+    ensures { result ≡ part_in word.now }
+{
+    if word == b"experiments".as_slice() {
+        Ok(Part::Experiments)
+    } else if word == b"rollouts".as_slice() {
+        Ok(Part::Rollouts)
+    } else {
+        Err(LineFault::BadWords)
+    }
+}
 
 /// The name of a file, a channel or a feature, where the word is in UTF-8.
 fn text_in(alloc: Global, word: &[u8]) -> Result<Text, LineFault>

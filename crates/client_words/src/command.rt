@@ -1,7 +1,7 @@
 // A line of a script, and its command.
 ghost use Rattle.std.specs.Prelude.{◌≡◌, ◌⊎◌, ◌∷◌, Err, All, map, length};
 ghost use Rattle.plain_text.specs.Spans.{words};
-ghost use Rattle.client_words.specs.Commands.{command_of, command_of_words, words_of, part_at, IsWithin};
+ghost use Rattle.client_words.specs.Commands.{command_of, command_of_words, words_of, bytes_at, IsWithin};
 
 use crate::arguments::{
     alone, context_file, feature_name, fetching, manifest_file, opting_in, opting_out,
@@ -23,8 +23,8 @@ pub enum LineFault {
     Blank,
     /// The first word is no command.
     UnknownCommand,
-    /// The words behind the first are not those of the command: there are more or fewer, one that tells yes or no
-    /// does neither, or the name of a file, a channel or a feature isn't in UTF-8.
+    /// The words behind the first are not those of the command: there are more or fewer, those behind `participate` are
+    /// others, or the name of a file, a channel or a feature isn't in UTF-8.
     BadWords,
     /// A word that stands for a slug fails to be one at this place: the first such word.
     BadSlug(usize),
@@ -60,11 +60,11 @@ pub fn read_command(alloc: Global, line: &[u8]) -> Result<Command, LineFault>
 /// The command of the words at these spans of a line.
 fn command_at(alloc: Global, line: &[u8], spans: &[(usize, usize)]) -> Result<Command, LineFault>
     requires { All (IsWithin (length line.now)) spans.now }
-    ensures { (result ≡ command_of_words (map (part_at line.now) spans.now)) ⊎ (result ≡ Err LineFault.OutOfMemory) }
+    ensures { (result ≡ command_of_words (map (bytes_at line.now) spans.now)) ⊎ (result ≡ Err LineFault.OutOfMemory) }
 {
     match spans {
         [] => Err(LineFault::Blank),
-        [name, arguments @ ..] => named(alloc, part(line, *name), line, arguments),
+        [name, arguments @ ..] => named(alloc, bytes_at(line, *name), line, arguments),
     }
 }
 
@@ -76,7 +76,7 @@ fn named(
     arguments: &[(usize, usize)],
 ) -> Result<Command, LineFault>
     requires { All (IsWithin (length line.now)) arguments.now }
-    ensures { (result ≡ command_of_words (name.now ∷ map (part_at line.now) arguments.now)) ⊎ (result ≡ Err LineFault.OutOfMemory) }
+    ensures { (result ≡ command_of_words (name.now ∷ map (bytes_at line.now) arguments.now)) ⊎ (result ≡ Err LineFault.OutOfMemory) }
 {
     if name == b"manifest".as_slice() {
         manifest_file(alloc, line, arguments)
@@ -104,9 +104,9 @@ fn named(
 }
 
 /// The bytes at a span of a text.
-pub fn part(text: &[u8], span: (usize, usize)) -> &[u8]
+pub fn bytes_at(text: &[u8], span: (usize, usize)) -> &[u8]
     requires { IsWithin (length text.now) span }
-    ensures { result.now ≡ part_at text.now span }
+    ensures { result.now ≡ bytes_at text.now span }
 {
     let (start, end) = span;
     &text[start..end]

@@ -8,4 +8,4 @@ mod refusals;
 mod rows;
 
 pub use answer::{answer_text, hyphenated, line_text};
-pub use command::{LINE_LIMIT, LineFault, part, read_command};
+pub use command::{LINE_LIMIT, LineFault, bytes_at, read_command};

@@ -2,12 +2,12 @@
 use Rattle.std.proofs.Common.{◌≡◌, ◌≤◌, All, length, map, ◌∙◌, ap, sym, subst, inl, inr, ⊎_elim, List, ℕ, refl, arith}
 use Rattle.std.proofs.lemmas.Bool.{le-ltb}
 use Rattle.plain_text.specs.Spans.{words}
-use Rattle.client_words.specs.Commands.{IsWithin, command_of, command_of_words, words_of, part_at}
+use Rattle.client_words.specs.Commands.{IsWithin, command_of, command_of_words, words_of, bytes_at}
 use Rattle.client_words.proofs.Within.{words-within}
 use Rattle.client_words.proofs.command.read_command.Goals as goal
 
 -- the command of a line that isn't too long
-command_of-short : (line : List ℕ) → length line ≤ 4096 → command_of_words (map (part_at line) (words line)) ≡ command_of line
+command_of-short : (line : List ℕ) → length line ≤ 4096 → command_of_words (map (bytes_at line) (words line)) ≡ command_of line
 unfolding command_of words_of
 command_of-short line short = rw (le-ltb 4096 (length line) short) refl
 
@@ -17,4 +17,4 @@ command_at-requires c = subst (λ (spans : List (ℕ × ℕ)). All (IsWithin (le
 pub returns : goal.returns
 returns c =
     let short : length c.args.line.now ≤ 4096 = omega arith in
-    ⊎_elim (λ is. inl (is ∙ ap (λ (spans : List (ℕ × ℕ)). command_of_words (map (part_at c.args.line.now) spans)) (c.as_slice.ensures ∙ c.in_ok-spans.ensures) ∙ command_of-short c.args.line.now short)) inr c.command_at.ensures
+    ⊎_elim (λ is. inl (is ∙ ap (λ (spans : List (ℕ × ℕ)). command_of_words (map (bytes_at c.args.line.now) spans)) (c.as_slice.ensures ∙ c.in_ok-spans.ensures) ∙ command_of-short c.args.line.now short)) inr c.command_at.ensures
