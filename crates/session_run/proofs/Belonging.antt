@@ -1,6 +1,7 @@
 -- Which statuses a call has, and which words each belongs to.
 use Rattle.std.proofs.Common.{◌≡◌, ◌⊎◌, inl, inr, ℕ, List, refl, sym, subst, Err}
 use Rattle.host_model.specs.declared.host.Host.{Ghosts}
+use Rattle.pair_store.specs.Repair.{IsLeftByOpening}
 use Rattle.enrol_states.specs.declared.state.State.{State}
 use Rattle.client_core.specs.Finds.{MakeFinds}
 use Rattle.client_core.specs.declared.faults.ClientFault.{ClientFault}
@@ -14,9 +15,9 @@ use Rattle.session_run.specs.declared.script.ScriptFault.TheVariants as script
 use Rattle.session_run.specs.declared.status.RunStatus.{RunStatus}
 use Rattle.session_run.specs.declared.status.RunStatus.TheVariants as status
 use Rattle.session_run.specs.Causes.{BelongsTo, IsUnreached}
-use Rattle.session_run.specs.Finds.{RunFinds, MakingFinds}
+use Rattle.session_run.specs.Finds.{RunFinds, MakingFinds, RunLeaves, MakingLeaves}
 use Rattle.session_run.specs.Making.{MakingEnds}
-use Rattle.session_run.specs.Statuses.{of_script, of_store, of_making, of_run, of_drill, IsOfLines, IsOfRun, IsOfDrill, IsOfMaking}
+use Rattle.session_run.specs.Statuses.{of_script, of_store, of_making, of_run, of_drill, IsOfLines, IsOfRun, IsOfMaking}
 use Rattle.session_run.specs.Words.{IsRun, IsInit, IsDrill}
 
 pub lines_are_of : (fault : RunFault) → IsOfLines (of_run fault)
@@ -78,7 +79,7 @@ status_was status.AlreadyStore is other same = same
 status_was status.ScriptTooLong is other same = same
 status_was status.SourceFault is other same = same
 
-pub drill_is_of : (answered : RunStatus) → IsOfLines answered → (answered ≡ status.ShelfFault → ⊥) → IsOfDrill (of_drill answered)
+pub drill_is_of : (answered : RunStatus) → IsOfLines answered → (answered ≡ status.ShelfFault → ⊥) → IsOfMaking (of_drill answered)
 drill_is_of status.Done is shelf = tt
 drill_is_of status.NoStore is shelf = tt
 drill_is_of status.BadStore is shelf = tt
@@ -90,20 +91,6 @@ drill_is_of status.Usage is shelf = is
 drill_is_of status.AlreadyStore is shelf = absurd is
 drill_is_of status.ScriptTooLong is shelf = is
 drill_is_of status.SourceFault is shelf = is
-
--- the making of a store is the beginning of a drill
-pub making_in_drill : (answered : RunStatus) → IsOfMaking answered → IsOfDrill answered
-making_in_drill status.Done is = tt
-making_in_drill status.AlreadyStore is = tt
-making_in_drill status.BadStore is = tt
-making_in_drill status.DiskFault is = tt
-making_in_drill status.SayFault is = tt
-making_in_drill status.OutOfMemory is = tt
-making_in_drill status.NoStore is = is
-making_in_drill status.ShelfFault is = is
-making_in_drill status.Usage is = is
-making_in_drill status.ScriptTooLong is = is
-making_in_drill status.SourceFault is = is
 
 -- ---- the words of a status
 
@@ -121,31 +108,18 @@ module _ (words : List (List ℕ)) where
   run_belongs is_run status.Usage is = absurd is
   run_belongs is_run status.AlreadyStore is = absurd is
 
-  pub drill_belongs : IsDrill words → (answered : RunStatus) → IsOfDrill answered → BelongsTo words answered
-  drill_belongs is_drill status.Done is = inr (inr is_drill)
-  drill_belongs is_drill status.AlreadyStore is = inr is_drill
-  drill_belongs is_drill status.BadStore is = inr (inr is_drill)
-  drill_belongs is_drill status.DiskFault is = inr (inr is_drill)
-  drill_belongs is_drill status.SayFault is = inr (inr is_drill)
-  drill_belongs is_drill status.OutOfMemory is = inr (inr is_drill)
-  drill_belongs is_drill status.NoStore is = absurd is
-  drill_belongs is_drill status.ShelfFault is = absurd is
-  drill_belongs is_drill status.ScriptTooLong is = absurd is
-  drill_belongs is_drill status.SourceFault is = absurd is
-  drill_belongs is_drill status.Usage is = absurd is
-
-  pub making_belongs : IsInit words → (answered : RunStatus) → IsOfMaking answered → BelongsTo words answered
-  making_belongs is_init status.Done is = inr (inl is_init)
-  making_belongs is_init status.AlreadyStore is = inl is_init
-  making_belongs is_init status.BadStore is = inr (inl is_init)
-  making_belongs is_init status.DiskFault is = inr (inl is_init)
-  making_belongs is_init status.SayFault is = inr (inl is_init)
-  making_belongs is_init status.OutOfMemory is = inr (inl is_init)
-  making_belongs is_init status.NoStore is = absurd is
-  making_belongs is_init status.ShelfFault is = absurd is
-  making_belongs is_init status.ScriptTooLong is = absurd is
-  making_belongs is_init status.SourceFault is = absurd is
-  making_belongs is_init status.Usage is = absurd is
+  pub making_belongs : IsInit words ⊎ IsDrill words → (answered : RunStatus) → IsOfMaking answered → BelongsTo words answered
+  making_belongs makes status.Done is = inr makes
+  making_belongs makes status.AlreadyStore is = makes
+  making_belongs makes status.BadStore is = inr makes
+  making_belongs makes status.DiskFault is = inr makes
+  making_belongs makes status.SayFault is = inr makes
+  making_belongs makes status.OutOfMemory is = inr makes
+  making_belongs makes status.NoStore is = absurd is
+  making_belongs makes status.ShelfFault is = absurd is
+  making_belongs makes status.ScriptTooLong is = absurd is
+  making_belongs makes status.SourceFault is = absurd is
+  making_belongs makes status.Usage is = absurd is
 
 -- ---- a run without a script
 
@@ -164,7 +138,18 @@ script_finds l r script.TooLong = tt
 script_finds l r script.SourceFault = tt
 script_finds l r script.OutOfMemory = tt
 
+pub script_leaves : {H : Type 0} (h : Ghosts H) (old new : H) (fault : ScriptFault) → RunLeaves h old new (of_script fault)
+script_leaves h old new script.TooLong = tt
+script_leaves h old new script.SourceFault = tt
+script_leaves h old new script.OutOfMemory = tt
+
 -- ---- the making of a store
+
+pub making_leaves : {H : Type 0} (h : Ghosts H) (old new : H) (fault : MakeFault) → ((fault ≡ make.AlreadyStore) ⊎ (fault ≡ make.BadStore) → IsLeftByOpening h old new) → MakingLeaves h old new (of_making fault)
+making_leaves h old new make.AlreadyStore leaves = leaves (inl refl)
+making_leaves h old new make.BadStore leaves = leaves (inr refl)
+making_leaves h old new make.DiskFault leaves = tt
+making_leaves h old new make.OutOfMemory leaves = tt
 
 pub making_finds : (l r : List ℕ) (fault : MakeFault) → MakeFinds {T = Unit {0}} l r (Err fault) → MakingFinds l r (of_making fault)
 making_finds l r make.AlreadyStore finds = finds
@@ -185,10 +170,10 @@ making_memory make.DiskFault is = absurd cc
 making_memory make.OutOfMemory is = refl
 
 -- a summary is said
-pub summary_is_of : (answered : RunStatus) → (answered ≡ status.Done) ⊎ (answered ≡ status.SayFault) ⊎ (answered ≡ status.OutOfMemory) → IsOfDrill answered
-summary_is_of answered (inl is) = subst IsOfDrill (sym is) tt
-summary_is_of answered (inr (inl is)) = subst IsOfDrill (sym is) tt
-summary_is_of answered (inr (inr is)) = subst IsOfDrill (sym is) tt
+pub summary_is_of : (answered : RunStatus) → (answered ≡ status.Done) ⊎ (answered ≡ status.SayFault) ⊎ (answered ≡ status.OutOfMemory) → IsOfMaking answered
+summary_is_of answered (inl is) = subst IsOfMaking (sym is) tt
+summary_is_of answered (inr (inl is)) = subst IsOfMaking (sym is) tt
+summary_is_of answered (inr (inr is)) = subst IsOfMaking (sym is) tt
 
 -- ---- the store is reached
 
@@ -196,11 +181,6 @@ pub making_reaches : (answered : RunStatus) → IsOfMaking answered → IsUnreac
 making_reaches answered is (inl other) = subst IsOfMaking other is
 making_reaches answered is (inr (inl other)) = subst IsOfMaking other is
 making_reaches answered is (inr (inr other)) = subst IsOfMaking other is
-
-pub drill_reaches : (answered : RunStatus) → IsOfDrill answered → IsUnreached answered → ⊥
-drill_reaches answered is (inl other) = subst IsOfDrill other is
-drill_reaches answered is (inr (inl other)) = subst IsOfDrill other is
-drill_reaches answered is (inr (inr other)) = subst IsOfDrill other is
 
 pub making_never : (fault : MakeFault) → of_making fault ≡ status.Done → ⊥
 making_never make.AlreadyStore is = absurd cc

@@ -1,7 +1,6 @@
 -- What the command of a line keeps: its slugs are slugs, and its id has sixteen bytes.
 use Rattle.std.proofs.Common.{◌≡◌, ℕ, Bool, true, false, List, [], ◌∷◌, length, refl, Option, Some, None, Result, Ok, Err, IfOk}
 use Rattle.std.specs.Prelude.{nat_lt, bytes_eq, codes, if◌then◌else◌}
-use Rattle.std.specs.Str.{is_utf8}
 use Rattle.plain_text.specs.Names.{bad_place}
 use Rattle.uuid.specs.Text.{parsed}
 use Rattle.enrol_states.specs.Consistent.{IsId}
@@ -10,8 +9,7 @@ use Rattle.client_core.specs.declared.command.Command.{Command}
 use Rattle.client_core.specs.declared.command.Command.TheVariants.{Apply, Show}
 use Rattle.client_core.specs.Soundness.{IsCommand}
 use Rattle.client_words.specs.declared.command.LineFault.{LineFault}
-use Rattle.client_words.specs.declared.command.LineFault.TheVariants.{BadWords}
-use Rattle.client_words.specs.Commands.{words_of, ◌>>=◌, text_in, unless_bad, slug_in, id_read, id_in, manifest_file, context_file, fetching, alone, participation, opting_out, opting_in, resetting, feature_name, command_named, command_of_words, command_of}
+use Rattle.client_words.specs.Commands.{words_of, ◌>>=◌, yes_or_no_in, part_in, text_in, unless_bad, slug_in, id_read, id_in, manifest_file, context_file, fetching, alone, participation, opting_out, opting_in, resetting, feature_name, command_named, command_of_words, command_of}
 use Rattle.session_run.proofs.Ids.{IsIdIn, id_in_text}
 
 abbrev Kept : Result Command LineFault → Type 0
@@ -25,13 +23,10 @@ bound : {A : Type 0} (P : A → Type 0) (read : Result A LineFault) (f : A → R
 bound P (Ok a) f has follows = follows a has
 bound P (Err fault) f has follows = tt
 
--- any text
-abbrev IsAny : List ℕ → Type 0
-IsAny t = Unit {0}
-
-any_text : (word : List ℕ) → IfOk (text_in word) IsAny
-unfolding text_in
-any_text word = elim (is_utf8 word) as (λ b. IfOk {E = LineFault} (if b then Ok word else Err BadWords) IsAny) [ true ↦ tt | false ↦ tt ]
+-- a command of which nothing is asked
+free : {A : Type 0} (read : Result A LineFault) (f : A → Result Command LineFault) → ((a : A) → Kept (f a)) → Kept (read >>= f)
+free (Ok a) f follows = follows a
+free (Err fault) f follows = tt
 
 slug_unless : (word : List ℕ) (place : Option ℕ) → bad_place word ≡ place → IfOk (unless_bad word place) IsSlug
 slug_unless word None e = e
@@ -54,17 +49,17 @@ is_id word = id_where (parsed word) (id_in_text word)
 manifest-kept : (words : List (List ℕ)) → Kept (manifest_file words)
 manifest-kept [] = tt
 manifest-kept (word ∷ []) = tt
-manifest-kept (word ∷ next ∷ []) = bound IsAny (text_in word) _ (any_text word) (λ file any. bound IsAny (text_in next) _ (any_text next) (λ channel also. tt))
+manifest-kept (word ∷ next ∷ []) = free (text_in word) _ (λ file. free (text_in next) _ (λ channel. tt))
 manifest-kept (word ∷ next ∷ more ∷ rest) = tt
 
 context-kept : (words : List (List ℕ)) → Kept (context_file words)
 context-kept [] = tt
-context-kept (word ∷ []) = bound IsAny (text_in word) _ (any_text word) (λ file any. tt)
+context-kept (word ∷ []) = free (text_in word) _ (λ file. tt)
 context-kept (word ∷ next ∷ more) = tt
 
 fetch-kept : (words : List (List ℕ)) → Kept (fetching words)
 fetch-kept [] = tt
-fetch-kept (word ∷ []) = bound IsAny (text_in word) _ (any_text word) (λ file any. tt)
+fetch-kept (word ∷ []) = free (text_in word) _ (λ file. tt)
 fetch-kept (word ∷ next ∷ more) = tt
 
 alone-kept : (command : Command) (words : List (List ℕ)) → IsCommand command → Kept (alone command words)
@@ -73,8 +68,9 @@ alone-kept command (word ∷ more) is = tt
 
 participate-kept : (words : List (List ℕ)) → Kept (participation words)
 participate-kept [] = tt
-participate-kept (word ∷ []) = either (bytes_eq word (codes "yes")) _ _ tt (either (bytes_eq word (codes "no")) _ _ tt tt)
-participate-kept (word ∷ next ∷ more) = tt
+participate-kept (word ∷ []) = free (yes_or_no_in word) _ (λ on. tt)
+participate-kept (word ∷ next ∷ []) = free (part_in word) _ (λ part. free (yes_or_no_in next) _ (λ on. tt))
+participate-kept (word ∷ next ∷ more ∷ rest) = tt
 
 opt_out-kept : (words : List (List ℕ)) → Kept (opting_out words)
 opt_out-kept [] = tt
@@ -94,7 +90,7 @@ reset-kept (word ∷ next ∷ more) = tt
 
 feature-kept : (words : List (List ℕ)) → Kept (feature_name words)
 feature-kept [] = tt
-feature-kept (word ∷ []) = bound IsAny (text_in word) _ (any_text word) (λ name any. tt)
+feature-kept (word ∷ []) = free (text_in word) _ (λ name. tt)
 feature-kept (word ∷ next ∷ more) = tt
 
 named-kept : (name : List ℕ) (words : List (List ℕ)) → Kept (command_named name words)

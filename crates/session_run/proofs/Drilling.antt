@@ -21,7 +21,7 @@ use Rattle.session_run.specs.declared.status.RunStatus.TheVariants.{Done, Usage,
 use Rattle.session_run.specs.Drills.{drill_bytes, drill_fresh, drill_ready, drill_setting, drill_start, drill_summary, AfterReady, DuringDrill}
 use Rattle.session_run.specs.DrillEnds.{SummaryEnds, ScriptEnds, ReadyEnds, DrillEnds, Drilled}
 use Rattle.session_run.specs.Ends.{EndsWhole, RunEnds}
-use Rattle.session_run.specs.Finds.{MakingFinds, MakingFound}
+use Rattle.session_run.specs.Finds.{MakingFinds, MakingLeaves, MakingFound}
 use Rattle.session_run.specs.Making.{DuringMaking, MakingEnds, Made}
 use Rattle.session_run.specs.Moments.{AfterPrefix}
 use Rattle.session_run.specs.Runs.{ServesValues}
@@ -47,18 +47,19 @@ module _ {H : Type 0} (h : Ghosts H) (start : Start) (summary : List ℕ) (old :
   lines_met new run = met_weaker h.moment h.might old new _ (AfterReady start summary) run (λ l r u met. inl met)
 
   -- a run that did not do all ends a drill
-  pub lines_end : (new : H) (status : RunStatus) → RunEnds h (start.state ∷ []) start new status → (status ≡ Done → ⊥) → (status ≡ ScriptTooLong → ⊥) → (status ≡ SourceFault → ⊥) → (status ≡ ShelfFault → ⊥) → ScriptEnds h start summary new status
-  lines_end new Done ends not_done short source shelf = absurd (not_done refl)
-  lines_end new OutOfMemory ends not_done short source shelf = inl ends
-  lines_end new DiskFault ends not_done short source shelf = ends
-  lines_end new SayFault ends not_done short source shelf = inl ends
-  lines_end new ShelfFault ends not_done short source shelf = absurd (shelf refl)
-  lines_end new ScriptTooLong ends not_done short source shelf = absurd (short refl)
-  lines_end new SourceFault ends not_done short source shelf = absurd (source refl)
-  lines_end new Usage ends not_done short source shelf = absurd ends
-  lines_end new NoStore ends not_done short source shelf = absurd ends
-  lines_end new AlreadyStore ends not_done short source shelf = absurd ends
-  lines_end new BadStore ends not_done short source shelf = absurd ends
+  pub lines_end : (asked : List (List ℕ) → Type 0) (new : H) (status : RunStatus) → RunEnds h asked (start.state ∷ []) start new status → (status ≡ Done → ⊥) → (status ≡ ScriptTooLong → ⊥) → (status ≡ SourceFault → ⊥) → (status ≡ ShelfFault → ⊥) → ScriptEnds h start summary new status
+  lines_end asked new Done ends not_done short source shelf = absurd (not_done refl)
+  lines_end asked new OutOfMemory (inl ends) not_done short source shelf = inl ends
+  lines_end asked new OutOfMemory (inr stays) not_done short source shelf = inr (inl stays)
+  lines_end asked new DiskFault ends not_done short source shelf = ends
+  lines_end asked new SayFault ends not_done short source shelf = inl ends
+  lines_end asked new ShelfFault ends not_done short source shelf = absurd (shelf refl)
+  lines_end asked new ScriptTooLong ends not_done short source shelf = absurd (short refl)
+  lines_end asked new SourceFault ends not_done short source shelf = absurd (source refl)
+  lines_end asked new Usage ends not_done short source shelf = absurd ends
+  lines_end asked new NoStore ends not_done short source shelf = absurd ends
+  lines_end asked new AlreadyStore ends not_done short source shelf = absurd ends
+  lines_end asked new BadStore ends not_done short source shelf = absurd ends
 
   module _ (mid new : H) (whole : EndsWhole h start mid) where
     -- all lines are done, and then the summary is said
@@ -80,7 +81,7 @@ module _ {H : Type 0} (h : Ghosts H) (start : Start) (summary : List ℕ) (old :
       text = ends ∙ ap (λ (d : List ℕ). d ++ take n summary) whole.text;
       cost = written ∙ whole.cost;
     })
-    summary_ends still written OutOfMemory ends = inr (record { kept = kept_said h mid new still (last_state start) whole.kept; text = ends ∙ whole.text; cost = written ∙ whole.cost })
+    summary_ends still written OutOfMemory ends = inr (inr (record { kept = kept_said h mid new still (last_state start) whole.kept; text = ends ∙ whole.text; cost = written ∙ whole.cost }))
     summary_ends still written DiskFault ends = absurd ends
     summary_ends still written ShelfFault ends = absurd ends
     summary_ends still written ScriptTooLong ends = absurd ends
@@ -117,6 +118,19 @@ module _ {H : Type 0} (h : Ghosts H) (start count now : ℕ) where
   ready_finds old new l r AlreadyStore ends absent = absurd ends.ends
   ready_finds old new l r BadStore ends absent = absurd ends.ends
 
+  ready_leaves : (old new : H) (status : RunStatus) → ReadyEnds h start count now old new status → MakingLeaves h old new status
+  ready_leaves old new Done ends = tt
+  ready_leaves old new OutOfMemory ends = tt
+  ready_leaves old new DiskFault ends = tt
+  ready_leaves old new SayFault ends = tt
+  ready_leaves old new ShelfFault ends = tt
+  ready_leaves old new ScriptTooLong ends = tt
+  ready_leaves old new SourceFault ends = tt
+  ready_leaves old new Usage ends = tt
+  ready_leaves old new NoStore ends = tt
+  ready_leaves old new AlreadyStore ends = absurd ends.ends
+  ready_leaves old new BadStore ends = absurd ends.ends
+
   -- the store is made, and what follows `ready` has ended
   module _ (old mid new : H) (status : RunStatus) (made : Made h drill_bytes now old mid Done) (absent : IsAbsent (h.reads old Left) (h.reads old Right)) (place : ℕ) (placed : HasPlace (h.reads mid Left) (h.reads mid Right) place)
       (ends : ScriptEnds h (drill_start start count now place (h.said mid) (h.written mid + repair_cost (h.reads mid Left) (h.reads mid Right))) (drill_summary start count now) new status) where
@@ -126,7 +140,7 @@ module _ {H : Type 0} (h : Ghosts H) (start count now : ℕ) where
     pub found_made : MakingFound h old new status
     found_made =
         let finds = ready_finds old new (h.reads old Left) (h.reads old Right) status there absent in
-        record { finds = finds; judges = making_judges (h.reads old Left) (h.reads old Right) status finds; quiet = λ found. absurd (found absent) }
+        record { finds = finds; judges = making_judges (h.reads old Left) (h.reads old Right) status finds; leaves = ready_leaves old new status there; quiet = λ found. absurd (found absent) }
 
     pub drilled_made : now ≤ last_moment → h.images old Left (h.reads old Left) → h.images old Right (h.reads old Right) → h.images mid Left (h.reads mid Left) → h.images mid Right (h.reads mid Right)
         → ((l r : List ℕ) → h.images mid Left l → h.images mid Right r → IsBelowMark h old l r (h.said mid)) → MeetsAll h mid new (AfterReady (drill_start start count now 0 (h.said mid) 0) (drill_summary start count now)) → MeetsAll h mid new (IsBelowMark h mid)

@@ -47,18 +47,18 @@ module _ {H : Type 0} (h : Ghosts H) (at : Setting) (s : State) (lines : List (L
   before place written most kept text = record { k = i; within = within; kept = subst (AllKept h new) now_is kept; text = text ∙ said; most = most }
 
   -- a line that isn't done and answered ends the run
-  pub line_ends : (place written : ℕ) (fault : RunFault) → h.written new ≤ written + all_bytes at place (begun s) (take (i + 1) lines) → slice_get lines i ≡ Some line → (fault ≡ run.ShelfFault → NamesFile line)
-      → LineEnds {T = Unit {0}} h now.state (run_after at now line).state (answer at now line) (h.said mid) new (Err fault) → LinesEnd {T = Unit {0}} h (begin at s place lines (h.said start) written) new (Err fault)
-  line_ends place written run.ShelfFault most there named ends = record { before = before place written most ends.0 ends.1; line = line; is_next = there; names = named refl }
-  line_ends place written run.OutOfMemory most there named ends = before place written most ends.0 ends.1
-  line_ends place written run.DiskFault most there named ends = record {
+  pub line_ends : (asked : List (List ℕ) → Type 0) (place written : ℕ) (fault : RunFault) → asked (take (i + 1) lines) → h.written new ≤ written + all_bytes at place (begun s) (take (i + 1) lines) → slice_get lines i ≡ Some line → (fault ≡ run.ShelfFault → NamesFile line)
+      → LineEnds {T = Unit {0}} h now.state (run_after at now line).state (answer at now line) (h.said mid) new (Err fault) → LinesEnd {T = Unit {0}} h asked (begin at s place lines (h.said start) written) new (Err fault)
+  line_ends asked place written run.ShelfFault none_after most there named ends = record { before = before place written most ends.0 ends.1; line = line; is_next = there; names = named refl; none_after = none_after }
+  line_ends asked place written run.OutOfMemory none_after most there named ends = before place written most ends.0 ends.1
+  line_ends asked place written run.DiskFault none_after most there named ends = record {
     k = i;
     within = within;
     kept = subst (λ (x : State). AllKeptEither h new x (after at s lines (i + 1))) now_is (subst (λ (x : State). AllKeptEither h new now.state x) next_is ends.0);
     text = ends.1 ∙ said;
     most = most;
   }
-  line_ends place written run.SayFault most there named (kept, (n, text)) = record {
+  line_ends asked place written run.SayFault none_after most there named (kept, (n, text)) = record {
     k = i;
     within = within;
     kept = subst (AllKept h new) next_is kept;
@@ -70,18 +70,18 @@ module _ {H : Type 0} (h : Ghosts H) (at : Setting) (s : State) (lines : List (L
   }
 
 -- lines that end a run
-pub run_ends : {H : Type 0} (h : Ghosts H) (states : List State) (start : Start) (new : H) (fault : RunFault) → LinesEnd {T = Unit {0}} h start new (Err fault) → RunEnds h states start new (of_run fault)
-run_ends h states start new run.ShelfFault ends = ends
-run_ends h states start new run.OutOfMemory ends = inl ends
-run_ends h states start new run.DiskFault ends = inl ends
-run_ends h states start new run.SayFault ends = ends
+pub run_ends : {H : Type 0} (h : Ghosts H) (asked : List (List ℕ) → Type 0) (states : List State) (start : Start) (new : H) (fault : RunFault) → LinesEnd {T = Unit {0}} h asked start new (Err fault) → RunEnds h asked states start new (of_run fault)
+run_ends h asked states start new run.ShelfFault ends = ends
+run_ends h asked states start new run.OutOfMemory ends = inl ends
+run_ends h asked states start new run.DiskFault ends = inl ends
+run_ends h asked states start new run.SayFault ends = ends
 
 -- a run that ended before the pair was judged
-pub unbegun_ends : {H : Type 0} (h : Ghosts H) (states : List State) (start : Start) (new : H) (status : RunStatus) → EndedBefore status → StaysAmong h states start new → RunEnds h states start new status
-unbegun_ends h states start new status (inl is) stays = subst (RunEnds h states start new) (sym is) stays
-unbegun_ends h states start new status (inr (inl is)) stays = subst (RunEnds h states start new) (sym is) stays
-unbegun_ends h states start new status (inr (inr (inl is))) stays = subst (RunEnds h states start new) (sym is) (inr stays)
-unbegun_ends h states start new status (inr (inr (inr is))) stays = subst (RunEnds h states start new) (sym is) (inr stays)
+pub unbegun_ends : {H : Type 0} (h : Ghosts H) (asked : List (List ℕ) → Type 0) (states : List State) (start : Start) (new : H) (status : RunStatus) → EndedBefore status → StaysAmong h states start new → RunEnds h asked states start new status
+unbegun_ends h asked states start new status (inl is) stays = subst (RunEnds h asked states start new) (sym is) stays
+unbegun_ends h asked states start new status (inr (inl is)) stays = subst (RunEnds h asked states start new) (sym is) stays
+unbegun_ends h asked states start new status (inr (inr (inl is))) stays = subst (RunEnds h asked states start new) (sym is) (inr stays)
+unbegun_ends h asked states start new status (inr (inr (inr is))) stays = subst (RunEnds h asked states start new) (sym is) (inr stays)
 
 -- so does one without a script
 pub script_before : (fault : ScriptFault) → EndedBefore (of_script fault)

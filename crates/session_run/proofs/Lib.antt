@@ -1,4 +1,5 @@
 mod Answering
+mod Asking
 mod Beginning
 mod Belonging
 mod Chaining
@@ -10,6 +11,9 @@ mod Ending
 mod Ids
 mod Judging
 mod Lining
+mod Linking
+mod MakingCauses
+mod MadeStores
 mod Manifests
 mod Opened
 mod OptOuts
@@ -17,6 +21,7 @@ mod Outcomes
 mod Placing
 mod Running
 mod SoundRuns
+mod SpelledStores
 mod Starting
 mod Stepping
 mod Values

@@ -63,8 +63,8 @@ module _ (at here : Setting) (same : here ≡ at) (s : State) (lines : List (Lis
     met_more place written first second =
         lines_met at s lines i line within more h start mid new now is said place written first (subst (λ (x : Setting). MeetsAll h mid new (DuringLine (h.said mid) now.state (run_after x now line).state (answer x now line))) same second)
 
-    pub ends_more : (place written : ℕ) (fault : RunFault) → h.written new ≤ written + all_bytes at place (begun s) (take (i + 1) lines) → slice_get lines i ≡ Some line → (fault ≡ ShelfFault → NamesFile line)
-        → LineEnds {T = Unit {0}} h now.state (run_after here now line).state (answer here now line) (h.said mid) new (Err fault) → LinesEnd {T = Unit {0}} h (begin at s place lines (h.said start) written) new (Err fault)
-    ends_more place written fault most there named ends =
-        line_ends h at s lines i line within more start mid new now is said place written fault most there named
+    pub ends_more : (asked : List (List ℕ) → Type 0) (place written : ℕ) (fault : RunFault) → asked (take (i + 1) lines) → h.written new ≤ written + all_bytes at place (begun s) (take (i + 1) lines) → slice_get lines i ≡ Some line → (fault ≡ ShelfFault → NamesFile line)
+        → LineEnds {T = Unit {0}} h now.state (run_after here now line).state (answer here now line) (h.said mid) new (Err fault) → LinesEnd {T = Unit {0}} h asked (begin at s place lines (h.said start) written) new (Err fault)
+    ends_more asked place written fault none_after most there named ends =
+        line_ends h at s lines i line within more start mid new now is said asked place written fault none_after most there named
         (subst (λ (x : Setting). LineEnds {T = Unit {0}} h now.state (run_after x now line).state (answer x now line) (h.said mid) new (Err fault)) same ends)

@@ -8,12 +8,14 @@ use Rattle.recipe_reader.specs.Payloads.{payload_of, recipe_with}
 use Rattle.recipe_reader.specs.declared.payload.Payload.{Payload}
 use Rattle.recipe_reader.specs.declared.payload.PayloadFault.{PayloadFault}
 use Rattle.recipe_reader.specs.declared.payload.PayloadFault.TheVariants as payload
+use Rattle.recipe_reader.specs.Kinds.{kind_of}
 use Rattle.recipe_reader.specs.declared.recipe.Recipe.{Recipe}
 use Rattle.app_context.specs.Contexts.{context_of}
 use Rattle.app_context.specs.declared.context.Context.{Context}
 use Rattle.app_context.specs.declared.key.ContextKey.{ContextKey}
 use Rattle.enrol_states.specs.Choices.{has_no_room}
 use Rattle.enrol_states.specs.Commands.{after_opt_out}
+use Rattle.enrol_states.specs.Participation.{takes_part}
 use Rattle.enrol_states.specs.Recipes.{has_branch}
 use Rattle.enrol_states.specs.declared.state.State.{State}
 use Rattle.state_codec.specs.Sound.{max_size}
@@ -32,7 +34,7 @@ use Rattle.client_core.specs.Fetching.{file_tree}
 use Rattle.client_core.specs.Manifests.{manifest_of}
 use Rattle.client_core.specs.Sessions.{with_manifest}
 use Rattle.client_core.specs.Settings.{Setting}
-use Rattle.client_core.specs.Steps.{Outcome, Accepted, Refused, Step, participation, opting_out, taking, choosing, opting_in, resetting, showing, fetched, fetching, context_read, reading_context, setting_manifest, applying, valued, serving, done, step}
+use Rattle.client_core.specs.Steps.{Outcome, Accepted, Refused, Step, participation, opting_out, taking, offering, choosing, opting_in, resetting, showing, fetched, fetching, context_read, reading_context, setting_manifest, applying, valued, serving, done, step}
 use Rattle.client_words.specs.declared.command.LineFault.{LineFault}
 use Rattle.client_words.specs.Commands.{command_of}
 use Rattle.session_run.specs.Steps.{RunState, run_after, effect, run_at}
@@ -122,13 +124,13 @@ module _ (at : Setting) (s : State) (session : Session) where
     branch-keeps r true = taking-keeps (first_taker s r s.rows)
     branch-keeps r false = tt
 
+    part-keeps : (r : Recipe) (on : Bool) → Keeps (if on then offering s session slug branch r else Refused NotParticipating)
+    part-keeps r true = branch-keeps r (has_branch r branch)
+    part-keeps r false = tt
+
     choosing-keeps : (found : Option Recipe) → Keeps (choosing s session slug branch found)
     choosing-keeps None = tt
-    choosing-keeps (Some r) = branch-keeps r (has_branch r branch)
-
-    in-keeps : (on : Bool) → Keeps (if on then choosing s session slug branch (recipe_with slug s.live) else Refused NotParticipating)
-    in-keeps true = choosing-keeps (recipe_with slug s.live)
-    in-keeps false = tt
+    choosing-keeps (Some r) = part-keeps r (takes_part s (kind_of r))
 
   -- a command that is no `manifest` stays
   stays : (command : Command) (m : Manifest) → ((file channel : List ℕ) → command ≡ commands.Manifest file channel → ⊥) → (step at s session command).session.manifest ≡ session.manifest
@@ -174,9 +176,9 @@ module _ (at : Setting) (s : State) (session : Session) where
   sets_or_stays (commands.Context file) m is = stays (commands.Context file) m (λ f c e. cc) (done-keeps (reading_context s session (file_tree file (at.files file))) (file-keeps (file_tree file (at.files file)))) is
   sets_or_stays (Fetch file) m is = stays (Fetch file) m (λ f c e. cc) (done-keeps (fetching s session (file_tree file (at.files file))) (fetch-keeps (file_tree file (at.files file)))) is
   sets_or_stays Apply m is = stays Apply m (λ f c e. cc) (done-keeps (applying at.now s session session.manifest session.context) (apply-keeps session.manifest session.context)) is
-  sets_or_stays (Participate on) m is = stays (Participate on) m (λ f c e. cc) (done-keeps (participation s session on) refl) is
+  sets_or_stays (Participate part on) m is = stays (Participate part on) m (λ f c e. cc) (done-keeps (participation s session part on) refl) is
   sets_or_stays (OptOut slug) m is = stays (OptOut slug) m (λ f c e. cc) (done-keeps (opting_out s session slug) (out-keeps slug (has_no_room s.opted_out slug))) is
-  sets_or_stays (OptIn slug branch) m is = stays (OptIn slug branch) m (λ f c e. cc) (done-keeps (opting_in s session slug branch) (in-keeps slug branch s.participating)) is
+  sets_or_stays (OptIn slug branch) m is = stays (OptIn slug branch) m (λ f c e. cc) (done-keeps (opting_in s session slug branch) (choosing-keeps slug branch (recipe_with slug s.live))) is
   sets_or_stays (Reset id) m is = stays (Reset id) m (λ f c e. cc) (done-keeps (resetting s session id) refl) is
   sets_or_stays Show m is = stays Show m (λ f c e. cc) (done-keeps (showing s session) refl) is
   sets_or_stays (Feature name) m is = stays (Feature name) m (λ f c e. cc) (done-keeps (serving s session name session.manifest) (feature-keeps name session.manifest)) is

@@ -1,46 +1,53 @@
 -- A run over a store: it ended before the pair was judged, or the store was opened and its lines were done.
-use Rattle.std.proofs.Common.{◌≡◌, inl, inr, ⊎_elim, ℕ, ◌≤◌, ◌+◌, List, [], ◌∷◌, refl, subst, Result, Ok, Err}
+use Rattle.std.proofs.Common.{◌≡◌, ◌⊎◌, inl, inr, ℕ, ◌≤◌, ◌+◌, List, [], ◌∷◌, refl, sym, ◌∙◌, ap, subst, arith, Result, Ok, Err}
+use Rattle.std.specs.Prelude.{IsErrOf}
 use Rattle.host_model.specs.declared.side.Side.TheVariants.{Left, Right}
 use Rattle.host_model.specs.declared.host.Host.{Ghosts}
 use Rattle.host_model.specs.declared.shelf.Shelf as shelves
-use Rattle.host_model.specs.Hosts.{MeetsAll}
-use Rattle.host_model.proofs.Meeting.{then_met, met_weaker}
+use Rattle.host_model.specs.Hosts.{MeetsAll, NowOf}
+use Rattle.host_model.proofs.Meeting.{started, then_met, met_weaker}
 use Rattle.gate_journal.specs.Records.{place_of}
-use Rattle.pair_store.specs.Moments.{IsOpening}
-use Rattle.pair_store.specs.Repair.{repair_cost}
+use Rattle.pair_store.specs.Repair.{repair_cost, IsUnwritten}
 use Rattle.enrol_states.specs.Statuses.{last_moment}
 use Rattle.enrol_states.specs.declared.state.State.{State}
+use Rattle.state_codec.specs.Forms.{needs_migration}
+use Rattle.client_core.specs.declared.client.Client.{Client}
 use Rattle.client_core.specs.declared.faults.ClientFault.{ClientFault}
 use Rattle.client_core.specs.declared.faults.ClientFault.TheVariants.{NoStore, BadStore, DiskFault, OutOfMemory}
+use Rattle.client_core.specs.Clients.{state_of, end_of, HasGateOn}
 use Rattle.client_core.specs.Finds.{OpenFinds}
-use Rattle.client_core.specs.Moments.{IsLeftAmong}
-use Rattle.row_store.specs.Rows.{HasPlace}
-use Rattle.client_core.specs.OpenStore.{AllKept, AllKeptAmong, IsSettled}
+use Rattle.client_core.specs.Moments.{IsLeftAs}
+use Rattle.client_core.specs.Migrations.{OpensWith, place_opened, opening_bytes}
+use Rattle.client_core.specs.Openings.{IsReadOrMigrating, OpensInPhases, OpensInTwoPhases, IsOpened, OpenLeaves}
+use Rattle.client_core.specs.OpenStore.{AllKept, AllKeptAmong}
 use Rattle.client_core.specs.Settings.{setting}
 use Rattle.client_core.specs.Store.{StandsFor, KeptFor, IsStore}
 use Rattle.client_core.proofs.Holding.{stands_of_kept}
+use Rattle.client_core.proofs.Openings.{phase_kept}
 use Rattle.client_core.proofs.Refusing.{stands_not_absent}
 use Rattle.session_run.specs.declared.faults.RunFault.{RunFault}
 use Rattle.session_run.specs.declared.faults.RunFault.TheVariants as run
 use Rattle.session_run.specs.declared.status.RunStatus.{RunStatus}
 use Rattle.session_run.specs.declared.status.RunStatus.TheVariants as status
+use Rattle.session_run.specs.Chains.{IsLinked}
 use Rattle.session_run.specs.Ends.{LinesEnd, RunEnds}
-use Rattle.session_run.specs.Finds.{EndedBefore, RunFinds}
-use Rattle.session_run.specs.Moments.{AfterPrefix}
-use Rattle.session_run.specs.Runs.{ServesValues, LinesRan, StandsAfter, Ran}
+use Rattle.session_run.specs.Finds.{EndedBefore, RunFinds, RunLeaves}
+use Rattle.session_run.specs.Moments.{AfterPrefix, IsAmong, InPhases}
+use Rattle.session_run.specs.Runs.{LinesRan, StandsAfter, Ran}
 use Rattle.session_run.specs.Starts.{Start, start_on, opened_on}
 use Rattle.session_run.specs.Statuses.{of_store, of_run}
 use Rattle.session_run.specs.Writes.{IsBelowMark}
 use Rattle.session_run.proofs.Ending.{run_ends, unbegun_ends, never_done}
+use Rattle.session_run.proofs.Linking.{the_one, among_one, linked_now, linked_from, next_of, next_one_of}
 use Rattle.session_run.proofs.Running.{some_at_start, elsewhere}
 use Rattle.session_run.proofs.Starting.{same_start}
 use Rattle.session_run.proofs.Values.{serves_values}
-use Rattle.session_run.proofs.Writing.{below_then}
+use Rattle.session_run.proofs.Writing.{below_then, below_unwritten}
 
 -- ---- the store was not opened
 
 -- a pair that stands for a state is opened, unless the disk fails or memory is wanting
-pub unopened_before : (l r : List ℕ) (fault : ClientFault) → OpenFinds l r (Err fault) → (s : State) → StandsFor l r s → EndedBefore (of_store fault)
+pub unopened_before : (l r : List ℕ) (fault : ClientFault) → OpenFinds l r fault → (s : State) → StandsFor l r s → EndedBefore (of_store fault)
 unopened_before l r NoStore finds s stands = absurd (stands_not_absent l r s stands finds)
 unopened_before l r BadStore finds s stands = absurd (finds.no_state s stands)
 unopened_before l r DiskFault finds s stands = inr (inr (inl refl))
@@ -53,11 +60,51 @@ store_not_done DiskFault is = absurd cc
 store_not_done OutOfMemory is = absurd cc
 
 -- what a run found that wasn't opened
-pub run_finds : (l r : List ℕ) (fault : ClientFault) → OpenFinds l r (Err fault) → RunFinds l r (of_store fault)
+pub run_finds : (l r : List ℕ) (fault : ClientFault) → OpenFinds l r fault → RunFinds l r (of_store fault)
 run_finds l r NoStore finds = finds
 run_finds l r BadStore finds = finds
 run_finds l r DiskFault finds = tt
 run_finds l r OutOfMemory finds = tt
+
+-- what a pair that stands for a state is opened with
+opens_somehow : (l r : List ℕ) (s : State) → StandsFor l r s → (place bytes : ℕ) × OpensWith l r s place bytes
+opens_somehow l r s stands =
+    let migrates = needs_migration stands.stored in
+    let before = place_of stands.rows.0 in (
+      place_opened migrates before s,
+      repair_cost l r + opening_bytes migrates before s,
+      record { stands = stands; before = before; began = (stands.rows.0, stands.rows.1, refl); place_is = refl; written_is = refl },
+    )
+
+fault_is : (fault other : ClientFault) → IsErrOf {T = Client} {E = ClientFault} (Err fault) other → fault ≡ other
+fault_is fault other is = cc
+
+never_failed : (client : Client) (fault : ClientFault) → IsErrOf {T = Client} {E = ClientFault} (Ok client) fault → ⊥
+never_failed client fault is = absurd cc
+
+module _ {H : Type 0} (h : Ghosts H) (old new : H) where
+  -- what it leaves
+  pub unopened_leaves : (fault : ClientFault) → OpenLeaves h old new fault → RunLeaves h old new (of_store fault)
+  unopened_leaves NoStore leaves = leaves
+  unopened_leaves BadStore leaves = leaves.0
+  unopened_leaves DiskFault leaves = tt
+  unopened_leaves OutOfMemory leaves = tt
+
+  pub lines_leave : (fault : RunFault) → RunLeaves h old new (of_run fault)
+  lines_leave run.ShelfFault = tt
+  lines_leave run.DiskFault = tt
+  lines_leave run.SayFault = tt
+  lines_leave run.OutOfMemory = tt
+
+  -- an opening that failed was in its first phase where the disk had failed then
+  pub unopened_in : (fault : ClientFault) → OpensInPhases {T = Client} h old new (Err fault) → (EndedBefore (of_store fault) × MeetsAll h old new (NowOf h old)) ⊎ OpensInTwoPhases h old new
+  unopened_in fault (inl unsynced) = inl (inr (inr (inl (ap of_store (fault_is fault DiskFault unsynced.0)))), unsynced.1)
+  unopened_in fault (inr two) = inr two
+
+  -- one that did not fail has had both
+  opened_in : (client : Client) → OpensInPhases h old new (Ok client) → OpensInTwoPhases h old new
+  opened_in client (inl unsynced) = absurd (never_failed client DiskFault unsynced.0)
+  opened_in client (inr two) = two
 
 -- ---- its lines were done
 
@@ -66,9 +113,9 @@ abbrev pub of_lines : Result (Unit {0}) RunFault → RunStatus
 of_lines (Ok done) = status.Done
 of_lines (Err fault) = of_run fault
 
-pub lines_end : {H : Type 0} (h : Ghosts H) (states : List State) (start : Start) (new : H) (result : Result (Unit {0}) RunFault) → LinesEnd h start new result → RunEnds h states start new (of_lines result)
-lines_end h states start new (Ok done) ends = ends
-lines_end h states start new (Err fault) ends = run_ends h states start new fault ends
+pub lines_end : {H : Type 0} (h : Ghosts H) (asked : List (List ℕ) → Type 0) (states : List State) (start : Start) (new : H) (result : Result (Unit {0}) RunFault) → LinesEnd h asked start new result → RunEnds h asked states start new (of_lines result)
+lines_end h asked states start new (Ok done) ends = ends
+lines_end h asked states start new (Err fault) ends = run_ends h asked states start new fault ends
 
 -- what a run found that did lines
 pub lines_find : (l r : List ℕ) (fault : RunFault) → IsStore l r → RunFinds l r (of_run fault)
@@ -77,89 +124,182 @@ lines_find l r run.DiskFault store = tt
 lines_find l r run.SayFault store = store
 lines_find l r run.OutOfMemory store = tt
 
--- a start over a list of one state
-pub among_one : {H : Type 0} (h : Ghosts H) (start : H) (s : State) → AllKept h start s → AllKeptAmong h start (s ∷ [])
-among_one h start s all l r left right = inl (all l r left right)
+-- both sides were synced, and what followed has the moments of the lines
+record WentOn {H : Type 0} (h : Ghosts H) (old new : H) (start : Start) : Type 0 where
+  synced : H
+  first : MeetsAll h old synced (NowOf h old)
+  unwritten : IsUnwritten h old synced
+  second : MeetsAll h synced new (AfterPrefix start)
 
--- a pair that is kept has a place for its next record
-pub kept_place : (l r : List ℕ) (s : State) (kept : KeptFor l r s) → HasPlace l r (place_of kept.rows.0)
-kept_place l r s kept = (kept.rows.0, (kept.rows.1.0, kept.rows.1.1), refl)
+module _ {F H : Type 0} (f : shelves.Ghosts F) (h : Ghosts H) (asked : List (List ℕ) → Type 0) (now : ℕ) (moment : now ≤ last_moment) (shelf : F) (old : H) (lines : List (List ℕ)) (old_left : h.images old Left (h.reads old Left)) (old_right : h.images old Right (h.reads old Right)) where
+  abbrev from : State → ℕ → ℕ → Start
+  from s place bytes = opened_on f h now shelf old lines s place bytes
 
-module _ {F H : Type 0} (f : shelves.Ghosts F) (h : Ghosts H) (now : ℕ) (moment : now ≤ last_moment) (shelf : F) (old : H) (lines : List (List ℕ)) (old_left : h.images old Left (h.reads old Left)) (old_right : h.images old Right (h.reads old Right)) where
-  abbrev from : State → ℕ → Start
-  from s place = opened_on f h now shelf old lines s place
+  abbrev WasKept : State → Type 0
+  WasKept s = KeptFor (h.reads old Left) (h.reads old Right) s
 
-  values : (s : State) (place : ℕ) → StandsFor (h.reads old Left) (h.reads old Right) s → ServesValues (from s place)
-  values s place stands = serves_values (from s place) moment stands.sound
+  abbrev Stood : State → Type 0
+  Stood s = StandsFor (h.reads old Left) (h.reads old Right) s
 
-  -- at each moment each image is kept for one of the states of the start
-  module _ (new : H) (left : (states : List State) → AllKeptAmong h old states → MeetsAll h old new (IsLeftAmong (h.said old) states)) where
-    start_met : (s : State) (place : ℕ) → AllKept h old s → MeetsAll h old new (AfterPrefix (from s place))
-    start_met s place all =
-        met_weaker h.moment h.might old new _ (AfterPrefix (from s place)) (left (s ∷ []) (among_one h old s all)) (λ l r u met.
-        some_at_start (setting f shelf now) s place lines (h.said old) (from s place).written l r u (⊎_elim (λ kept. kept) (λ none. absurd none) met.0) met.1)
+  stood : (s : State) → WasKept s → Stood s
+  stood s kept = stands_of_kept (h.reads old Left) (h.reads old Right) s kept
 
-    -- no line was done
-    pub ran_unbegun : (answered : RunStatus) → ((states : List State) → AllKeptAmong h old states → AllKeptAmong h new states) → h.said new ≡ h.said old → h.written new ≤ h.written old + repair_cost (h.reads old Left) (h.reads old Right)
-        → MeetsAll h old new (IsBelowMark h old) → ((s : State) → StandsFor (h.reads old Left) (h.reads old Right) s → EndedBefore answered) → (answered ≡ status.Done → ⊥) → Ran h from old new answered
-    ran_unbegun answered stays text most below before not_done = record {
-      crash = start_met;
-      phases = λ states s place all kept. inl (before s (stands_of_kept (h.reads old Left) (h.reads old Right) s kept), left states all);
-      ends = λ states s all kept.
-          let place = place_of kept.rows.0 in
-          (place, kept_place (h.reads old Left) (h.reads old Right) s kept, unbegun_ends h states (from s place) new answered (before s (stands_of_kept (h.reads old Left) (h.reads old Right) s kept)) (stays states all, text, most));
-      done = λ is. absurd (not_done is);
-      values = values;
+  -- ---- the moments, from a state
+
+  module _ (s : State) (place bytes : ℕ) where
+    -- before the first line
+    begun_met : (l r u : List ℕ) → IsLeftAs (h.said old) s l r u → AfterPrefix (from s place bytes) l r u
+    begun_met l r u met = some_at_start (setting f shelf now) s place lines (h.said old) (h.written old + bytes) l r u met.0 met.1
+
+    opening_met : WasKept s → (synced new : H) → MeetsAll h synced new (IsReadOrMigrating h old) → MeetsAll h synced new (AfterPrefix (from s place bytes))
+    opening_met kept synced new run = met_weaker h.moment h.might synced new (IsReadOrMigrating h old) (AfterPrefix (from s place bytes)) run (λ l r u met. begun_met l r u (phase_kept h old s kept l r u met))
+
+    now_met : AllKept h old s → (l r u : List ℕ) → NowOf h old l r u → AfterPrefix (from s place bytes) l r u
+    now_met all l r u met = begun_met l r u (all l r met.0 met.1, met.2)
+
+    module _ (new : H) where
+      -- the run had ended before both sides were synced, or not
+      abbrev Goes : RunStatus → Type 0
+      Goes answered = (EndedBefore answered × MeetsAll h old new (NowOf h old)) ⊎ WentOn h old new (from s place bytes)
+
+      synced_kept : WasKept s → (went : WentOn h old new (from s place bytes)) → AllKept h went.synced s
+      synced_kept kept went l r left right =
+          subst (λ (c : List ℕ). KeptFor c r s) (sym (went.unwritten.durable Left l left ∙ went.unwritten.same Left))
+          (subst (λ (c : List ℕ). KeptFor (h.reads old Left) c s) (sym (went.unwritten.durable Right r right ∙ went.unwritten.same Right)) kept)
+
+      crash_in : (answered : RunStatus) → Goes answered → AllKept h old s → MeetsAll h old new (AfterPrefix (from s place bytes))
+      crash_in answered (inl early) all = met_weaker h.moment h.might old new (NowOf h old) (AfterPrefix (from s place bytes)) early.1 (now_met all)
+      crash_in answered (inr went) all =
+          then_met h.moment h.might old went.synced new (NowOf h old) (AfterPrefix (from s place bytes)) (AfterPrefix (from s place bytes)) went.first went.second (now_met all) (λ l r u met. met)
+
+      module _ (states : List State) (all : AllKeptAmong h old states) where
+        among_met : (mid : H) → MeetsAll h old mid (NowOf h old) → MeetsAll h old mid (IsAmong states (h.said old))
+        among_met mid run = met_weaker h.moment h.might old mid (NowOf h old) (IsAmong states (h.said old)) run (λ l r u met. (all l r met.0 met.1, met.2))
+
+        phases_in : (answered : RunStatus) → Goes answered → WasKept s → InPhases h states (from s place bytes) old new answered
+        phases_in answered (inl early) kept = inl (early.0, among_met new early.1)
+        phases_in answered (inr went) kept =
+            inr (record { synced = went.synced; opening = among_met went.synced went.first; unwritten = went.unwritten; kept = synced_kept kept went; lines = went.second })
+
+        links_in : (answered : RunStatus) → Goes answered → WasKept s → MeetsAll h old new (IsLinked h old (from s place bytes))
+        links_in answered (inl early) kept =
+            met_weaker h.moment h.might old new (NowOf h old) (IsLinked h old (from s place bytes)) early.1 (linked_now h old (from s place bytes) refl states all)
+        links_in answered (inr went) kept =
+            then_met h.moment h.might old went.synced new (NowOf h old) (AfterPrefix (from s place bytes)) (IsLinked h old (from s place bytes)) went.first went.second
+            (linked_now h old (from s place bytes) refl states all) (linked_from h old (from s place bytes) old_left old_right kept)
+
+  -- ---- the run
+
+  -- how it ended
+  abbrev Ends : H → RunStatus → Type 0
+  Ends new answered = (states : List State) (s : State) → AllKeptAmong h old states → WasKept s → (place bytes : ℕ) × OpensWith (h.reads old Left) (h.reads old Right) s place bytes × RunEnds h asked states (from s place bytes) new answered
+
+  -- what it did without a crash
+  abbrev Did : H → RunStatus → Type 0
+  Did new answered = answered ≡ status.Done → (s : State) → Stood s → (place bytes : ℕ) × OpensWith (h.reads old Left) (h.reads old Right) s place bytes × StandsAfter h (from s place bytes) old new
+
+  module _ (new : H) (answered : RunStatus) where
+    ran : ((s : State) (place bytes : ℕ) → WasKept s → Goes s place bytes new answered) → Ends new answered → Did new answered → MeetsAll h old new (IsBelowMark h old) → Ran h asked from old new answered
+    ran goes ends done below = record {
+      crash = λ s place bytes all. crash_in s place bytes new answered (goes s place bytes (all (h.reads old Left) (h.reads old Right) old_left old_right)) all;
+      phases = λ states s place bytes all kept. phases_in s place bytes new states all answered (goes s place bytes kept) kept;
+      ends = ends;
+      links = λ states s place bytes all kept. links_in s place bytes new states all answered (goes s place bytes kept) kept;
+      next = λ states all.
+          let one = the_one (h.reads old Left) (h.reads old Right) states (all (h.reads old Left) (h.reads old Right) old_left old_right) in
+          let ended = ends states one.0 all one.1 in
+          next_of h asked states (from one.0 ended.0 ended.1) new answered ended.3;
+      next_one = λ s all other.
+          let ended = ends (s ∷ []) s (among_one h old s all) (all (h.reads old Left) (h.reads old Right) old_left old_right) in
+          next_one_of h asked s (from s ended.0 ended.1) new answered ended.3 other;
+      done = done;
+      values = λ s place bytes stands. serves_values (from s place bytes) moment stands.sound;
       below = below;
     }
 
-  -- the store was opened, and lines were done from its state t, where there was a byte at the gate if `gated` holds
-  module _ (mid new : H) (repair : MeetsAll h old mid (IsOpening h old)) (left : (states : List State) → AllKeptAmong h old states → MeetsAll h old mid (IsLeftAmong (h.said old) states)) (settled : IsSettled h mid) (t : State) (known : (s : State) → StandsFor (h.reads old Left) (h.reads old Right) s → t ≡ s)
-      (text : h.said mid ≡ h.said old) (cost : h.written mid ≡ h.written old + repair_cost (h.reads old Left) (h.reads old Right)) (gated : Type 0) (gate : (s : State) → KeptFor (h.reads old Left) (h.reads old Right) s → gated) (kept_there : gated → AllKept h mid t)
-      (place : ℕ) (placed : HasPlace (h.reads old Left) (h.reads old Right) place) (those : List (List ℕ)) (lines_are : those ≡ lines) (result : Result (Unit {0}) RunFault) (ran : LinesRan h gated (start_on f h now shelf mid those t place) mid new result) where
+  -- no line was done
+  module _ (new : H) (answered : RunStatus) (early : (EndedBefore answered × MeetsAll h old new (NowOf h old)) ⊎ OpensInTwoPhases h old new) (before : (s : State) → Stood s → EndedBefore answered) where
+    unbegun_goes : (s : State) (place bytes : ℕ) → WasKept s → Goes s place bytes new answered
+    unbegun_goes s place bytes kept = elim early [
+      | inl unsynced ↦ inl unsynced
+      | inr two ↦ inr (record {
+        synced = two.synced;
+        first = two.first;
+        unwritten = two.unwritten;
+        second = opening_met s place bytes kept two.synced new two.second;
+      })
+    ]
+
+    pub ran_unbegun : ((states : List State) → AllKeptAmong h old states → AllKeptAmong h new states) → h.said new ≡ h.said old
+        → ((s : State) (place bytes : ℕ) → OpensWith (h.reads old Left) (h.reads old Right) s place bytes → h.written new ≤ h.written old + bytes)
+        → MeetsAll h old new (IsBelowMark h old) → (answered ≡ status.Done → ⊥) → Ran h asked from old new answered
+    ran_unbegun stays text most below not_done =
+        ran new answered unbegun_goes
+        (λ states s all kept.
+        let opened = opens_somehow (h.reads old Left) (h.reads old Right) s (stood s kept) in
+        (opened.0, opened.1, opened.2, unbegun_ends h asked states (from s opened.0 opened.1) new answered (before s (stood s kept)) (stays states all, text, most s opened.0 opened.1 opened.2)))
+        (λ is. absurd (not_done is)) below
+
+  -- the store was not reached
+  pub ran_unreached : (answered : RunStatus) → ((l r u : List ℕ) → h.might old (h.moment old) l r u → NowOf h old l r u) → EndedBefore answered → (answered ≡ status.Done → ⊥) → Ran h asked from old old answered
+  ran_unreached answered only early not_done =
+      let none = started h.moment h.might old (NowOf h old) only in
+      ran_unbegun old answered (inl (early, none)) (λ s stands. early) (λ states all. all) refl (λ s place bytes opens. omega arith)
+      (below_unwritten h old only) not_done
+
+  -- the store was opened, and lines were done from its client's state
+  module _ (mid new : H) (client : Client) (phases : OpensInPhases {T = Client} h old mid (Ok client)) (opened : IsOpened h client old mid) (text : h.said mid ≡ h.said old)
+      (those : List (List ℕ)) (lines_are : those ≡ lines) (result : Result (Unit {0}) RunFault) (lines_ran : LinesRan h asked (HasGateOn h client mid) (start_on f h now shelf mid those (state_of client) (end_of client)) mid new result) where
+    two : OpensInTwoPhases h old mid
+    two = opened_in h old mid client phases
+
+    abbrev place : ℕ
+    place = end_of client
+
+    abbrev bytes : ℕ
+    bytes = opened.bytes
+
     -- they begin as those of the run
-    ran_from : (s : State) → StandsFor (h.reads old Left) (h.reads old Right) s → LinesRan h gated (from s place) mid new result
+    ran_from : (s : State) → Stood s → LinesRan h asked (HasGateOn h client mid) (from s place bytes) mid new result
     ran_from s stands =
-        subst (λ (start : Start). LinesRan h gated start mid new result) (same_start (setting f shelf now) s t place those lines (h.said old) (h.said mid) (from s place).written (h.written mid) (known s stands) lines_are text cost) ran
+        subst (λ (start : Start). LinesRan h asked (HasGateOn h client mid) start mid new result)
+        (same_start (setting f shelf now) s (state_of client) place those lines (h.said old) (h.said mid) (h.written old + bytes) (h.written mid) (opened.known s stands) lines_are text opened.written) lines_ran
 
-    any_place : (s : State) (other : ℕ) → MeetsAll h mid new (AfterPrefix (from s place)) → MeetsAll h mid new (AfterPrefix (from s other))
-    any_place s other run = met_weaker h.moment h.might mid new _ (AfterPrefix (from s other)) run (elsewhere (setting f shelf now) s lines (h.said old) place (from s place).written other (from s other).written)
+    opens_for : (s : State) → Stood s → OpensWith (h.reads old Left) (h.reads old Right) s place bytes
+    opens_for s stands = subst (λ (x : State). OpensWith (h.reads old Left) (h.reads old Right) x place bytes) (opened.known s stands) opened.opens
 
-    crash : (s : State) (other : ℕ) → AllKept h old s → MeetsAll h old new (AfterPrefix (from s other))
-    crash s other all =
-        let stands = stands_of_kept (h.reads old Left) (h.reads old Right) s (all (h.reads old Left) (h.reads old Right) old_left old_right) in
-        let lines_met = any_place s other ((ran_from s stands).moments (gate s (all (h.reads old Left) (h.reads old Right) old_left old_right))) in
-        then_met h.moment h.might old mid new (AfterPrefix (from s other)) (AfterPrefix (from s other)) (AfterPrefix (from s other)) (start_met mid left s other all) lines_met (λ l r u met. met) (λ l r u met. met)
+    opened_goes : (s : State) (other count : ℕ) → WasKept s → Goes s other count new (of_lines result)
+    opened_goes s other count kept =
+        let lines_met = met_weaker h.moment h.might mid new (AfterPrefix (from s place bytes)) (AfterPrefix (from s other count)) ((ran_from s (stood s kept)).moments (opened.gate s kept))
+        (elsewhere (setting f shelf now) s lines (h.said old) place (h.written old + bytes) other (h.written old + count)) in
+        inr (record {
+          synced = two.synced;
+          first = two.first;
+          unwritten = two.unwritten;
+          second = then_met h.moment h.might two.synced mid new (AfterPrefix (from s other count)) (AfterPrefix (from s other count)) (AfterPrefix (from s other count)) (opening_met s other count kept two.synced mid two.second) lines_met (λ l r u met. met) (λ l r u met. met);
+        })
 
-    stands_after : (done : Result (Unit {0}) RunFault) → of_lines done ≡ status.Done → h.images new Left (h.reads new Left) → h.images new Right (h.reads new Right) → (s : State) → LinesRan h gated (from s place) mid new done → StandsAfter h (from s place) old new
-    stands_after (Ok all) is new_left new_right s lines_ran = record {
-      reads = lines_ran.images (h.reads new Left) (h.reads new Right) new_left new_right;
-      images = lines_ran.images;
-      text = lines_ran.text;
-      cost = lines_ran.cost;
+    stands_after : (done : Result (Unit {0}) RunFault) → of_lines done ≡ status.Done → h.images new Left (h.reads new Left) → h.images new Right (h.reads new Right) → (s : State) → LinesRan h asked (HasGateOn h client mid) (from s place bytes) mid new done
+        → StandsAfter h (from s place bytes) old new
+    stands_after (Ok all) is new_left new_right s line_facts = record {
+      reads = line_facts.images (h.reads new Left) (h.reads new Right) new_left new_right;
+      images = line_facts.images;
+      text = line_facts.text;
+      cost = line_facts.cost;
       kept = λ where_kept.
-          let kept = lines_ran.kept (⊎_elim (λ before. inl (gate s before)) (λ changes. inr changes) where_kept) in
+          let kept = line_facts.kept (elim where_kept [
+            | inl before ↦ inl (opened.gate s before)
+            | inr (inl migrated) ↦ inl (opened.gate_made s migrated.0 migrated.1)
+            | inr (inr changes) ↦ inr changes
+          ]) in
           (kept (h.reads new Left) (h.reads new Right) new_left new_right, kept);
     }
-    stands_after (Err fault) is new_left new_right s lines_ran = absurd (never_done fault is)
+    stands_after (Err fault) is new_left new_right s line_facts = absurd (never_done fault is)
 
     pub ran_opened : h.images new Left (h.reads new Left) → h.images new Right (h.reads new Right) → MeetsAll h old mid (IsBelowMark h old) → ((l r : List ℕ) → h.images mid Left l → h.images mid Right r → IsBelowMark h old l r (h.said mid))
-        → h.images mid Left (h.reads mid Left) → h.images mid Right (h.reads mid Right) → Ran h from old new (of_lines result)
-    ran_opened new_left new_right below now_below mid_left mid_right = record {
-      crash = crash;
-      phases = λ states s other all kept.
-          let stands = stands_of_kept (h.reads old Left) (h.reads old Right) s kept in
-          inr (record {
-            synced = mid;
-            opening = left states all;
-            repair = repair;
-            cost = cost;
-            settled = settled;
-            kept = subst (AllKept h mid) (known s stands) (kept_there (gate s kept));
-            lines = any_place s other ((ran_from s stands).moments (gate s kept));
-          });
-      ends = λ states s all kept. (place, placed, lines_end h states (from s place) new result ((ran_from s (stands_of_kept (h.reads old Left) (h.reads old Right) s kept)).ends (gate s kept)));
-      done = λ is s stands. (place, placed, stands_after result is new_left new_right s (ran_from s stands));
-      values = values;
-      below = below_then h old mid new mid_left mid_right below now_below ran.below;
-    }
+        → h.images mid Left (h.reads mid Left) → h.images mid Right (h.reads mid Right) → Ran h asked from old new (of_lines result)
+    ran_opened new_left new_right below now_below mid_left mid_right =
+        ran new (of_lines result) opened_goes
+        (λ states s all kept. (place, bytes, opens_for s (stood s kept), lines_end h asked states (from s place bytes) new result ((ran_from s (stood s kept)).ends (opened.gate s kept))))
+        (λ is s stands. (place, bytes, opens_for s stands, stands_after result is new_left new_right s (ran_from s stands)))
+        (below_then h old mid new mid_left mid_right below now_below lines_ran.below)

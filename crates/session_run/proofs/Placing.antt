@@ -6,7 +6,7 @@ use Rattle.std.proofs.lemmas.Option.{slice_get-get_or}
 use Rattle.std.proofs.Math.ListN.{get_or-map}
 use Rattle.client_core.specs.Places.{place_after, bytes_for}
 use Rattle.client_core.specs.Settings.{Setting}
-use Rattle.client_words.specs.Commands.{part_at}
+use Rattle.client_words.specs.Commands.{bytes_at}
 use Rattle.session_run.specs.Steps.{RunState, run_after, all_after}
 use Rattle.session_run.specs.Places.{all_places, all_bytes}
 
@@ -24,18 +24,18 @@ all_bytes-push at place run (first ∷ lines) line =
     omega (arith, all_bytes-push at there next lines line)
 
 -- the line at a span of a script
-module _ (script : List ℕ) (spans : List (ℕ × ℕ)) (i : ℕ) (span : ℕ × ℕ) (line : List ℕ) (within : i < length spans) (is : line ≡ part_at script (get_or spans i span)) where
-  pub line_within : i < length (map (part_at script) spans)
-  line_within = omega (arith, within, length-map spans (part_at script))
+module _ (script : List ℕ) (spans : List (ℕ × ℕ)) (i : ℕ) (span : ℕ × ℕ) (line : List ℕ) (within : i < length spans) (is : line ≡ bytes_at script (get_or spans i span)) where
+  pub line_within : i < length (map (bytes_at script) spans)
+  line_within = omega (arith, within, length-map spans (bytes_at script))
 
-  line_is : get_or (map (part_at script) spans) i (part_at script span) ≡ line
-  line_is = get_or-map (part_at script) spans i span ∙ sym is
+  line_is : get_or (map (bytes_at script) spans) i (bytes_at script span) ≡ line
+  line_is = get_or-map (bytes_at script) spans i span ∙ sym is
 
-  pub line_more : take (i + 1) (map (part_at script) spans) ≡ take i (map (part_at script) spans) ++ line ∷ []
-  line_more = take_more (map (part_at script) spans) i (part_at script span) line_within ∙ ap (λ (l : List ℕ). take i (map (part_at script) spans) ++ l ∷ []) line_is
+  pub line_more : take (i + 1) (map (bytes_at script) spans) ≡ take i (map (bytes_at script) spans) ++ line ∷ []
+  line_more = take_more (map (bytes_at script) spans) i (bytes_at script span) line_within ∙ ap (λ (l : List ℕ). take i (map (bytes_at script) spans) ++ l ∷ []) line_is
 
-  pub line_at : slice_get (map (part_at script) spans) i ≡ Some line
-  line_at = slice_get-get_or (map (part_at script) spans) i (part_at script span) line_within ∙ ap Some line_is
+  pub line_at : slice_get (map (bytes_at script) spans) i ≡ Some line
+  line_at = slice_get-get_or (map (bytes_at script) spans) i (bytes_at script span) line_within ∙ ap Some line_is
 
 -- a line that is there
 pub at_within : (lines : List (List ℕ)) (k : ℕ) (line : List ℕ) → slice_get lines k ≡ Some line → k < length lines

@@ -49,7 +49,7 @@ value_in (Value tree) text is = record { tree = tree; is_value = refl; spelled =
 value_in Okay text is = apart 111 (omega arith) (ap first is)
 value_in (Fetched kept skipped) text is = apart 102 (omega arith) (ap first is)
 value_in (Applied enrolled rows) text is = apart 97 (omega arith) (ap first is)
-value_in (Shown id participating pending opted_out rows) text is = apart 105 (omega arith) (ap first is)
+value_in (Shown id experiments rollouts pending opted_out rows) text is = apart 105 (omega arith) (ap first is)
 value_in refusal text is = apart 114 (omega arith) (ap first is)
 
 -- the line has a command that is answered a value

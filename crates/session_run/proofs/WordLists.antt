@@ -1,5 +1,5 @@
 -- Lists of one word and of two, and when a list of words has no form.
-use Rattle.std.proofs.Common.{◌≡◌, ℕ, ◌<◌, ◌≤◌, List, [], ◌∷◌, length, map, get_or, Some, ap, subst, sym, ◌∙◌, arith, inl, inr}
+use Rattle.std.proofs.Common.{◌≡◌, ◌⊎◌, ℕ, ◌<◌, ◌≤◌, List, [], ◌∷◌, length, map, get_or, Some, ap, subst, sym, ◌∙◌, arith, inl, inr}
 use Rattle.std.specs.Prelude.{◌^◌, codes, decimal}
 use Rattle.std.proofs.lemmas.Fmt.{decimal_injective}
 use Rattle.uuid.specs.Text.{parsed}
@@ -85,3 +85,8 @@ one_id words id other (text, init, reads) (that, again, reads_again) =
     let same : text ≡ that = grind (arith, init, again) in
     let both : Some id ≡ Some other = sym reads ∙ ap parsed same ∙ reads_again in
     grind (arith, both)
+
+-- a run makes no store
+pub run_makes_none : (words : List (List ℕ)) → IsRun words → IsInit words ⊎ IsDrill words → ⊥
+run_makes_none words run (inl making) = not_both words making.0 run making.1
+run_makes_none words run (inr drill) = run_not_drill words run drill

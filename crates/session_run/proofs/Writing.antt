@@ -1,5 +1,5 @@
 -- No byte at or past the mark is written, call after call.
-use Rattle.std.proofs.Common.{ℕ, List, refl, ◌∙◌}
+use Rattle.std.proofs.Common.{◌≤◌, inl, ℕ, List, refl, ◌∙◌, arith}
 use Rattle.host_model.specs.declared.side.Side.{Side}
 use Rattle.host_model.specs.declared.side.Side.TheVariants.{Left, Right}
 use Rattle.host_model.specs.declared.host.Host.{Ghosts}
@@ -8,8 +8,13 @@ use Rattle.host_model.specs.Moments.{IsSaying, Elapses, KeepsSide}
 use Rattle.host_model.specs.Sides.{on}
 use Rattle.host_model.proofs.Meeting.{started, goes_on, then_met, met_weaker}
 use Rattle.pair_store.specs.declared.mark.TheConstants.{MARK}
-use Rattle.pair_store.specs.Moments.{SameBehind, StaysBelow}
-use Rattle.session_run.specs.Writes.{IsBelowMark}
+use Rattle.pair_store.specs.Moments.{IsOpening, SameBehind, StaysBelow}
+use Rattle.session_run.specs.Writes.{IsBelowMark, WritesNoMore}
+
+-- what stands at the end of a run is met then
+pub met_now : {H : Type 0} (h : Ghosts H) (old new : H) (P : List ℕ → List ℕ → List ℕ → Type 0) → MeetsAll h old new P → ((t : ℕ) (l r u : List ℕ) → h.tells → t ≤ h.moment new → NowOf h new l r u → h.might new t l r u) → h.tells
+    → (l r : List ℕ) → h.images new Left l → h.images new Right r → P l r (h.said new)
+met_now h old new P run counts tells l r left right = run.each l r (h.said new) (counts (h.moment old) l r (h.said new) tells run.later (left, right, refl))
 
 module _ {H : Type 0} (h : Ghosts H) (old mid new : H) where
   -- of what is so at mid, each image is one of the start behind the mark
@@ -55,3 +60,11 @@ module _ {H : Type 0} (h : Ghosts H) (mid new : H) where
       goes_on h.moment h.might mid mid new (IsBelowMark h mid) _
       (started h.moment h.might mid (IsBelowMark h mid) (λ l r u met. let now = only l r u tells met in at_each h mid mid l r now.0 now.1)) time
       (λ l r u saying. at_each h mid mid l r (((still Left).images_same l).0 saying.0) (((still Right).images_same r).0 saying.1))
+
+-- nothing is written
+module _ {H : Type 0} (h : Ghosts H) (old : H) (only : (l r u : List ℕ) → h.might old (h.moment old) l r u → NowOf h old l r u) where
+  pub below_unwritten : MeetsAll h old old (IsBelowMark h old)
+  below_unwritten = started h.moment h.might old (IsBelowMark h old) (λ l r u met. let now = only l r u met in at_each h old old l r now.0 now.1)
+
+  pub no_more : WritesNoMore h old old
+  no_more = record { moments = started h.moment h.might old (IsOpening h old) (λ l r u met. inl (only l r u met)); text = refl; most = omega arith }

@@ -1,10 +1,14 @@
 -- Runs, each started on what the one before left.
 use Rattle.std.specs.Prelude.{◌≡◌, ◌⊎◌, ℕ, ◌≤◌, ◌<◌, List, [], ◌∷◌, Some, IsTrue, length, slice_get}
+use Rattle.host_model.specs.declared.side.Side.TheVariants.{Left, Right}
+use Rattle.host_model.specs.declared.host.Host.{Ghosts}
 use Rattle.enrol_states.specs.Order.{is_in}
 use Rattle.enrol_states.specs.declared.state.State.{State}
 use Rattle.client_core.specs.Settings.{Setting}
 use Rattle.client_core.specs.Store.{KeptFor}
+use Rattle.session_run.specs.Moments.{AfterPrefix}
 use Rattle.session_run.specs.OptOuts.{LineBringsBack, IsHeldOut}
+use Rattle.session_run.specs.Starts.{Start}
 use Rattle.session_run.specs.Steps.{run_at, after}
 
 -- a run's setting and its lines, how many of them count, and the pair of images that it left
@@ -30,6 +34,20 @@ pub record Leads (l r : List ℕ) (link : Link) : Type 0 where
 abbrev pub IsChain : List ℕ → List ℕ → List Link → Type 0
 IsChain l r [] = Unit {0}
 IsChain l r (link ∷ links) = Leads l r link × IsChain link.l link.r links
+
+-- what may be met in a run that begins so is a link of a chain, from each pair that is kept for the state of its start
+abbrev pub MomentsAreLinks : Type 0
+MomentsAreLinks = (start : Start) (old_l old_r l r u : List ℕ) → KeptFor old_l old_r start.state → (met : AfterPrefix start l r u) → Leads old_l old_r (record { at = start.at; lines = start.lines; k = met.k; l = l; r = r })
+
+-- it may be met in a run of these lines, from the state for which an image of the start was kept
+pub record IsLinked {H : Type 0} (h : Ghosts H) (old : H) (start : Start) (l r u : List ℕ) : Type 0 where
+  pub old_l : List ℕ
+  pub old_r : List ℕ
+  pub left : h.images old Left old_l
+  pub right : h.images old Right old_r
+  pub s : State
+  pub from : KeptFor old_l old_r s
+  pub met : AfterPrefix (record start { state = s }) l r u
 
 -- the last pair is kept for s
 abbrev pub EndsKept : List ℕ → List ℕ → List Link → State → Type 0

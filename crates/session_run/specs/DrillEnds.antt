@@ -12,7 +12,7 @@ use Rattle.client_core.specs.Places.{making_bytes}
 use Rattle.session_run.specs.declared.status.RunStatus.{RunStatus}
 use Rattle.session_run.specs.declared.status.RunStatus.TheVariants.{Done, Usage, ScriptTooLong, NoStore, AlreadyStore, BadStore, SourceFault, ShelfFault, DiskFault, SayFault, OutOfMemory}
 use Rattle.session_run.specs.Drills.{drill_fresh, drill_ready, drill_start, drill_summary, DuringDrill}
-use Rattle.session_run.specs.Ends.{EndsWhole, EndsInAnswer, RunEnds}
+use Rattle.session_run.specs.Ends.{EndsWhole, EndsBefore, EndsWithin, EndsInAnswer, StaysAmong}
 use Rattle.session_run.specs.Making.{EndsInReady}
 use Rattle.session_run.specs.Runs.{ServesValues}
 use Rattle.session_run.specs.Starts.{Start, line_count, last_state, answers, written_at}
@@ -48,8 +48,8 @@ SummaryEnds said summary u BadStore = ⊥
 -- what follows `ready`: the lines from the new store's state, and the summary
 abbrev pub ScriptEnds : {H : Type 0} → Ghosts H → Start → List ℕ → H → RunStatus → Type 0
 ScriptEnds h start summary host Done = EndsSummed h start summary host
-ScriptEnds h start summary host OutOfMemory = RunEnds h (start.state ∷ []) start host OutOfMemory ⊎ EndsWhole h start host
-ScriptEnds h start summary host DiskFault = RunEnds h (start.state ∷ []) start host DiskFault
+ScriptEnds h start summary host OutOfMemory = EndsBefore h start host ⊎ StaysAmong h (start.state ∷ []) start host ⊎ EndsWhole h start host
+ScriptEnds h start summary host DiskFault = EndsWithin h start host ⊎ StaysAmong h (start.state ∷ []) start host
 ScriptEnds h start summary host SayFault = EndsInAnswer h start host ⊎ EndsInSummary h start summary host
 ScriptEnds h start summary host ShelfFault = ⊥
 ScriptEnds h start summary host ScriptTooLong = ⊥

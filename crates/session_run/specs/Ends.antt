@@ -32,12 +32,13 @@ pub record EndsBefore {H : Type 0} (h : Ghosts H) (start : Start) (host : H) : T
   pub text : h.said host ≡ start.said ++ answers start k
   pub most : h.written host ≤ written_at start (k + 1)
 
--- and the next one names a file
-pub record EndsAtFile {H : Type 0} (h : Ghosts H) (start : Start) (host : H) : Type 0 where
+-- and the next one names a file. The shelf was asked for nothing but what the lines up to it ask for
+pub record EndsAtFile {H : Type 0} (h : Ghosts H) (asked : List (List ℕ) → Type 0) (start : Start) (host : H) : Type 0 where
   pub before : EndsBefore h start host
   pub line : List ℕ
   pub is_next : slice_get start.lines before.k ≡ Some line
   pub names : NamesFile line
+  pub none_after : asked (take (before.k + 1) start.lines)
 
 -- the first k lines are done and answered. The next one is done or not, and it is not answered
 pub record EndsWithin {H : Type 0} (h : Ghosts H) (start : Start) (host : H) : Type 0 where
@@ -58,27 +59,28 @@ pub record EndsInAnswer {H : Type 0} (h : Ghosts H) (start : Start) (host : H) :
   pub text : h.said host ≡ start.said ++ answers start k ++ part
   pub most : h.written host ≤ written_at start (k + 1)
 
-abbrev pub LinesEnd : {H T : Type 0} → Ghosts H → Start → H → Result T RunFault → Type 0
-LinesEnd h start host (Ok done) = EndsWhole h start host
-LinesEnd h start host (Err run.ShelfFault) = EndsAtFile h start host
-LinesEnd h start host (Err run.OutOfMemory) = EndsBefore h start host
-LinesEnd h start host (Err run.DiskFault) = EndsWithin h start host
-LinesEnd h start host (Err run.SayFault) = EndsInAnswer h start host
+-- lines, over a shelf of which `asked` tells whether it was asked for nothing but what some lines ask for
+abbrev pub LinesEnd : {H T : Type 0} → Ghosts H → (List (List ℕ) → Type 0) → Start → H → Result T RunFault → Type 0
+LinesEnd h asked start host (Ok done) = EndsWhole h start host
+LinesEnd h asked start host (Err run.ShelfFault) = EndsAtFile h asked start host
+LinesEnd h asked start host (Err run.OutOfMemory) = EndsBefore h start host
+LinesEnd h asked start host (Err run.DiskFault) = EndsWithin h start host
+LinesEnd h asked start host (Err run.SayFault) = EndsInAnswer h start host
 
 -- no line is done: each image is still kept for one of these states, and nothing is said
 abbrev pub StaysAmong : {H : Type 0} → Ghosts H → List State → Start → H → Type 0
 StaysAmong h states start host = AllKeptAmong h host states × (h.said host ≡ start.said) × (h.written host ≤ start.written)
 
 -- a run from a state, which was one of these
-abbrev pub RunEnds : {H : Type 0} → Ghosts H → List State → Start → H → RunStatus → Type 0
-RunEnds h states start host Done = EndsWhole h start host
-RunEnds h states start host ShelfFault = EndsAtFile h start host
-RunEnds h states start host OutOfMemory = EndsBefore h start host ⊎ StaysAmong h states start host
-RunEnds h states start host DiskFault = EndsWithin h start host ⊎ StaysAmong h states start host
-RunEnds h states start host SayFault = EndsInAnswer h start host
-RunEnds h states start host ScriptTooLong = StaysAmong h states start host
-RunEnds h states start host SourceFault = StaysAmong h states start host
-RunEnds h states start host Usage = ⊥
-RunEnds h states start host NoStore = ⊥
-RunEnds h states start host AlreadyStore = ⊥
-RunEnds h states start host BadStore = ⊥
+abbrev pub RunEnds : {H : Type 0} → Ghosts H → (List (List ℕ) → Type 0) → List State → Start → H → RunStatus → Type 0
+RunEnds h asked states start host Done = EndsWhole h start host
+RunEnds h asked states start host ShelfFault = EndsAtFile h asked start host
+RunEnds h asked states start host OutOfMemory = EndsBefore h start host ⊎ StaysAmong h states start host
+RunEnds h asked states start host DiskFault = EndsWithin h start host ⊎ StaysAmong h states start host
+RunEnds h asked states start host SayFault = EndsInAnswer h start host
+RunEnds h asked states start host ScriptTooLong = StaysAmong h states start host
+RunEnds h asked states start host SourceFault = StaysAmong h states start host
+RunEnds h asked states start host Usage = ⊥
+RunEnds h asked states start host NoStore = ⊥
+RunEnds h asked states start host AlreadyStore = ⊥
+RunEnds h asked states start host BadStore = ⊥

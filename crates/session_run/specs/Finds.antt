@@ -2,6 +2,7 @@
 use Rattle.std.specs.Prelude.{◌≡◌, ◌⊎◌, ℕ, List}
 use Rattle.host_model.specs.declared.side.Side.TheVariants.{Left, Right}
 use Rattle.host_model.specs.declared.host.Host.{Ghosts}
+use Rattle.pair_store.specs.Repair.{IsUnwritten, IsLeftByOpening}
 use Rattle.enrol_states.specs.declared.state.State.{State}
 use Rattle.client_core.specs.Store.{StandsFor, IsStore, IsAbsent, IsBad}
 use Rattle.session_run.specs.declared.status.RunStatus.{RunStatus}
@@ -50,14 +51,28 @@ pub record MakingJudges (l r : List ℕ) (status : RunStatus) : Type 0 where
   pub already_store : IsStore l r → (status ≡ AlreadyStore) ⊎ EndedBefore status
   pub bad_store : IsBad l r → (status ≡ BadStore) ⊎ EndedBefore status
 
+-- what a run leaves that opened no store: where there is none, nothing was written, and each image is what reads give. A damaged one is as reads gave it, but for the byte that an opening writes
+abbrev pub RunLeaves : {H : Type 0} → Ghosts H → H → H → RunStatus → Type 0
+RunLeaves h old new NoStore = IsUnwritten h old new
+RunLeaves h old new BadStore = IsLeftByOpening h old new
+RunLeaves h old new status = Unit {0}
+
+-- what the making of a store leaves, and so a drill, where there is one or a damaged one
+abbrev pub MakingLeaves : {H : Type 0} → Ghosts H → H → H → RunStatus → Type 0
+MakingLeaves h old new AlreadyStore = IsLeftByOpening h old new
+MakingLeaves h old new BadStore = IsLeftByOpening h old new
+MakingLeaves h old new status = Unit {0}
+
 -- what a run found in what reads gave. It says something, or writes more than the byte of an opening, only where that stands for a state
 pub record RunFound {H : Type 0} (h : Ghosts H) (old new : H) (status : RunStatus) : Type 0 where
   pub finds : RunFinds (h.reads old Left) (h.reads old Right) status
   pub judges : RunJudges (h.reads old Left) (h.reads old Right) status
+  pub leaves : RunLeaves h old new status
   pub quiet : ((s : State) → StandsFor (h.reads old Left) (h.reads old Right) s → ⊥) → WritesNoMore h old new
 
 -- what the making of a store found, and so a drill. It says something, or writes more than the byte of an opening, only where neither side was open
 pub record MakingFound {H : Type 0} (h : Ghosts H) (old new : H) (status : RunStatus) : Type 0 where
   pub finds : MakingFinds (h.reads old Left) (h.reads old Right) status
   pub judges : MakingJudges (h.reads old Left) (h.reads old Right) status
+  pub leaves : MakingLeaves h old new status
   pub quiet : (IsAbsent (h.reads old Left) (h.reads old Right) → ⊥) → WritesNoMore h old new

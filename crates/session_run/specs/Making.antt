@@ -3,8 +3,10 @@ use Rattle.std.specs.Prelude.{◌≡◌, ◌⊎◌, ◌≤◌, ◌+◌, ℕ, Lis
 use Rattle.host_model.specs.declared.side.Side.TheVariants.{Left, Right}
 use Rattle.host_model.specs.declared.host.Host.{Ghosts}
 use Rattle.host_model.specs.Hosts.{MeetsAll}
+use Rattle.row_store.specs.Rows.{HasRows}
 use Rattle.enrol_states.specs.declared.state.State.{State}
 use Rattle.enrol_states.specs.State.{fresh}
+use Rattle.state_codec.specs.Spelling.{rows_of}
 use Rattle.client_core.specs.Moments.{IsLeftAmong}
 use Rattle.client_core.specs.OpenStore.{AllKept, AllKeptAmong}
 use Rattle.client_core.specs.Places.{making_bytes}
@@ -52,6 +54,8 @@ pub record Made {H : Type 0} (h : Ghosts H) (id : List ℕ) (now : ℕ) (old new
   pub left : (states : List State) → AllKeptAmong h old states → MeetsAll h old new (IsLeftAmong (h.said old) states)
   -- where memory is wanting, nothing is said, and no byte is written but that of an opening
   pub memory : status ≡ OutOfMemory → WritesNoMore h old new
+  -- the rows of a store that is made are spelled, and in no older form
+  pub spelled : status ≡ Done → HasRows (h.reads new Left) (h.reads new Right) (rows_of (fresh id now))
   -- a store that is made takes exactly its bytes, and any other end takes no more
   pub cost : status ≡ Done → h.written new ≡ h.written old + making_bytes (fresh id now)
   pub most : IsAbsent (h.reads old Left) (h.reads old Right) → h.written new ≤ h.written old + making_bytes (fresh id now)

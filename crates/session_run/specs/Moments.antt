@@ -3,9 +3,9 @@ use Rattle.std.specs.Prelude.{◌≡◌, ◌⊎◌, ◌<◌, ◌≤◌, ◌-◌,
 use Rattle.host_model.specs.declared.host.Host.{Ghosts}
 use Rattle.host_model.specs.Hosts.{MeetsAll}
 use Rattle.enrol_states.specs.declared.state.State.{State}
-use Rattle.pair_store.specs.Moments.{IsOpening}
+use Rattle.pair_store.specs.Repair.{IsUnwritten}
 use Rattle.client_core.specs.Moments.{WhileWritten}
-use Rattle.client_core.specs.OpenStore.{AllKept, IsSettled}
+use Rattle.client_core.specs.OpenStore.{AllKept}
 use Rattle.client_core.specs.Store.{KeptFor, KeptAmong}
 use Rattle.session_run.specs.declared.status.RunStatus.{RunStatus}
 use Rattle.session_run.specs.Finds.{EndedBefore}
@@ -32,13 +32,11 @@ pub record AfterPrefix (start : Start) (l r u : List ℕ) : Type 0 where
 abbrev pub IsAmong : List State → List ℕ → List ℕ → List ℕ → List ℕ → Type 0
 IsAmong states said l r u = KeptAmong l r states × (u ≡ said)
 
--- two phases, with a host between them: until both sides are synced each image is kept for one of these states, nothing is said, and no byte is written but the one where both sides were open. Then each image is what reads give, and the lines are done
+-- two phases, with a host between them: until both sides are synced each image is kept for one of these states, nothing is said, and nothing is written. Then each image is what reads give, the opening writes what it must, and the lines are done
 pub record InTwoPhases {H : Type 0} (h : Ghosts H) (states : List State) (start : Start) (old new : H) : Type 0 where
   pub synced : H
   pub opening : MeetsAll h old synced (IsAmong states start.said)
-  pub repair : MeetsAll h old synced (IsOpening h old)
-  pub cost : h.written synced ≡ start.written
-  pub settled : IsSettled h synced
+  pub unwritten : IsUnwritten h old synced
   pub kept : AllKept h synced start.state
   pub lines : MeetsAll h synced new (AfterPrefix start)
 

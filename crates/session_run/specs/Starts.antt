@@ -1,9 +1,7 @@
 -- What the lines of a run begin with, and what is known after the first of them.
 use Rattle.std.specs.Prelude.{◌≢◌, ◌+◌, ◌<◌, ℕ, List, length, take}
-use Rattle.host_model.specs.declared.side.Side.TheVariants.{Left, Right}
 use Rattle.host_model.specs.declared.host.Host.{Ghosts}
 use Rattle.host_model.specs.declared.shelf.Shelf as shelves
-use Rattle.pair_store.specs.Repair.{repair_cost}
 use Rattle.enrol_states.specs.declared.state.State.{State}
 use Rattle.client_core.specs.Settings.{Setting, setting}
 use Rattle.session_run.specs.Places.{all_places, all_bytes}
@@ -22,9 +20,9 @@ pub record Start : Type 0 where
 abbrev pub start_on : {F H : Type 0} → shelves.Ghosts F → Ghosts H → ℕ → F → H → List (List ℕ) → State → ℕ → Start
 start_on f h now shelf host lines s place = record { at = setting f shelf now; state = s; place = place; lines = lines; said = h.said host; written = h.written host }
 
--- so they are behind an opening, which writes a byte where both sides were open
-abbrev pub opened_on : {F H : Type 0} → shelves.Ghosts F → Ghosts H → ℕ → F → H → List (List ℕ) → State → ℕ → Start
-opened_on f h now shelf host lines s place = record { at = setting f shelf now; state = s; place = place; lines = lines; said = h.said host; written = h.written host + repair_cost (h.reads host Left) (h.reads host Right) }
+-- so they are behind an opening over it, which leaves the next record at this place and writes so many bytes
+abbrev pub opened_on : {F H : Type 0} → shelves.Ghosts F → Ghosts H → ℕ → F → H → List (List ℕ) → State → ℕ → ℕ → Start
+opened_on f h now shelf host lines s place bytes = record { at = setting f shelf now; state = s; place = place; lines = lines; said = h.said host; written = h.written host + bytes }
 
 -- how many lines there are
 abbrev pub line_count : Start → ℕ

@@ -80,16 +80,7 @@ IsOfRun Usage = ⊥
 IsOfRun AlreadyStore = ⊥
 IsOfRun status = Unit {0}
 
--- a drill
-abbrev pub IsOfDrill : RunStatus → Type 0
-IsOfDrill Usage = ⊥
-IsOfDrill ScriptTooLong = ⊥
-IsOfDrill SourceFault = ⊥
-IsOfDrill ShelfFault = ⊥
-IsOfDrill NoStore = ⊥
-IsOfDrill status = Unit {0}
-
--- the making of a store
+-- the making of a store, and so a drill
 abbrev pub IsOfMaking : RunStatus → Type 0
 IsOfMaking Usage = ⊥
 IsOfMaking ScriptTooLong = ⊥

@@ -7,17 +7,17 @@ ghost use Rattle.host_model.specs.declared.side.Side.{Side};
 ghost use Rattle.host_model.specs.declared.side.Side.TheVariants.{Left, Right};
 ghost use Rattle.pair_store.specs.Repair.{repair_cost};
 ghost use Rattle.enrol_states.specs.State.{last_moment};
-ghost use Rattle.jexl_transforms.specs.Meaning.{standard_names};
-ghost use Rattle.jexl_transforms.specs.Table.{names_of};
+ghost use Rattle.jexl_transforms.specs.Table.{HasStandardNames};
 ghost use Rattle.recipe_drill.specs.Parts as parts;
 ghost use Rattle.recipe_drill.specs.Parts.{drill_id, parts_of, HasRoom};
 ghost use Rattle.recipe_drill.specs.Summary as counts;
-ghost use Rattle.row_store.specs.Rows.{HasPlace};
+ghost use Rattle.row_store.specs.Rows.{HasRows, HasPlace};
+ghost use Rattle.state_codec.specs.Spelling.{rows_of};
 ghost use Rattle.client_core.specs.OpenStore.{AllKept};
 ghost use Rattle.session_run.specs.DrillEnds.{SummaryEnds, ScriptEnds, Drilled};
 ghost use Rattle.session_run.specs.Drills.{drill_bytes, drill_fresh, drill_start, drill_summary, AfterReady};
 ghost use Rattle.session_run.specs.Finds.{MakingFound};
-ghost use Rattle.session_run.specs.Statuses.{of_drill, IsOfDrill};
+ghost use Rattle.session_run.specs.Statuses.{of_drill, IsOfMaking};
 ghost use Rattle.session_run.specs.Writes.{IsBelowMark};
 
 use crate::drill_shelf::DrillShelf;
@@ -91,10 +91,11 @@ fn run_script<H: Host>(
     table: &TransformTable,
 ) -> RunStatus
     requires moment { now ≤ last_moment }
-    requires table { names_of table.now ≡ standard_names }
+    requires table { HasStandardNames table.now }
     requires drill { parts_of drill ≡ parts.drill start count }
     requires room { HasRoom drill }
     requires made { H.tells → AllKept H.Host host.old (drill_fresh now) }
+    requires spelled { H.tells → HasRows (H.reads host.old Left) (H.reads host.old Right) (rows_of (drill_fresh now)) }
 
     // At each moment the images are kept for the state after the first k lines, each that was answered among them. A
     // prefix of the summary is said only where all answers were, and the images are kept for the last state.
@@ -103,7 +104,7 @@ fn run_script<H: Host>(
     ensures ends { H.tells → ((place : ℕ) × HasPlace (H.reads host.old Left) (H.reads host.old Right) place × ScriptEnds H.Host (drill_start start count now place (H.said host.old)
         (H.written host.old + repair_cost (H.reads host.old Left) (H.reads host.old Right))) (drill_summary start count now) host.new result) }
     ensures below { H.tells → MeetsAll H.Host host.old host.new (IsBelowMark H.Host host.old) }
-    ensures is_of { IsOfDrill result }
+    ensures is_of { IsOfMaking result }
     ensures disk_cause { result ≡ RunStatus.DiskFault → Rose (H.disk_faults host.old) (H.disk_faults host.new) }
     ensures say_cause { result ≡ RunStatus.SayFault → Rose (H.say_faults host.old) (H.say_faults host.new) }
 {
@@ -140,10 +141,10 @@ pub(crate) fn drill<H: Host>(
     requires at_least { 1 ≤ count }
     requires at_most { count ≤ 2000 }
     requires moment { now ≤ last_moment }
-    requires table { names_of table.now ≡ standard_names }
+    requires table { HasStandardNames table.now }
     ensures drilled { H.tells → Drilled H.Host start count now host.old host.new result }
     ensures found { H.tells → MakingFound H.Host host.old host.new result }
-    ensures is_of { IsOfDrill result }
+    ensures is_of { IsOfMaking result }
     ensures disk_cause { result ≡ RunStatus.DiskFault → Rose (H.disk_faults host.old) (H.disk_faults host.new) }
     ensures say_cause { result ≡ RunStatus.SayFault → Rose (H.say_faults host.old) (H.say_faults host.new) }
 {

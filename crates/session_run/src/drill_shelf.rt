@@ -44,6 +44,8 @@ impl Shelf for DrillShelf {
 
     ghost faults = { λ shelf. 0 };
 
+    ghost asks = { λ shelf name asked. asked ≡ shelf };
+
     fn take(&mut self, alloc: Global, name: &str) -> ShelfAnswer {
         let Some(bytes) = self.file(name) else {
             return ShelfAnswer::Absent;

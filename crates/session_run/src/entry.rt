@@ -1,11 +1,11 @@
 // The top call.
 ghost use Rattle.std.specs.Prelude.{◌≡◌, ◌↔◌, ◌≤◌, List, ℕ, map, string_bytes};
 ghost use Rattle.enrol_states.specs.State.{last_moment};
-ghost use Rattle.jexl_transforms.specs.Meaning.{standard_names};
-ghost use Rattle.jexl_transforms.specs.Table.{names_of};
+ghost use Rattle.jexl_transforms.specs.Table.{HasStandardNames};
 ghost use Rattle.client_words.specs.Commands.{lines_of};
 ghost use Rattle.session_run.specs.Causes.{HasCauses};
 ghost use Rattle.session_run.specs.DrillEnds.{Drilled};
+ghost use Rattle.session_run.specs.Files.{LinesAsked};
 ghost use Rattle.session_run.specs.Making.{Made};
 ghost use Rattle.session_run.specs.Runs.{Ran};
 ghost use Rattle.session_run.specs.Starts.{opened_on};
@@ -21,12 +21,13 @@ use jexl_transforms::TransformTable;
 use std::alloc::Global;
 
 /// Does what the words ask for: `init ID` makes a store with that id and the moment `now`, in whole seconds since
-/// 1970, and says `ready ID`. `run` reads the source to its end, opens the store, and does and answers each line.
-/// `drill START N` makes a store as `init` does, with the id of a drill, then does and answers each line of the drill's
-/// script over its files, and then says the summary of the last state. It reads neither the source nor the shelf. START
-/// is from 0 to 18,446,744,073,709,551,615 and N from 1 to 2,000, each in decimal.
+/// 1970, and says `ready ID`. `run` reads the source to its end, opens the store, and does and answers each line. A store
+/// of an earlier build, whose rows are in the old form, is migrated as it is opened. `drill START N` makes a store as
+/// `init` does, with the id of a drill, then does and answers each line of the drill's script over its files, and then
+/// says the summary of the last state. It reads neither the source nor the shelf. START is from 0 to
+/// 18,446,744,073,709,551,615 and N from 1 to 2,000, each in decimal.
 ///
-/// The table has the standard transforms of targeting (`versionCompare`, `date`, `bucketSample`), in this order.
+/// The table has exactly the standard transforms of targeting: `versionCompare`, `date` and `bucketSample`.
 ///
 /// What is promised stands in four records: `Ran` of a run, `Made` of the making of a store, `Drilled` of a drill, and
 /// `HasCauses` of each status. The first three hold where the source, the shelf and the host tell what they hold. What
@@ -42,13 +43,13 @@ pub fn nimbus<S: Source, F: Shelf, H: Host>(
     host: &mut H,
 ) -> RunStatus
     requires moment { now ≤ last_moment }
-    requires table { names_of table.now ≡ standard_names }
+    requires table { HasStandardNames table.now }
 
     // Words without a form are refused, and only these.
     ensures usage { (result ≡ RunStatus.Usage) ↔ (¬ HasForm (map string_bytes words.now)) }
 
     ensures run { IsRun (map string_bytes words.now) → S.tells → F.tells → H.tells
-        → Ran H.Host (opened_on F.Shelf H.Host now shelf.old host.old (lines_of (S.left source.old))) host.old host.new result }
+        → Ran H.Host (LinesAsked F.Shelf shelf.old shelf.new) (opened_on F.Shelf H.Host now shelf.old host.old (lines_of (S.left source.old))) host.old host.new result }
     ensures making { (id : List ℕ) → IsInitOf id (map string_bytes words.now) → H.tells → Made H.Host id now host.old host.new result }
     ensures drill { (start count : ℕ) → IsDrillOf start count (map string_bytes words.now) → H.tells
         → Drilled H.Host start count now host.old host.new result }

@@ -5,14 +5,22 @@ ghost use Rattle.enrol_states.specs.State.{last_moment};
 ghost use Rattle.state_codec.specs.Sound.{IsSound};
 ghost use Rattle.client_core.specs.Settings.{Setting};
 ghost use Rattle.client_core.specs.Store.{KeptFor};
-ghost use Rattle.session_run.specs.Chains.{Link, IsChain, EndsKept, folded, IsHeldOutOver};
+ghost use Rattle.session_run.specs.Chains.{Link, IsChain, EndsKept, folded, MomentsAreLinks, IsHeldOutOver};
 ghost use Rattle.session_run.specs.OptOuts.{IsHeldOut, IsOut};
 ghost use Rattle.session_run.specs.Runs.{ServesValues};
 ghost use Rattle.session_run.specs.Starts.{Start};
 ghost use Rattle.session_run.specs.Steps.{after};
 
-/// After any runs and crashes the store is kept for the state of the lines that counted, run by run, which is sound. A
-/// slug that a user opts out of stays out over all of them, until a line that counted brings it back.
+/// What may be met at a moment of a run is a link of a chain: so is what a crash leaves then, and what stands when the run
+/// has ended, with whatever status. `Ran` says in `links` that each is met from an image of the run's start, and in `next`
+/// that what a run leaves is what the next one asks of its start.
+pub fn runs_are_links()
+    ensures { MomentsAreLinks }
+{}
+
+/// After any runs and crashes, each run begun on what the one before left, the store is kept for the state of the lines
+/// that counted, run by run, which is sound. A slug that a user opts out of stays out over all of them, until a line that
+/// counted brings it back.
 pub fn kept_chain()
     ensures ends { (l r : List ℕ) (s : State) (links : List Link) → KeptFor l r s → IsChain l r links → EndsKept l r links (folded s links) }
     ensures sound { (l r : List ℕ) (s : State) (links : List Link) → KeptFor l r s → IsChain l r links → IsSound (folded s links) }

@@ -4,18 +4,17 @@ ghost use Rattle.gate_journal.specs.Costs.{HasCost};
 ghost use Rattle.host_model.specs.Causes.{Rose};
 ghost use Rattle.host_model.specs.Hosts.{MeetsAll};
 ghost use Rattle.enrol_states.specs.State.{last_moment};
-ghost use Rattle.jexl_transforms.specs.Meaning.{standard_names};
-ghost use Rattle.jexl_transforms.specs.Table.{names_of};
+ghost use Rattle.jexl_transforms.specs.Table.{HasStandardNames};
 ghost use Rattle.client_core.specs.Clients.{state_of, session_of, end_of, IsOpenOn, HasGateOn, step_of};
 ghost use Rattle.client_core.specs.Places.{place_after, bytes_for};
-ghost use Rattle.client_core.specs.Commands.{names_file};
+ghost use Rattle.client_core.specs.Commands.{names_file, HasAsked};
 ghost use Rattle.client_core.specs.Prepared.{IsMadeOn, next_state, next_session};
 ghost use Rattle.client_core.specs.Settings.{setting};
 ghost use Rattle.client_words.specs.Answers.{answer_lines, fault_answer};
 ghost use Rattle.session_run.specs.Steps.{run_of, run_after, answer};
 ghost use Rattle.session_run.specs.Moments.{DuringLine};
 ghost use Rattle.session_run.specs.Ends.{LineEnds};
-ghost use Rattle.session_run.specs.Files.{NamesFile};
+ghost use Rattle.session_run.specs.Files.{NamesFile, LineAsked};
 ghost use Rattle.session_run.specs.Writes.{IsBelowMark};
 
 use crate::faults::RunFault;
@@ -74,7 +73,7 @@ fn run_command<F: Shelf, H: Host>(
     command: &Command,
 ) -> Result<(), RunFault>
     requires moment { now ≤ last_moment }
-    requires table { names_of table.now ≡ standard_names }
+    requires table { HasStandardNames table.now }
     requires holds { H.tells → IsOpenOn H.Host client.old host.old }
 
     ensures any_moment { F.tells → H.tells → HasGateOn H.Host client.old host.old
@@ -98,6 +97,7 @@ fn run_command<F: Shelf, H: Host>(
         (H.written host.old) (H.written host.new) result }
     ensures below { H.tells → MeetsAll H.Host host.old host.new (IsBelowMark H.Host host.old) }
 
+    ensures asked { HasAsked F.Shelf command.now shelf.old shelf.new }
     ensures files { F.tells → (name : List ℕ) → F.file shelf.new name ≡ F.file shelf.old name }
     ensures shelf_cause { IsErrOf result RunFault.ShelfFault → Rose (F.faults shelf.old) (F.faults shelf.new) }
     ensures cause { IsErrOf result RunFault.DiskFault → Rose (H.disk_faults host.old) (H.disk_faults host.new) }
@@ -140,8 +140,8 @@ fn refuse<H: Host>(
     Ok(())
 }
 
-#[tactic(auto, unfolding(crate::specs::Steps::run_after, crate::specs::Steps::answer))]
 /// Does a line: its command is prepared, written and then answered. One without a command is answered alone.
+#[tactic(auto, unfolding(crate::specs::Steps::run_after, crate::specs::Steps::answer))]
 pub(crate) fn run_line<F: Shelf, H: Host>(
     alloc: Global,
     host: &mut H,
@@ -152,7 +152,7 @@ pub(crate) fn run_line<F: Shelf, H: Host>(
     line: &[u8],
 ) -> Result<(), RunFault>
     requires moment { now ≤ last_moment }
-    requires table { names_of table.now ≡ standard_names }
+    requires table { HasStandardNames table.now }
     requires holds { H.tells → IsOpenOn H.Host client.old host.old }
 
     // At each moment: the text of before with the old or the new state, or the new state with a prefix of the answer.
@@ -176,6 +176,7 @@ pub(crate) fn run_line<F: Shelf, H: Host>(
         (H.written host.old) (H.written host.new) result }
     ensures below { H.tells → MeetsAll H.Host host.old host.new (IsBelowMark H.Host host.old) }
 
+    ensures asked { LineAsked F.Shelf line.now shelf.old shelf.new }
     ensures files { F.tells → (name : List ℕ) → F.file shelf.new name ≡ F.file shelf.old name }
     ensures shelf_cause { IsErrOf result RunFault.ShelfFault → Rose (F.faults shelf.old) (F.faults shelf.new) }
     ensures cause { IsErrOf result RunFault.DiskFault → Rose (H.disk_faults host.old) (H.disk_faults host.new) }

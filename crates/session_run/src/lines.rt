@@ -2,19 +2,19 @@
 ghost use Rattle.std.specs.Prelude.{◌≡◌, ◌≤◌, ℕ, List, All, OnOk, IsErrOf, length, map};
 ghost use Rattle.host_model.specs.Causes.{Rose};
 ghost use Rattle.enrol_states.specs.State.{last_moment};
-ghost use Rattle.jexl_transforms.specs.Meaning.{standard_names};
-ghost use Rattle.jexl_transforms.specs.Table.{names_of};
+ghost use Rattle.jexl_transforms.specs.Table.{HasStandardNames};
 ghost use Rattle.client_core.specs.Clients.{state_of, session_of, end_of, IsOpenOn, HasGateOn};
 ghost use Rattle.client_core.specs.Settings.{setting};
 ghost use Rattle.client_core.specs.Sessions.{no_session};
-ghost use Rattle.client_words.specs.Commands.{part_at, IsWithin};
+ghost use Rattle.client_words.specs.Commands.{bytes_at, IsWithin};
+ghost use Rattle.session_run.specs.Files.{LinesAsked};
 ghost use Rattle.session_run.specs.Runs.{LinesRan};
 ghost use Rattle.session_run.specs.Starts.{start_on, last_state};
 
 use crate::faults::RunFault;
 use crate::line::run_line;
 use client_core::Client;
-use client_words::part;
+use client_words::bytes_at;
 use host_model::{Host, Shelf};
 use jexl_transforms::TransformTable;
 use std::alloc::Global;
@@ -33,13 +33,13 @@ pub(crate) fn run_lines<F: Shelf, H: Host>(
     requires within { All (IsWithin (length script.now)) spans.now }
     requires session { session_of client.old ≡ no_session }
     requires moment { now ≤ last_moment }
-    requires table { names_of table.now ≡ standard_names }
+    requires table { HasStandardNames table.now }
     requires holds { H.tells → IsOpenOn H.Host client.old host.old }
 
-    ensures ran { F.tells → H.tells → LinesRan H.Host (HasGateOn H.Host client.old host.old)
-        (start_on F.Shelf H.Host now shelf.old host.old (map (part_at script.now) spans.now) (state_of client.old) (end_of client.old)) host.old host.new result }
+    ensures ran { F.tells → H.tells → LinesRan H.Host (LinesAsked F.Shelf shelf.old shelf.new) (HasGateOn H.Host client.old host.old)
+        (start_on F.Shelf H.Host now shelf.old host.old (map (bytes_at script.now) spans.now) (state_of client.old) (end_of client.old)) host.old host.new result }
     ensures state { F.tells → OnOk result
-        (state_of client.new ≡ last_state (start_on F.Shelf H.Host now shelf.old host.old (map (part_at script.now) spans.now) (state_of client.old) (end_of client.old))) }
+        (state_of client.new ≡ last_state (start_on F.Shelf H.Host now shelf.old host.old (map (bytes_at script.now) spans.now) (state_of client.old) (end_of client.old))) }
 
     ensures files { F.tells → (name : List ℕ) → F.file shelf.new name ≡ F.file shelf.old name }
     ensures shelf_cause { IsErrOf result RunFault.ShelfFault → Rose (F.faults shelf.old) (F.faults shelf.new) }
@@ -50,7 +50,8 @@ pub(crate) fn run_lines<F: Shelf, H: Host>(
     ensures say_faults { H.say_faults host.old ≤ H.say_faults host.new }
 {
     for span in spans {
-        run_line(alloc, host, client, shelf, now, table, part(script, *span))?;
+        let line = bytes_at(script, *span);
+        run_line(alloc, host, client, shelf, now, table, line)?;
     }
     Ok(())
 }

@@ -3,12 +3,12 @@ ghost use Rattle.std.specs.Prelude.{◌≡◌, ◌≢◌, ◌⊎◌, ◌<◌, �
 ghost use Rattle.host_model.specs.Causes.{Rose};
 ghost use Rattle.enrol_states.specs.declared.state.State.{State};
 ghost use Rattle.enrol_states.specs.State.{last_moment};
-ghost use Rattle.jexl_transforms.specs.Meaning.{standard_names};
-ghost use Rattle.jexl_transforms.specs.Table.{names_of};
+ghost use Rattle.jexl_transforms.specs.Table.{HasStandardNames};
 ghost use Rattle.client_core.specs.Clients.{state_of};
 ghost use Rattle.client_core.specs.Store.{StandsFor};
 ghost use Rattle.client_words.specs.Commands.{lines_of};
 ghost use Rattle.session_run.specs.Causes.{IsUnreached};
+ghost use Rattle.session_run.specs.Files.{LinesAsked};
 ghost use Rattle.session_run.specs.Finds.{RunFound};
 ghost use Rattle.session_run.specs.Runs.{Ran};
 ghost use Rattle.session_run.specs.Starts.{opened_on, last_state};
@@ -33,11 +33,11 @@ pub(crate) fn run_client<F: Shelf, H: Host>(
     script: &[u8],
 ) -> Result<Client, RunStatus>
     requires moment { now ≤ last_moment }
-    requires table { names_of table.now ≡ standard_names }
+    requires table { HasStandardNames table.now }
     ensures ran { F.tells → H.tells
-        → Ran H.Host (opened_on F.Shelf H.Host now shelf.old host.old (lines_of script.now)) host.old host.new (status_of result) }
+        → Ran H.Host (LinesAsked F.Shelf shelf.old shelf.new) (opened_on F.Shelf H.Host now shelf.old host.old (lines_of script.now)) host.old host.new (status_of result) }
     ensures state { IfOk result (λ client. F.tells → H.tells → (s : State) → StandsFor (H.reads host.old Side.Left) (H.reads host.old Side.Right) s
-        → state_of client ≡ last_state (opened_on F.Shelf H.Host now shelf.old host.old (lines_of script.now) s 0)) }
+        → state_of client ≡ last_state (opened_on F.Shelf H.Host now shelf.old host.old (lines_of script.now) s 0 0)) }
     ensures found { H.tells → RunFound H.Host host.old host.new (status_of result) }
     ensures is_of { IsOfLines (status_of result) }
     ensures shelf_cause { status_of result ≡ RunStatus.ShelfFault → Rose (F.faults shelf.old) (F.faults shelf.new) }
@@ -91,9 +91,9 @@ pub(crate) fn run<S: Source, F: Shelf, H: Host>(
     table: &TransformTable,
 ) -> RunStatus
     requires moment { now ≤ last_moment }
-    requires table { names_of table.now ≡ standard_names }
+    requires table { HasStandardNames table.now }
     ensures ran { S.tells → F.tells → H.tells
-        → Ran H.Host (opened_on F.Shelf H.Host now shelf.old host.old (lines_of (S.left source.old))) host.old host.new result }
+        → Ran H.Host (LinesAsked F.Shelf shelf.old shelf.new) (opened_on F.Shelf H.Host now shelf.old host.old (lines_of (S.left source.old))) host.old host.new result }
     ensures found { H.tells → RunFound H.Host host.old host.new result }
     ensures is_of { IsOfRun result }
     ensures read { result ≡ RunStatus.Done → S.tells → S.left source.new ≡ [] }

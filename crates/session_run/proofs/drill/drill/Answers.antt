@@ -1,14 +1,14 @@
 -- The store of a drill is made, and then its script is run.
-use Rattle.std.proofs.Common.{inl, List, ℕ, refl, subst, arith}
+use Rattle.std.proofs.Common.{List, ℕ, refl, subst}
 use Rattle.host_model.specs.declared.side.Side.TheVariants.{Left, Right}
 use Rattle.host_model.specs.Hosts.{NowOf}
-use Rattle.host_model.proofs.Meeting.{started, met_weaker}
-use Rattle.pair_store.specs.Moments.{IsOpening}
+use Rattle.host_model.proofs.Meeting.{started}
 use Rattle.session_run.specs.declared.status.RunStatus.TheVariants.{Done, OutOfMemory}
 use Rattle.session_run.specs.Making.{Made}
-use Rattle.session_run.proofs.Belonging.{making_in_drill}
+use Rattle.session_run.specs.Writes.{IsBelowMark}
 use Rattle.session_run.proofs.Drilling.{found_made, drilled_made, drilled_unmade, drilled_unbegun}
 use Rattle.session_run.proofs.Judging.{making_judges}
+use Rattle.session_run.proofs.Writing.{met_now, no_more}
 use Rattle.session_run.proofs.drill.drill.Goals as goal
 
 pub returns-in-Done-clause-drilled : goal.returns-in-Done-clause-drilled
@@ -21,7 +21,7 @@ returns-in-Done-clause-drilled g c tells =
     let ends = script.ends tells in
     drilled_made h c.args.start c.args.count c.args.now old mid c.run_script.new.host c.run_script.result made (c.in-Done.ensures.found tells).finds ends.0 ends.1 ends.2 c.requires.moment
     (g.met.H.Host.read_is_image old Left tells) (g.met.H.Host.read_is_image old Right tells) (g.met.H.Host.read_is_image mid Left tells) (g.met.H.Host.read_is_image mid Right tells)
-    (λ l r left right. made.below.each l r (h.said mid) (g.met.H.Host.counts_now mid (h.moment old) l r (h.said mid) tells made.below.later (left, right, refl))) (script.any_moment tells) (script.below tells)
+    (met_now h old mid (IsBelowMark h old) made.below (g.met.H.Host.counts_now mid) tells) (script.any_moment tells) (script.below tells)
 
 pub returns-in-Done-clause-found : goal.returns-in-Done-clause-found
 returns-in-Done-clause-found g c tells =
@@ -40,9 +40,6 @@ returns-in_default-init-clause-drilled g c tells =
     drilled_unmade h c.args.start c.args.count c.args.now old new c.requires.moment c.init.result
     (subst (λ (id : List ℕ). Made h id c.args.now old new c.init.result) c.id_bytes.ensures (c.init.ensures.made tells)) c.in_default-init.not-Done
 
-pub returns-in_default-init-clause-is_of : goal.returns-in_default-init-clause-is_of
-returns-in_default-init-clause-is_of g c = making_in_drill c.init.result c.init.ensures.is_of
-
 pub returns-in_default-clause-drilled : goal.returns-in_default-clause-drilled
 returns-in_default-clause-drilled g c tells =
     let h = g.H.Host in
@@ -53,9 +50,15 @@ pub returns-in_default-clause-found : goal.returns-in_default-clause-found
 returns-in_default-clause-found g c tells =
     let h = g.H.Host in
     let old = c.args.host.now in
-    let none = started h.moment h.might old (NowOf h old) (λ l r u met. g.met.H.Host.only_now old l r u tells met) in
-    record {
-      finds = tt;
-      judges = making_judges (h.reads old Left) (h.reads old Right) OutOfMemory tt;
-      quiet = λ found. record { moments = met_weaker h.moment h.might old old _ (IsOpening h old) none (λ l r u met. inl met); text = refl; most = omega arith };
-    }
+    record { finds = tt; judges = making_judges (h.reads old Left) (h.reads old Right) OutOfMemory tt; leaves = tt; quiet = λ found. no_more h old (λ l r u met. g.met.H.Host.only_now old l r u tells met) }
+
+-- the store that was made is kept for its state, and its rows are spelled
+pub run_script-requires-clause-made : goal.run_script-requires-clause-made
+run_script-requires-clause-made g c tells =
+    let h = g.H.Host in
+    (subst (λ (id : List ℕ). Made h id c.args.now c.args.host.now c.init.new.host Done) c.id_bytes.ensures (c.in-Done.ensures.made tells)).ends.0
+
+pub run_script-requires-clause-spelled : goal.run_script-requires-clause-spelled
+run_script-requires-clause-spelled g c tells =
+    let h = g.H.Host in
+    (subst (λ (id : List ℕ). Made h id c.args.now c.args.host.now c.init.new.host Done) c.id_bytes.ensures (c.in-Done.ensures.made tells)).spelled refl

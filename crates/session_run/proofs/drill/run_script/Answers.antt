@@ -1,19 +1,23 @@
 -- The script of a drill is run, and then the summary is said.
-use Rattle.std.proofs.Common.{◌≡◌, ◌+◌, [], ◌∷◌, Err, arith, refl, sym, ap, ◌∙◌, subst}
+use Rattle.std.proofs.Common.{◌≡◌, ◌+◌, ℕ, List, [], ◌∷◌, Err, arith, sym, ap, ◌∙◌, subst}
 use Rattle.host_model.specs.declared.side.Side.TheVariants.{Left, Right}
 use Rattle.pair_store.specs.Repair.{repair_cost}
+use Rattle.enrol_states.specs.declared.state.State.{State}
 use Rattle.recipe_drill.specs.Parts.{parts_of}
 use Rattle.client_core.proofs.Holding.{stands_of_kept}
 use Rattle.client_words.specs.Commands.{lines_of}
-use Rattle.session_run.specs.declared.status.RunStatus.TheVariants.{DiskFault, SayFault}
+use Rattle.session_run.specs.declared.status.RunStatus.TheVariants.{Done, DiskFault, SayFault}
 use Rattle.session_run.specs.DrillEnds.{ScriptEnds}
 use Rattle.session_run.specs.Drills.{drill_fresh, drill_start, drill_summary}
 use Rattle.session_run.specs.Ends.{RunEnds}
-use Rattle.session_run.specs.Statuses.{IsOfLines, IsOfDrill}
+use Rattle.session_run.specs.Statuses.{IsOfLines, IsOfMaking}
+use Rattle.session_run.specs.Writes.{IsBelowMark}
 use Rattle.session_run.proofs.Belonging.{drill_status, status_was, drill_is_of, summary_is_of}
 use Rattle.session_run.proofs.DrillScripts.{setting_with, setting_is, lines_are, here, unsaid_met, unsaid_ends, said_met, said_ends, ready_elsewhere}
-use Rattle.session_run.proofs.Opened.{among_one}
-use Rattle.session_run.proofs.Writing.{below_then, below_said}
+use Rattle.session_run.proofs.Linking.{among_one}
+use Rattle.session_run.proofs.SpelledStores.{spelled_ends}
+use Rattle.session_run.proofs.Starting.{begin}
+use Rattle.session_run.proofs.Writing.{met_now, below_then, below_said}
 use Rattle.session_run.proofs.drill.run_script.Goals as goal
 
 -- ---- all lines are done and answered
@@ -28,13 +32,15 @@ returns-in-Ok-clause-any_moment g c tells =
     let all = c.requires.made tells in
     let kept = all (h.reads old Left) (h.reads old Right) (g.met.H.Host.read_is_image old Left tells) (g.met.H.Host.read_is_image old Right tells) in
     let ran = c.in-Ok.ensures.ran tt tells in
-    let ends = ran.ends (s ∷ []) s (among_one h old s all) kept in
-    let written = h.written old + repair_cost (h.reads old Left) (h.reads old Right) in
+    let from = λ (x : State) (place bytes : ℕ). begin (setting_with (parts_of d) now) x place (lines_of c.as_slice.result.now) (h.said old) (h.written old + bytes) in
+    let cost = repair_cost (h.reads old Left) (h.reads old Right) in
+    let written = h.written old + cost in
+    let ends = spelled_ends h (λ (those : List (List ℕ)). Unit {0}) from (h.reads old Left) (h.reads old Right) s (s ∷ []) c.run_client.new.host Done (c.requires.spelled tells) (ran.ends (s ∷ []) s (among_one h old s all) kept) in
     ready_elsewhere h c.args.start c.args.count now (setting_with (parts_of d) now) (lines_of c.as_slice.result.now) (setting_is d c.args.start c.args.count c.requires.drill now)
     (lines_are d c.args.start c.args.count c.requires.drill c.as_slice.result.now c.as_slice.ensures) old ends.0 written c.say_summary.new.host
     (said_met h c.args.start c.args.count now (setting_with (parts_of d) now) (lines_of c.as_slice.result.now) (setting_is d c.args.start c.args.count c.requires.drill now)
     (lines_are d c.args.start c.args.count c.requires.drill c.as_slice.result.now c.as_slice.ensures) old ends.0 written c.run_client.new.host c.say_summary.new.host c.state.result.now
-    (c.state.ensures.state ∙ c.in-Ok.ensures.state tt tells s (stands_of_kept _ _ s kept)) ends.2 (ran.crash s ends.0 all) (c.say_summary.ensures.any_moment tells))
+    (c.state.ensures.state ∙ c.in-Ok.ensures.state tt tells s (stands_of_kept _ _ s kept)) ends.2 (ran.crash s ends.0 cost all) (c.say_summary.ensures.any_moment tells))
 
 pub returns-in-Ok-clause-ends : goal.returns-in-Ok-clause-ends
 returns-in-Ok-clause-ends g c tells =
@@ -45,8 +51,9 @@ returns-in-Ok-clause-ends g c tells =
     let d = c.args.drill in
     let all = c.requires.made tells in
     let kept = all (h.reads old Left) (h.reads old Right) (g.met.H.Host.read_is_image old Left tells) (g.met.H.Host.read_is_image old Right tells) in
-    let ends = (c.in-Ok.ensures.ran tt tells).ends (s ∷ []) s (among_one h old s all) kept in
-    let written = h.written old + repair_cost (h.reads old Left) (h.reads old Right) in (
+    let from = λ (x : State) (place bytes : ℕ). begin (setting_with (parts_of d) now) x place (lines_of c.as_slice.result.now) (h.said old) (h.written old + bytes) in
+    let written = h.written old + repair_cost (h.reads old Left) (h.reads old Right) in
+    let ends = spelled_ends h (λ (those : List (List ℕ)). Unit {0}) from (h.reads old Left) (h.reads old Right) s (s ∷ []) c.run_client.new.host Done (c.requires.spelled tells) ((c.in-Ok.ensures.ran tt tells).ends (s ∷ []) s (among_one h old s all) kept) in (
       ends.0,
       ends.1,
       said_ends h c.args.start c.args.count now (setting_with (parts_of d) now) (lines_of c.as_slice.result.now) (setting_is d c.args.start c.args.count c.requires.drill now)
@@ -61,7 +68,7 @@ returns-in-Ok-clause-below g c tells =
     let mid = c.run_client.new.host in
     let below = (c.in-Ok.ensures.ran tt tells).below in
     below_then h old mid c.say_summary.new.host (g.met.H.Host.read_is_image mid Left tells) (g.met.H.Host.read_is_image mid Right tells) below
-    (λ l r left right. below.each l r (h.said mid) (g.met.H.Host.counts_now mid (h.moment old) l r (h.said mid) tells below.later (left, right, refl)))
+    (met_now h old mid (IsBelowMark h old) below (g.met.H.Host.counts_now mid) tells)
     (below_said h mid c.say_summary.new.host _ (c.say_summary.ensures.any_moment tells))
 
 pub returns-in-Ok-clause-is_of : goal.returns-in-Ok-clause-is_of
@@ -76,11 +83,12 @@ returns-clause-any_moment g c tells =
     let now = c.args.now in
     let s = drill_fresh now in
     let d = c.args.drill in
-    let written = h.written old + repair_cost (h.reads old Left) (h.reads old Right) in
+    let cost = repair_cost (h.reads old Left) (h.reads old Right) in
+    let written = h.written old + cost in
     ready_elsewhere h c.args.start c.args.count now (setting_with (parts_of d) now) (lines_of c.as_slice.result.now) (setting_is d c.args.start c.args.count c.requires.drill now)
     (lines_are d c.args.start c.args.count c.requires.drill c.as_slice.result.now c.as_slice.ensures) old 0 written c.run_client.new.host
     (unsaid_met h c.args.start c.args.count now (setting_with (parts_of d) now) (lines_of c.as_slice.result.now) (setting_is d c.args.start c.args.count c.requires.drill now)
-    (lines_are d c.args.start c.args.count c.requires.drill c.as_slice.result.now c.as_slice.ensures) old 0 written c.run_client.new.host ((c.run_client.ensures.ran tt tells).crash s 0 (c.requires.made tells)))
+    (lines_are d c.args.start c.args.count c.requires.drill c.as_slice.result.now c.as_slice.ensures) old 0 written c.run_client.new.host ((c.run_client.ensures.ran tt tells).crash s 0 cost (c.requires.made tells)))
 
 pub returns-clause-ends : goal.returns-clause-ends
 returns-clause-ends g c tells =
@@ -94,16 +102,17 @@ returns-clause-ends g c tells =
     let all = c.requires.made tells in
     let kept = all (h.reads old Left) (h.reads old Right) (g.met.H.Host.read_is_image old Left tells) (g.met.H.Host.read_is_image old Right tells) in
     let ended = c.in-Err.ensures in
-    let ends = (ended.ran tt tells).ends (s ∷ []) s (among_one h old s all) kept in
+    let from = λ (x : State) (place bytes : ℕ). begin (setting_with (parts_of d) now) x place (lines_of c.as_slice.result.now) (h.said old) (h.written old + bytes) in
+    let ends = spelled_ends h _ from (h.reads old Left) (h.reads old Right) s (s ∷ []) new status (c.requires.spelled tells) ((ended.ran tt tells).ends (s ∷ []) s (among_one h old s all) kept) in
     let written = h.written old + repair_cost (h.reads old Left) (h.reads old Right) in
     let start = here h c.args.start c.args.count now (setting_with (parts_of d) now) (lines_of c.as_slice.result.now) (setting_is d c.args.start c.args.count c.requires.drill now)
     (lines_are d c.args.start c.args.count c.requires.drill c.as_slice.result.now c.as_slice.ensures) old ends.0 written in
-    let same : status ≡ c.ended.result = drill_status status (λ is. subst (RunEnds h (s ∷ []) start new) is ends.2) ∙ sym c.ended.ensures in (
+    let same : status ≡ c.ended.result = drill_status status (λ is. subst (RunEnds h _ (s ∷ []) start new) is ends.2) ∙ sym c.ended.ensures in (
       ends.0,
       ends.1,
       subst (ScriptEnds h (drill_start c.args.start c.args.count now ends.0 (h.said old) written) (drill_summary c.args.start c.args.count now) new) same
           (unsaid_ends h c.args.start c.args.count now (setting_with (parts_of d) now) (lines_of c.as_slice.result.now) (setting_is d c.args.start c.args.count c.requires.drill now)
-          (lines_are d c.args.start c.args.count c.requires.drill c.as_slice.result.now c.as_slice.ensures) old ends.0 written new status ends.2
+          (lines_are d c.args.start c.args.count c.requires.drill c.as_slice.result.now c.as_slice.ensures) old ends.0 written _ new status ends.2
           (λ is. ended.not_done (ap Err is)) (λ is. subst IsOfLines is ended.is_of) (λ is. subst IsOfLines is ended.is_of) (λ is. absurd (omega (arith, ended.shelf_cause is)))),
     )
 
@@ -111,7 +120,7 @@ pub returns-clause-below : goal.returns-clause-below
 returns-clause-below g c tells = (c.run_client.ensures.ran tt tells).below
 
 pub returns-clause-is_of : goal.returns-clause-is_of
-returns-clause-is_of g c = subst IsOfDrill (sym c.ended.ensures) (drill_is_of c.in-Err.status c.in-Err.ensures.is_of (λ is. absurd (omega (arith, c.in-Err.ensures.shelf_cause is))))
+returns-clause-is_of g c = subst IsOfMaking (sym c.ended.ensures) (drill_is_of c.in-Err.status c.in-Err.ensures.is_of (λ is. absurd (omega (arith, c.in-Err.ensures.shelf_cause is))))
 
 pub returns-clause-disk_cause : goal.returns-clause-disk_cause
 returns-clause-disk_cause g c is = c.in-Err.ensures.disk_cause (status_was c.in-Err.status DiskFault (λ other. absurd cc) (sym c.ended.ensures ∙ is))

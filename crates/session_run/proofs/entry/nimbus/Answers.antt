@@ -1,19 +1,15 @@
 -- What the words ask for is done.
-use Rattle.std.proofs.Common.{◌⊎◌, ℕ, List, inl, inr, ap, arith, refl, subst, Some}
+use Rattle.std.proofs.Common.{ℕ, List, inl, inr, ap, arith, refl, subst, Some}
 use Rattle.std.specs.Prelude.{map, string_bytes}
 use Rattle.session_run.specs.DrillEnds.{Drilled}
 use Rattle.session_run.specs.Making.{Made}
-use Rattle.session_run.specs.Statuses.{IsOfRun, IsOfDrill, IsOfMaking}
-use Rattle.session_run.specs.Words.{IsRun, IsInit, IsDrill}
-use Rattle.session_run.proofs.Belonging.{run_belongs, drill_belongs, making_belongs, making_reaches, drill_reaches}
-use Rattle.session_run.proofs.Judging.{run_complete, making_complete}
-use Rattle.session_run.proofs.WordLists.{one_id, one_start, one_count, run_not_drill, init_not_drill, not_both}
+use Rattle.session_run.specs.Statuses.{IsOfRun, IsOfMaking}
+use Rattle.session_run.specs.Words.{IsDrill}
+use Rattle.session_run.proofs.Belonging.{run_belongs}
+use Rattle.session_run.proofs.Judging.{run_complete}
+use Rattle.session_run.proofs.MakingCauses.{making_causes}
+use Rattle.session_run.proofs.WordLists.{one_id, one_start, one_count, run_not_drill, init_not_drill, not_both, run_makes_none}
 use Rattle.session_run.proofs.entry.nimbus.Goals as goal
-
--- a run makes no store
-not_made : (words : List (List ℕ)) → IsRun words → IsInit words ⊎ IsDrill words → ⊥
-not_made words run (inl making) = not_both words making.0 run making.1
-not_made words run (inr drill) = run_not_drill words run drill
 
 -- ---- no form
 
@@ -71,32 +67,14 @@ returns-in-Some-Init-clause-drill g c start count is_drill =
 pub returns-in-Some-Init-clause-causes : goal.returns-in-Some-Init-clause-causes
 returns-in-Some-Init-clause-causes g c =
     let init = c.init.ensures in
-    let answered = c.init.result in
     let there = c.in-Some-Init.ensures.init c.in-Some-Init.id (ap Some c.in-Some-Init.field-0-is) in
-    record {
-      belongs = making_belongs _ (c.in-Some-Init.id, there) answered init.is_of;
-      source_rose = λ is. absurd (subst IsOfMaking is init.is_of);
-      shelf_rose = λ is. absurd (subst IsOfMaking is init.is_of);
-      disk_rose = init.disk_cause;
-      say_rose = init.say_cause;
-      unreached = λ is. absurd (making_reaches answered init.is_of is);
-      unread = λ is. refl;
-      apart = λ is. (refl, refl);
-      files = λ tells name. refl;
-      too_long = λ is. absurd (subst IsOfMaking is init.is_of);
-      too_long_where = λ is_run. absurd (not_both _ c.in-Some-Init.id is_run there);
-      read = λ is_run. absurd (not_both _ c.in-Some-Init.id is_run there);
-      run_found = λ is_run. absurd (not_both _ c.in-Some-Init.id is_run there);
-      making_found = λ is. init.found;
-      run_done = λ is_run. absurd (not_both _ c.in-Some-Init.id is_run there);
-      making_done = λ is tells absent disk say. making_complete _ _ answered (init.found tells).finds absent (λ fault. disk (init.disk_cause fault)) (λ fault. say (init.say_cause fault));
-    }
+    making_causes g.S.Source g.F.Shelf g.H.Host _ c.args.source.now c.args.shelf.now c.args.host.now c.init.new.host c.init.result (inl (c.in-Some-Init.id, there)) init.is_of init.disk_cause init.say_cause init.found
 
 -- ---- a drill
 
 pub returns-in-Some-Drill-clause-usage : goal.returns-in-Some-Drill-clause-usage
 returns-in-Some-Drill-clause-usage g c = (
-  (λ is. absurd (subst IsOfDrill is c.drill.ensures.is_of)),
+  (λ is. absurd (subst IsOfMaking is c.drill.ensures.is_of)),
   (λ none. absurd (none (inr (inr (c.in-Some-Drill.start, c.in-Some-Drill.count, c.in-Some-Drill.ensures.drill c.in-Some-Drill.start c.in-Some-Drill.count (ap Some c.in-Some-Drill.field-0-is)))))),
 )
 
@@ -118,26 +96,8 @@ returns-in-Some-Drill-clause-drill g c start count is_drill tells =
 pub returns-in-Some-Drill-clause-causes : goal.returns-in-Some-Drill-clause-causes
 returns-in-Some-Drill-clause-causes g c =
     let drill = c.drill.ensures in
-    let answered = c.drill.result in
     let there : IsDrill (map string_bytes c.args.words.now) = (c.in-Some-Drill.start, c.in-Some-Drill.count, c.in-Some-Drill.ensures.drill c.in-Some-Drill.start c.in-Some-Drill.count (ap Some c.in-Some-Drill.field-0-is)) in
-    record {
-      belongs = drill_belongs _ there answered drill.is_of;
-      source_rose = λ is. absurd (subst IsOfDrill is drill.is_of);
-      shelf_rose = λ is. absurd (subst IsOfDrill is drill.is_of);
-      disk_rose = drill.disk_cause;
-      say_rose = drill.say_cause;
-      unreached = λ is. absurd (drill_reaches answered drill.is_of is);
-      unread = λ is. refl;
-      apart = λ is. (refl, refl);
-      files = λ tells name. refl;
-      too_long = λ is. absurd (subst IsOfDrill is drill.is_of);
-      too_long_where = λ is_run. absurd (run_not_drill _ is_run there);
-      read = λ is_run. absurd (run_not_drill _ is_run there);
-      run_found = λ is_run. absurd (run_not_drill _ is_run there);
-      making_found = λ is. drill.found;
-      run_done = λ is_run. absurd (run_not_drill _ is_run there);
-      making_done = λ is tells absent disk say. making_complete _ _ answered (drill.found tells).finds absent (λ fault. disk (drill.disk_cause fault)) (λ fault. say (drill.say_cause fault));
-    }
+    making_causes g.S.Source g.F.Shelf g.H.Host _ c.args.source.now c.args.shelf.now c.args.host.now c.drill.new.host c.drill.result (inr there) drill.is_of drill.disk_cause drill.say_cause drill.found
 
 -- its numbers are within their bounds
 pub drill-requires-clause-at_least : goal.drill-requires-clause-at_least
@@ -176,14 +136,14 @@ returns-in-Some-Run-clause-causes g c =
       say_rose = run.say_cause;
       unreached = run.unreached;
       unread = λ is. absurd (subst IsOfRun is run.is_of);
-      apart = λ is. absurd (not_made _ there is);
+      apart = λ is. absurd (run_makes_none _ there is);
       files = run.files;
       too_long = run.too_long;
       too_long_where = λ is_run. run.too_long_where;
       read = λ is_run. run.read;
       run_found = λ is_run. run.found;
-      making_found = λ is. absurd (not_made _ there is);
+      making_found = λ is. absurd (run_makes_none _ there is);
       run_done = λ is_run source_tells tells short found source shelf disk say. run_complete _ _ answered (run.found tells).finds found (λ is. omega (arith, short, run.too_long is source_tells))
           (λ is. source (run.source_cause is)) (λ is. shelf (run.shelf_cause is)) (λ is. disk (run.disk_cause is)) (λ is. say (run.say_cause is));
-      making_done = λ is. absurd (not_made _ there is);
+      making_done = λ is. absurd (run_makes_none _ there is);
     }

@@ -1,14 +1,15 @@
 -- A step is committed, and then its answer is said.
-use Rattle.std.proofs.Common.{List, ℕ, ◌++◌, ◌∙◌, refl, ap, take, arith}
+use Rattle.std.proofs.Common.{List, ℕ, ◌++◌, ◌∙◌, ap, take, arith}
 use Rattle.host_model.specs.declared.side.Side.TheVariants.{Left, Right}
 use Rattle.client_core.specs.Clients.{state_of}
 use Rattle.client_core.specs.Prepared.{next_state}
 use Rattle.client_core.proofs.Holding.{open_said, gate_said, kept_said}
+use Rattle.session_run.specs.Writes.{IsBelowMark}
 use Rattle.session_run.proofs.Ending.{written_ends, said_ends}
 use Rattle.session_run.specs.declared.faults.RunFault.TheVariants.{DiskFault, SayFault}
 use Rattle.session_run.proofs.Answering.{written_met, line_met}
 use Rattle.session_run.proofs.Outcomes.{err_cost}
-use Rattle.session_run.proofs.Writing.{below_of, below_then, below_said}
+use Rattle.session_run.proofs.Writing.{met_now, below_of, below_then, below_said}
 use Rattle.session_run.proofs.line.commit.Goals as goal
 
 pub returns-in_err-commit-clause-any_moment : goal.returns-in_err-commit-clause-any_moment
@@ -92,7 +93,7 @@ returns-in_err-say_answer-clause-below g c tells =
     let mid = c.commit.new.host in
     let below = below_of h old mid (c.commit.ensures.below tells) in
     below_then h old mid c.say_answer.new.host (g.met.H.Host.read_is_image mid Left tells) (g.met.H.Host.read_is_image mid Right tells) below
-    (λ l r left right. below.each l r (h.said mid) (g.met.H.Host.counts_now mid (h.moment old) l r (h.said mid) tells below.later (left, right, refl)))
+    (met_now h old mid (IsBelowMark h old) below (g.met.H.Host.counts_now mid) tells)
     (below_said h mid c.say_answer.new.host c.args.text.now (c.say_answer.ensures.any_moment tells))
 
 pub returns-clause-below : goal.returns-clause-below
@@ -102,5 +103,5 @@ returns-clause-below g c tells =
     let mid = c.commit.new.host in
     let below = below_of h old mid (c.commit.ensures.below tells) in
     below_then h old mid c.say_answer.new.host (g.met.H.Host.read_is_image mid Left tells) (g.met.H.Host.read_is_image mid Right tells) below
-    (λ l r left right. below.each l r (h.said mid) (g.met.H.Host.counts_now mid (h.moment old) l r (h.said mid) tells below.later (left, right, refl)))
+    (met_now h old mid (IsBelowMark h old) below (g.met.H.Host.counts_now mid) tells)
     (below_said h mid c.say_answer.new.host c.args.text.now (c.say_answer.ensures.any_moment tells))

@@ -1,15 +1,13 @@
 -- A line without a command is answered.
 use Rattle.std.proofs.Common.{List, ℕ, ◌++◌, ◌∙◌, ap, subst, refl}
 use Rattle.host_model.specs.Hosts.{MeetsAll}
-use Rattle.host_model.proofs.Meeting.{started}
 use Rattle.client_core.specs.Clients.{state_of}
 use Rattle.client_core.proofs.Holding.{all_kept, open_said, gate_said, kept_said}
 use Rattle.session_run.specs.Moments.{DuringLine}
 use Rattle.session_run.proofs.Ending.{said_ends}
 use Rattle.session_run.proofs.Outcomes.{unwritten_met, unanswered_ends}
 use Rattle.session_run.proofs.Answering.{said_met, ends_as}
-use Rattle.session_run.specs.Writes.{IsBelowMark}
-use Rattle.session_run.proofs.Writing.{at_each, below_said}
+use Rattle.session_run.proofs.Writing.{below_unwritten, below_said}
 use Rattle.session_run.proofs.line.refuse.Goals as goal
 
 pub returns-in_err-text-clause-any_moment : goal.returns-in_err-text-clause-any_moment
@@ -77,11 +75,7 @@ returns-clause-said g c tells =
 
 pub returns-in_err-text-clause-below : goal.returns-in_err-text-clause-below
 returns-in_err-text-clause-below g c tells =
-    let h = g.H.Host in
-    let start = c.args.host.now in
-    started h.moment h.might start (IsBelowMark h start) (λ l r u met.
-    let now = g.met.H.Host.only_now start l r u tells met in
-    at_each h start start l r now.0 now.1)
+    below_unwritten g.H.Host c.args.host.now (λ l r u met. g.met.H.Host.only_now c.args.host.now l r u tells met)
 
 pub returns-in_err-say_answer-clause-below : goal.returns-in_err-say_answer-clause-below
 returns-in_err-say_answer-clause-below g c tells = below_said g.H.Host c.args.host.now c.say_answer.new.host c.as_str.result.now (c.say_answer.ensures.any_moment tells)

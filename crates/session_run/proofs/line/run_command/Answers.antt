@@ -1,7 +1,6 @@
 -- The step that is prepared is the command's, and it is committed and answered.
 use Rattle.std.proofs.Common.{◌≡◌, List, ℕ, ◌++◌, ◌∙◌, ap, arith, subst, sym, OnOk}
 use Rattle.host_model.specs.Hosts.{MeetsAll}
-use Rattle.host_model.proofs.Meeting.{started}
 use Rattle.gate_journal.specs.Costs.{HasCost}
 use Rattle.enrol_states.specs.declared.state.State.{State}
 use Rattle.client_core.specs.declared.session.Session.{Session}
@@ -15,10 +14,9 @@ use Rattle.session_run.specs.declared.faults.RunFault.TheVariants.{OutOfMemory}
 use Rattle.session_run.specs.Ends.{LineEnds}
 use Rattle.session_run.specs.Moments.{DuringLine}
 use Rattle.session_run.specs.Statuses.{of_step}
-use Rattle.session_run.specs.Writes.{IsBelowMark}
 use Rattle.session_run.proofs.Answering.{met_as, ends_as}
 use Rattle.session_run.proofs.Outcomes.{on_ok, both_ok, err_cost, unwritten_met, unprepared_ends, unanswered_ends}
-use Rattle.session_run.proofs.Writing.{at_each}
+use Rattle.session_run.proofs.Writing.{below_unwritten}
 use Rattle.session_run.proofs.line.run_command.Goals as goal
 
 -- ---- no step is prepared
@@ -42,11 +40,7 @@ returns-in_err-prepared-clause-cost g c shelf_tells tells = err_cost _ _ _ c.fro
 
 pub returns-in_err-prepared-clause-below : goal.returns-in_err-prepared-clause-below
 returns-in_err-prepared-clause-below g c tells =
-    let h = g.H.Host in
-    let start = c.args.host.now in
-    started h.moment h.might start (IsBelowMark h start) (λ l r u met.
-    let now = g.met.H.Host.only_now start l r u tells met in
-    at_each h start start l r now.0 now.1)
+    below_unwritten g.H.Host c.args.host.now (λ l r u met. g.met.H.Host.only_now c.args.host.now l r u tells met)
 
 -- ---- or no answer is built
 
@@ -69,11 +63,7 @@ returns-in_err-text-clause-cost g c shelf_tells tells = err_cost _ _ _ c.from_re
 
 pub returns-in_err-text-clause-below : goal.returns-in_err-text-clause-below
 returns-in_err-text-clause-below g c tells =
-    let h = g.H.Host in
-    let start = c.args.host.now in
-    started h.moment h.might start (IsBelowMark h start) (λ l r u met.
-    let now = g.met.H.Host.only_now start l r u tells met in
-    at_each h start start l r now.0 now.1)
+    below_unwritten g.H.Host c.args.host.now (λ l r u met. g.met.H.Host.only_now c.args.host.now l r u tells met)
 
 -- ---- it is committed on the client that the preparing left
 

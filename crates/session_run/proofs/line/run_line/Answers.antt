@@ -4,16 +4,15 @@ use Rattle.client_core.specs.Clients.{state_of, end_of}
 use Rattle.gate_journal.specs.Costs.{HasCost}
 use Rattle.client_core.specs.Places.{bytes_for}
 use Rattle.client_core.specs.Settings.{setting}
-use Rattle.host_model.proofs.Meeting.{started}
 use Rattle.client_core.proofs.Holding.{all_kept}
 use Rattle.client_core.proofs.Placing.{place_same, bytes_same}
 use Rattle.client_words.specs.declared.command.LineFault.TheVariants.{OutOfMemory}
 use Rattle.client_words.specs.Commands.{command_of}
 use Rattle.session_run.specs.Steps.{RunState, run_of}
 use Rattle.session_run.proofs.Answering.{met_as, ends_as}
+use Rattle.session_run.proofs.Asking.{line_unasked, line_asked}
 use Rattle.session_run.proofs.Outcomes.{unwritten_met, always_ok, both_ok, run_same, read_ok, read_err, after-command, answer-command, after-fault, answer-fault}
-use Rattle.session_run.specs.Writes.{IsBelowMark}
-use Rattle.session_run.proofs.Writing.{at_each}
+use Rattle.session_run.proofs.Writing.{below_unwritten}
 use Rattle.session_run.proofs.line.run_line.Goals as goal
 
 -- ---- a command
@@ -67,7 +66,15 @@ returns-in-Ok-clause-cost g c shelf_tells tells =
 pub returns-in-Ok-clause-named : goal.returns-in-Ok-clause-named
 returns-in-Ok-clause-named g c is = record { command = c.in-Ok.command; is_command = read_ok c.in-Ok.command (command_of c.args.line.now) c.in-Ok.ensures; names = c.run_command.ensures.named is }
 
+pub returns-in-Ok-clause-asked : goal.returns-in-Ok-clause-asked
+returns-in-Ok-clause-asked g c =
+    let line = c.args.line.now in
+    line_asked g.F.Shelf line c.in-Ok.command c.args.shelf.now c.run_command.new.shelf (read_ok c.in-Ok.command (command_of line) c.in-Ok.ensures) c.run_command.ensures.asked
+
 -- ---- no command
+
+pub returns-in-Err-clause-asked : goal.returns-in-Err-clause-asked
+returns-in-Err-clause-asked g c = line_unasked g.F.Shelf c.args.line.now c.args.shelf.now
 
 pub returns-in-Err-clause-any_moment : goal.returns-in-Err-clause-any_moment
 returns-in-Err-clause-any_moment g c shelf_tells tells gate =
@@ -136,8 +143,7 @@ returns-in-Err-OutOfMemory-clause-any_moment g c shelf_tells tells gate =
 
 pub returns-in-Err-OutOfMemory-clause-below : goal.returns-in-Err-OutOfMemory-clause-below
 returns-in-Err-OutOfMemory-clause-below g c tells =
-    let h = g.H.Host in
-    let start = c.args.host.now in
-    started h.moment h.might start (IsBelowMark h start) (λ l r u met.
-    let now = g.met.H.Host.only_now start l r u tells met in
-    at_each h start start l r now.0 now.1)
+    below_unwritten g.H.Host c.args.host.now (λ l r u met. g.met.H.Host.only_now c.args.host.now l r u tells met)
+
+pub returns-in-Err-OutOfMemory-clause-asked : goal.returns-in-Err-OutOfMemory-clause-asked
+returns-in-Err-OutOfMemory-clause-asked g c = line_unasked g.F.Shelf c.args.line.now c.args.shelf.now

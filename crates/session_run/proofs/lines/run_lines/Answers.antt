@@ -9,19 +9,21 @@ use Rattle.client_core.specs.OpenStore.{AllKept, AllStand}
 use Rattle.client_core.specs.Settings.{setting}
 use Rattle.client_core.proofs.Holding.{all_kept, all_stand}
 use Rattle.session_run.specs.declared.faults.RunFault.{RunFault}
-use Rattle.client_words.specs.Commands.{part_at}
+use Rattle.client_words.specs.Commands.{bytes_at}
 use Rattle.session_run.specs.Places.{all_bytes}
 use Rattle.session_run.specs.Steps.{RunState, run_of, begun, after, out}
+use Rattle.session_run.specs.Files.{LinesAsked}
 use Rattle.session_run.specs.Moments.{AfterPrefix}
 use Rattle.session_run.specs.Runs.{LinesRan}
 use Rattle.session_run.specs.Writes.{IsBelowMark}
+use Rattle.session_run.proofs.Asking.{none_asked, asked_more}
 use Rattle.session_run.proofs.Ending.{err_is}
 use Rattle.session_run.proofs.Lining.{state_more, said_more, place_more, cost_more, most_more, changes_here, met_more, ends_more}
 use Rattle.session_run.proofs.Placing.{line_within, line_more, line_at}
 use Rattle.session_run.proofs.Running.{some_at_start}
 use Rattle.session_run.proofs.Starting.{begin}
 use Rattle.session_run.proofs.Stepping.{same_setting}
-use Rattle.session_run.proofs.Writing.{at_each, below_then}
+use Rattle.session_run.proofs.Writing.{met_now, at_each, below_unwritten, below_then}
 use Rattle.session_run.proofs.lines.run_lines.Goals as goal
 
 pub loop-span-init : goal.loop-span-init
@@ -30,10 +32,11 @@ loop-span-init g c =
     let start = c.args.host.now in
     let s = state_of c.args.client.now in
     let at = setting g.F.Shelf c.args.shelf.now c.args.now in
-    let lines = map (part_at c.args.script.now) c.args.spans.now in
+    let lines = map (bytes_at c.args.script.now) c.args.spans.now in
     record {
       holds = c.requires.holds;
       files = λ tells name. refl;
+      asked = none_asked g.F.Shelf c.args.shelf.now;
       state = λ tells. ap (λ session. record { state = s; session = session }) c.requires.session;
       said = λ shelf_tells tells. sym (append-nil (h.said start));
       gate = λ tells gate. gate;
@@ -43,9 +46,7 @@ loop-span-init g c =
           some_at_start at s (end_of c.args.client.now) lines (h.said start) (h.written start) l r u (all_kept h c.args.client.now start (c.requires.holds tells) gate l r now.0 now.1) now.2);
       place = λ tells. refl;
       cost = λ shelf_tells tells. omega arith;
-      below = λ tells. started h.moment h.might start (IsBelowMark h start) (λ l r u met.
-          let now = g.met.H.Host.only_now start l r u tells met in
-          at_each h start start l r now.0 now.1);
+      below = λ tells. below_unwritten h start (λ l r u met. g.met.H.Host.only_now start l r u tells met);
       below_now = λ tells. at_each h start start;
       shelf_faults = omega arith;
       disk_faults = omega arith;
@@ -59,24 +60,25 @@ returns-in_err-run_line-clause-ran g c shelf_tells tells =
     let s = state_of c.args.client.now in
     let script = c.args.script.now in
     let spans = c.args.spans.now in
-    let lines = map (part_at script) spans in
+    let lines = map (bytes_at script) spans in
     let i = c.loop-span.span-index in
     let inv = c.loop-span.invariant in
     let new = c.run_line.new.host in
-    let line = c.part.result.now in
+    let line = c.bytes_at-line.result.now in
     let fault = c.in_err-run_line.field-0.0 in
     let place = end_of c.args.client.now in
     let written = h.written c.args.host.now in
     let start = begin at s place lines (h.said c.args.host.now) written in
     let gated = HasGateOn h c.args.client.now c.args.host.now in
     let same = same_setting g.F.Shelf c.args.shelf.now c.loop-span.shelf c.args.now (inv.files shelf_tells) in
-    let within = line_within script spans i _ line c.loop-span-test.true c.part.ensures in
-    let more = line_more script spans i _ line c.loop-span-test.true c.part.ensures in
-    let there = line_at script spans i _ line c.loop-span-test.true c.part.ensures in
-    subst (λ (r : Result (Unit {0}) RunFault). LinesRan h gated start c.args.host.now new r) (sym (err_is c.from_residual.result fault c.from_residual.ensures.1)) (record {
+    let within = line_within script spans i _ line c.loop-span-test.true c.bytes_at-line.ensures in
+    let more = line_more script spans i _ line c.loop-span-test.true c.bytes_at-line.ensures in
+    let there = line_at script spans i _ line c.loop-span-test.true c.bytes_at-line.ensures in
+    subst (λ (r : Result (Unit {0}) RunFault). LinesRan h (LinesAsked g.F.Shelf c.args.shelf.now c.run_line.new.shelf) gated start c.args.host.now new r) (sym (err_is c.from_residual.result fault c.from_residual.ensures.1)) (record {
       moments = λ gate. met_more at _ same s lines i line within more (run_of c.loop-span.client) (inv.state shelf_tells) h c.args.host.now c.loop-span.host new (inv.said shelf_tells tells) place written (inv.any_moment shelf_tells tells gate)
           (c.run_line.ensures.any_moment shelf_tells tells (inv.gate tells gate));
-      ends = λ gate. ends_more at _ same s lines i line within more (run_of c.loop-span.client) (inv.state shelf_tells) h c.args.host.now c.loop-span.host new (inv.said shelf_tells tells) place written fault
+      ends = λ gate. ends_more at _ same s lines i line within more (run_of c.loop-span.client) (inv.state shelf_tells) h c.args.host.now c.loop-span.host new (inv.said shelf_tells tells) (LinesAsked g.F.Shelf c.args.shelf.now c.run_line.new.shelf) place written fault
+          (asked_more g.F.Shelf c.args.shelf.now c.loop-span.shelf c.run_line.new.shelf lines i line more inv.asked c.run_line.ensures.asked)
           (most_more at _ same s lines i line within more (run_of c.loop-span.client) (inv.state shelf_tells) place (end_of c.loop-span.client) written (h.written c.loop-span.host) (h.written new) (inv.place shelf_tells) (inv.cost shelf_tells tells) (c.run_line.ensures.cost shelf_tells tells).most) there
           (λ is. c.in_err-run_line.ensures.named (ap Err is)) (c.in_err-run_line.ensures.ends shelf_tells tells (inv.gate tells gate));
       below = below_then h c.args.host.now c.loop-span.host new (g.met.H.Host.read_is_image c.loop-span.host Left tells) (g.met.H.Host.read_is_image c.loop-span.host Right tells) (inv.below tells) (inv.below_now tells) (c.run_line.ensures.below tells);
@@ -95,22 +97,23 @@ loop-span-preserved g c =
     let s = state_of c.args.client.now in
     let script = c.args.script.now in
     let spans = c.args.spans.now in
-    let lines = map (part_at script) spans in
+    let lines = map (bytes_at script) spans in
     let i = c.loop-span.span-index in
     let inv = c.loop-span.invariant in
     let new = c.run_line.new.host in
-    let line = c.part.result.now in
+    let line = c.bytes_at-line.result.now in
     let now = run_of c.loop-span.client in
     let next = run_of c.run_line.new.client in
-    let within = line_within script spans i _ line c.loop-span-test.true c.part.ensures in
-    let more = line_more script spans i _ line c.loop-span-test.true c.part.ensures in
-    let there = line_at script spans i _ line c.loop-span-test.true c.part.ensures in
+    let within = line_within script spans i _ line c.loop-span-test.true c.bytes_at-line.ensures in
+    let more = line_more script spans i _ line c.loop-span-test.true c.bytes_at-line.ensures in
+    let there = line_at script spans i _ line c.loop-span-test.true c.bytes_at-line.ensures in
     let same = λ (tells : f.tells). same_setting f c.args.shelf.now c.loop-span.shelf c.args.now (inv.files tells) in
     let done = c.in_ok-run_line.ensures in
     let below_all = λ (tells : h.tells). below_then h c.args.host.now c.loop-span.host new (g.met.H.Host.read_is_image c.loop-span.host Left tells) (g.met.H.Host.read_is_image c.loop-span.host Right tells) (inv.below tells) (inv.below_now tells) (done.below tells) in
     record {
       holds = done.holds;
       files = λ tells name. done.files tells name ∙ inv.files tells name;
+      asked = asked_more g.F.Shelf c.args.shelf.now c.loop-span.shelf c.run_line.new.shelf lines i line more inv.asked done.asked;
       state = λ tells. state_more at here (same tells) s lines i line within more now (inv.state tells) next (done.state tells);
       said = λ shelf_tells tells. said_more at here (same shelf_tells) s lines i line within more now (inv.state shelf_tells) (h.said c.loop-span.host) (h.said c.args.host.now) (h.said new) (inv.said shelf_tells tells) (done.said shelf_tells tells);
       gate = λ tells gate. done.gate tells (inv.gate tells gate);
@@ -124,7 +127,7 @@ loop-span-preserved g c =
       cost = λ shelf_tells tells. cost_more at here (same shelf_tells) s lines i line within more now (inv.state shelf_tells) (end_of c.args.client.now) (end_of c.loop-span.client) (h.written c.args.host.now) (h.written c.loop-span.host) (h.written new)
           (inv.place shelf_tells) (inv.cost shelf_tells tells) (done.cost shelf_tells tells).exact;
       below = λ tells. below_all tells;
-      below_now = λ tells l r left right. (below_all tells).each l r (h.said new) (g.met.H.Host.counts_now new (h.moment c.args.host.now) l r (h.said new) tells (below_all tells).later (left, right, refl));
+      below_now = λ tells. met_now h c.args.host.now new (IsBelowMark h c.args.host.now) (below_all tells) (g.met.H.Host.counts_now new) tells;
       shelf_faults = omega (arith, inv.shelf_faults, done.shelf_faults);
       disk_faults = omega (arith, inv.disk_faults, done.disk_faults);
       say_faults = omega (arith, inv.say_faults, done.say_faults);
@@ -135,12 +138,12 @@ returns-clause-ran g c shelf_tells tells =
     let h = g.H.Host in
     let at = setting g.F.Shelf c.args.shelf.now c.args.now in
     let s = state_of c.args.client.now in
-    let lines = map (part_at c.args.script.now) c.args.spans.now in
+    let lines = map (bytes_at c.args.script.now) c.args.spans.now in
     let i = c.loop-span.span-index in
     let inv = c.loop-span.invariant in
     let client = c.loop-span.client in
     let host = c.loop-span.host in
-    let whole : i ≡ length lines = omega (arith, length-map c.args.spans.now (part_at c.args.script.now)) in
+    let whole : i ≡ length lines = omega (arith, length-map c.args.spans.now (bytes_at c.args.script.now)) in
     let state = ap (λ (run : RunState). run.state) (inv.state shelf_tells) in
     let text = subst (λ (n : ℕ). h.said host ≡ h.said c.args.host.now ++ out at s lines n) whole (inv.said shelf_tells tells) in
     let cost = subst (λ (n : ℕ). h.written host ≡ h.written c.args.host.now + all_bytes at (end_of c.args.client.now) (begun s) (take n lines)) whole (inv.cost shelf_tells tells) in
@@ -160,6 +163,6 @@ pub returns-clause-state : goal.returns-clause-state
 returns-clause-state g c shelf_tells =
     let at = setting g.F.Shelf c.args.shelf.now c.args.now in
     let s = state_of c.args.client.now in
-    let lines = map (part_at c.args.script.now) c.args.spans.now in
-    let whole : c.loop-span.span-index ≡ length lines = omega (arith, length-map c.args.spans.now (part_at c.args.script.now)) in
+    let lines = map (bytes_at c.args.script.now) c.args.spans.now in
+    let whole : c.loop-span.span-index ≡ length lines = omega (arith, length-map c.args.spans.now (bytes_at c.args.script.now)) in
     subst (λ (n : ℕ). state_of c.loop-span.client ≡ after at s lines n) whole (ap (λ (run : RunState). run.state) (c.loop-span.invariant.state shelf_tells))

@@ -4,8 +4,9 @@ use Rattle.host_model.specs.declared.side.Side.TheVariants.{Left, Right}
 use Rattle.host_model.specs.Hosts.{MeetsAll}
 use Rattle.client_core.specs.Clients.{state_of, end_of, IsOpenOn, HasGateOn}
 use Rattle.client_core.specs.Settings.{setting}
-use Rattle.client_words.specs.Commands.{part_at}
+use Rattle.client_words.specs.Commands.{bytes_at}
 use Rattle.session_run.specs.Steps.{run_of, begun, run_at, after, out}
+use Rattle.session_run.specs.Files.{LinesAsked}
 use Rattle.session_run.specs.Moments.{AfterPrefix}
 use Rattle.session_run.specs.Places.{all_places, all_bytes}
 use Rattle.session_run.specs.Writes.{IsBelowMark}
@@ -17,12 +18,13 @@ invariant-loop-span g l =
     let h = g.H.Host in
     let f = g.F.Shelf in
     let at = setting f l.fn.shelf l.now in
-    let lines = map (part_at l.script) l.spans in
+    let lines = map (bytes_at l.script) l.spans in
     let s = state_of l.fn.client in
     let i = l.span-index in
     record {
       holds : h.tells → IsOpenOn h l.client l.host;
       files : f.tells → (name : List ℕ) → f.file l.shelf name ≡ f.file l.fn.shelf name;
+      asked : LinesAsked f l.fn.shelf l.shelf (take i lines);
       state : f.tells → run_of l.client ≡ run_at at s lines i;
       said : f.tells → h.tells → h.said l.host ≡ h.said l.fn.host ++ out at s lines i;
       gate : h.tells → HasGateOn h l.fn.client l.fn.host → HasGateOn h l.client l.host;

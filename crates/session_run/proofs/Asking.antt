@@ -1,0 +1,35 @@
+-- Which files lines ask for, line by line.
+use Rattle.std.proofs.Common.{◌≡◌, inl, inr, ℕ, ◌+◌, List, [], ◌∷◌, ◌++◌, take, refl, sym, ◌∙◌, ap, subst, append_assoc, Ok}
+use Rattle.std.proofs.lemmas.List.{append-nil}
+use Rattle.host_model.specs.ShelfLaws.{reached_then}
+use Rattle.host_model.specs.declared.shelf.Shelf.{Ghosts}
+use Rattle.client_core.specs.declared.command.Command.{Command}
+use Rattle.client_core.specs.Commands.{HasAsked}
+use Rattle.client_words.specs.Commands.{command_of}
+use Rattle.session_run.specs.Files.{LineAsksFor, LinesAskFor, LineAsked, LinesAsked}
+
+module _ (line : List ℕ) (last : List (List ℕ)) (asks : LineAsksFor line last) where
+  asks_more : (lines names : List (List ℕ)) → LinesAskFor lines names → LinesAskFor (lines ++ line ∷ []) (names ++ last)
+  asks_more [] names none = (last, [], asks, refl, ap (λ (n : List (List ℕ)). n ++ last) none ∙ sym (append-nil last))
+  asks_more (first ∷ lines) names (here, rest, first_asks, rest_asks, both) =
+      (here, rest ++ last, first_asks, asks_more lines rest rest_asks, ap (λ (n : List (List ℕ)). n ++ last) both ∙ append_assoc here rest last)
+
+module _ {F : Type 0} (f : Ghosts F) where
+  -- a line of which no command is done
+  pub line_unasked : (line : List ℕ) (shelf : F) → LineAsked f line shelf shelf
+  line_unasked line shelf = record { names = []; for_line = inl refl; reached = refl }
+
+  -- a line of which one is
+  pub line_asked : (line : List ℕ) (command : Command) (old new : F) → command_of line ≡ Ok command → HasAsked f command old new → LineAsked f line old new
+  line_asked line command old new is asked = record { names = asked.names; for_line = inr (command, is, asked.files); reached = asked.reached }
+
+  pub none_asked : (shelf : F) → LinesAsked f shelf shelf []
+  none_asked shelf = record { names = []; for_lines = refl; reached = refl }
+
+  -- a line more
+  pub asked_more : (old mid new : F) (lines : List (List ℕ)) (i : ℕ) (line : List ℕ) → take (i + 1) lines ≡ take i lines ++ line ∷ [] → LinesAsked f old mid (take i lines) → LineAsked f line mid new → LinesAsked f old new (take (i + 1) lines)
+  asked_more old mid new lines i line more before now = subst (LinesAsked f old new) (sym more) (record {
+    names = before.names ++ now.names;
+    for_lines = asks_more line now.names now.for_line (take i lines) before.names before.for_lines;
+    reached = reached_then f.asks old before.names mid now.names new before.reached now.reached;
+  })

@@ -1,0 +1,43 @@
+-- A store is made, and then its answer is said, whole or in part.
+use Rattle.std.proofs.Common.{◌≡◌, ◌+◌, ℕ, List, sym, ◌∙◌, subst, arith}
+use Rattle.host_model.specs.declared.side.Side.{Side}
+use Rattle.host_model.specs.declared.side.Side.TheVariants.{Left, Right}
+use Rattle.host_model.specs.declared.host.Host.{Ghosts}
+use Rattle.host_model.specs.Hosts.{MeetsAll}
+use Rattle.host_model.specs.Moments.{IsSaying, Elapses, KeepsSide}
+use Rattle.row_store.specs.Rows.{HasRows}
+use Rattle.enrol_states.specs.State.{fresh}
+use Rattle.state_codec.specs.Spelling.{rows_of}
+use Rattle.client_core.specs.Moments.{IsQuiet}
+use Rattle.client_core.specs.OpenStore.{AllKept}
+use Rattle.client_core.specs.Places.{making_bytes}
+use Rattle.client_core.specs.Store.{IsAbsent}
+use Rattle.session_run.specs.declared.status.RunStatus.{RunStatus}
+use Rattle.session_run.specs.declared.status.RunStatus.TheVariants.{OutOfMemory}
+use Rattle.session_run.specs.Making.{ready, DuringMaking, MakingEnds, Made}
+use Rattle.session_run.specs.Writes.{IsBelowMark}
+use Rattle.session_run.proofs.Beginning.{said_met}
+use Rattle.session_run.proofs.Judging.{among_not_absent}
+
+-- what is known of a store that was made for this id
+pub record IsMade {H : Type 0} (h : Ghosts H) (old mid : H) (id : List ℕ) (now : ℕ) : Type 0 where
+  pub kept : AllKept h mid (fresh id now)
+  pub spelled : HasRows (h.reads mid Left) (h.reads mid Right) (rows_of (fresh id now))
+  pub cost : h.written mid ≡ h.written old + making_bytes (fresh id now)
+
+module _ {H : Type 0} (h : Ghosts H) (old mid new : H) (id text : List ℕ) (now : ℕ) (is_ready : text ≡ ready id) (absent : IsAbsent (h.reads old Left) (h.reads old Right)) (left : h.images old Left (h.reads old Left)) (right : h.images old Right (h.reads old Right))
+    (made : IsMade h old mid id now) (quiet : MeetsAll h old mid (IsQuiet (h.said old))) (same : h.said mid ≡ h.said old) (still : (side : Side) → KeepsSide h.reads h.images side mid new) (written : h.written new ≡ h.written mid)
+    (time : Elapses (h.moment mid) (h.moment new) (h.might mid) (h.might new) (IsSaying (h.images new) (h.said mid) text)) (below : MeetsAll h old new (IsBelowMark h old)) where
+  pub made_said : (status : RunStatus) → MakingEnds h (fresh id now) (ready id) (h.said old) new status → ¬ (status ≡ OutOfMemory) → Made h id now old new status
+  made_said status ends other = record {
+    moments = subst (λ (u : List ℕ). MeetsAll h old new (DuringMaking (h.said old) (fresh id now) u)) is_ready (said_met h old mid new (fresh id now) text still made.kept quiet same time);
+    ends = ends;
+    left = λ states all. absurd (among_not_absent (h.reads old Left) (h.reads old Right) states (all (h.reads old Left) (h.reads old Right) left right) absent);
+    memory = λ is. absurd (other is);
+    spelled = λ is.
+        subst (λ (c : List ℕ). HasRows c (h.reads new Right) (rows_of (fresh id now))) (sym (still Left).reads_same)
+        (subst (λ (c : List ℕ). HasRows (h.reads mid Left) c (rows_of (fresh id now))) (sym (still Right).reads_same) made.spelled);
+    cost = λ is. written ∙ made.cost;
+    most = λ is. omega (arith, written, made.cost);
+    below = below;
+  }
