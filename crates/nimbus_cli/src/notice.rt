@@ -23,7 +23,11 @@ commands of `nimbus run`:
   context FILE           takes the context of this file: the application, its version and place
   fetch FILE             takes the recipes of this file, for a later apply
   apply                  makes the fetched recipes live, and each enrolment follows its recipe
-  participate yes|no     whether the client takes part in experiments
+  participate yes|no     whether the client takes part in experiments and rollouts
+  participate experiments yes|no
+                         whether it takes part in experiments
+  participate rollouts yes|no
+                         whether it takes part in rollouts
   opt-out SLUG           opts the slug out, and ends its enrolment
   opt-in SLUG BRANCH     enrols the client in this branch of the slug's recipe
   reset ID               gives the client another id, with no rows and no opt-outs

@@ -12,6 +12,8 @@ const FORMS: &str = "nimbus init ID\n\
     fetch FILE\n\
     apply\n\
     participate yes|no\n\
+    participate experiments yes|no\n\
+    participate rollouts yes|no\n\
     opt-out SLUG\n\
     opt-in SLUG BRANCH\n\
     reset ID\n\
