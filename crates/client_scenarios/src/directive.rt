@@ -13,6 +13,8 @@
 //! | `>> TEXT` | the text goes on with this one |
 //! | `repeat COUNT TEXT` | the text goes on with this one, so many times |
 //! | `byte NUMBER COUNT` | the text goes on with this byte, so many times |
+//! | `lines COUNT TEXT` | the text goes on with so many lines, each of which is this one |
+//! | `numbered COUNT TEXT` | the text goes on with so many lines, each of which is this one with its number from 0 on behind it |
 //! | `hex DIGITS` | the text goes on with the bytes of these hexadecimal digits |
 //! | `file NAME` | the text becomes a file, and is empty then |
 //! | `record SLUG FEATURE VALUE MEMBERS` | the next record of a payload, all of whose clients are in its branch `treatment`, which lays the value over the feature; the members, each with a comma before it, stand at its end |
@@ -27,6 +29,7 @@
 //! | `at MOMENT` | calls from here on are made at this moment |
 //! | `room COUNT` | both sides become empty and have room for so many bytes |
 //! | `pieces COUNT` | the source gives at most so many bytes at once |
+//! | `side SIDE` | a side becomes the text, which is empty then |
 //! | `put SIDE PLACE BYTE` | a byte of a side becomes this one |
 //! | `cut SIDE LENGTH` | a side loses what stands behind so many bytes |
 //! | `fail CALLS NUMBER` | in the next call of the program the call with this number fails, among those of the `source`, the `shelf` or the `host`, or among the host's of one kind: `write`, `sync` or `say` |
@@ -43,6 +46,7 @@
 //! | Line | Meaning |
 //! |---|---|
 //! | `< TEXT` | it has said this line |
+//! | `said` | it has said the text, which is empty then |
 //! | `tail TEXT` | it has said this line; what it has said before the last such line isn't looked at |
 //! | `ends STATUS` | it has ended so and has said no more |
 //! | `exit NUMBER` | the number of its status is this one |
@@ -50,10 +54,13 @@
 //! | `sum NUMBER TEXT` | the numbers at the ends of the lines that it has said behind the last one that is this text have this sum |
 //! | `unchanged` | the sides are as they were before it, and none of them was written |
 //! | `grown` | the left side is longer than before it |
+//! | `wrote COUNT` | it has written so many bytes |
 //! | `holds LEFT RIGHT` | the sides have so many bytes |
 //! | `bytes SIDE` | the side has the text's bytes; the text is empty then |
 //! | `images LEFT RIGHT` | a run of `show` over what a crash then leaves of the sides (`old`, `new` or `torn`, or each of these at `each`) ends with `Done` and says the text, which is empty then |
-//! | `faults COUNT WORDS` | the program is called with these words and the text as its script, which is empty then, once for each of the first so many calls of the host, which fails: it ends with `Done`, `DiskFault` or `SayFault`, and a run of `show` over each pair of images says the file `after`, or the file `before` where nothing was said |
+//! | `faults CALLS COUNT WORDS` | the program is called with these words and the text as its script, which is empty then, once for each of the first so many calls of the `source`, the `shelf` or the `host`, which fails: it ends with `Done` or with a fault of these, and a run of `show` over each pair of images says the file `before` until the file `answers` is said whole, this or the file `after` then, and `after` where more is said |
+//! | `cuts SIDE FIRST LAST STATUS` | a run of no line ends so where a side has only so many bytes, for each number from the first to the last |
+//! | `puts SIDE FIRST LAST BYTE STATUS` | a run of no line ends so where a byte of a side is this one, for each place from the first to the last |
 use host_model::{Choice, Side};
 use plain_text::read_number;
 
@@ -63,6 +70,7 @@ pub(crate) enum Directive<'a> {
     Begin(&'a str),
     Input(Input<'a>),
     Change(Change),
+    Side(Side),
     Call(Call<'a>),
     Check(Check<'a>),
 }
@@ -73,6 +81,8 @@ pub(crate) enum Input<'a> {
     Line(&'a str),
     Part(&'a str),
     Repeat(usize, &'a str),
+    Lines(usize, &'a str),
+    NumberedLines(usize, &'a str),
     Byte(u8, usize),
     Hex(&'a str),
     File(&'a str),
@@ -115,6 +125,7 @@ pub(crate) enum Call<'a> {
 #[derive(Clone, Copy)]
 pub(crate) enum Check<'a> {
     Said(&'a str),
+    SaidText,
     Tail(&'a str),
     Ends(&'a str),
     Exit(u8),
@@ -122,10 +133,23 @@ pub(crate) enum Check<'a> {
     Sum(u64, &'a str),
     Unchanged,
     Grown,
+    Wrote(u64),
     Holds(usize, usize),
     Bytes(Side),
     Images(Images, Images),
-    Faults(u64, &'a str),
+    Faults(Calls, u64, &'a str),
+    EndsWhere(Alterations<'a>),
+}
+
+/// Sides that are altered, each in its own call, and the status with which each of these ends.
+#[derive(Clone, Copy)]
+pub(crate) struct Alterations<'a> {
+    pub(crate) side: Side,
+    pub(crate) first: usize,
+    pub(crate) last: usize,
+    /// The byte that stands at each of these places, or none where a side has so many bytes only.
+    pub(crate) byte: Option<u8>,
+    pub(crate) status: &'a str,
 }
 
 /// Which images of a side.
@@ -144,6 +168,7 @@ impl<'a> Directive<'a> {
         let (word, rest) = cut(line);
         match word {
             "==" => Some(Directive::Begin(rest)),
+            "side" => Some(Directive::Side(side(rest)?)),
             "call" => Some(Directive::Call(Call::Script(rest))),
             "again" => Some(Directive::Call(Call::Again(rest))),
             _ => of_others(word, rest),
@@ -166,6 +191,8 @@ fn read_input<'a>(word: &str, rest: &'a str) -> Option<Input<'a>> {
         ">" => Some(Input::Line(rest)),
         ">>" => Some(Input::Part(rest)),
         "repeat" => repeated(rest),
+        "lines" => lines(rest),
+        "numbered" => numbered_lines(rest),
         "byte" => filled(rest),
         "hex" => Some(Input::Hex(rest)),
         "file" => Some(Input::File(rest)),
@@ -180,6 +207,16 @@ fn read_input<'a>(word: &str, rest: &'a str) -> Option<Input<'a>> {
 fn repeated<'a>(rest: &'a str) -> Option<Input<'a>> {
     let (number, text) = cut(rest);
     Some(Input::Repeat(count(number)?, text))
+}
+
+fn lines<'a>(rest: &'a str) -> Option<Input<'a>> {
+    let (number, text) = cut(rest);
+    Some(Input::Lines(count(number)?, text))
+}
+
+fn numbered_lines<'a>(rest: &'a str) -> Option<Input<'a>> {
+    let (number, text) = cut(rest);
+    Some(Input::NumberedLines(count(number)?, text))
 }
 
 fn filled<'a>(rest: &'a str) -> Option<Input<'a>> {
@@ -235,6 +272,7 @@ fn read_calls(name: &str) -> Option<Calls> {
 fn read_check<'a>(word: &str, rest: &'a str) -> Option<Check<'a>> {
     match word {
         "<" => Some(Check::Said(rest)),
+        "said" => Some(Check::SaidText),
         "tail" => Some(Check::Tail(rest)),
         "ends" => Some(Check::Ends(rest)),
         "exit" => Some(Check::Exit(byte(rest)?)),
@@ -242,6 +280,7 @@ fn read_check<'a>(word: &str, rest: &'a str) -> Option<Check<'a>> {
         "sum" => sum(rest),
         "unchanged" => Some(Check::Unchanged),
         "grown" => Some(Check::Grown),
+        "wrote" => Some(Check::Wrote(number(rest)?)),
         _ => read_check_of_sides(word, rest),
     }
 }
@@ -252,9 +291,44 @@ fn read_check_of_sides<'a>(word: &str, rest: &'a str) -> Option<Check<'a>> {
         "holds" => Some(Check::Holds(count(first)?, count(second)?)),
         "bytes" => Some(Check::Bytes(side(rest)?)),
         "images" => Some(Check::Images(read_images(first)?, read_images(second)?)),
-        "faults" => Some(Check::Faults(number(first)?, second)),
+        "faults" => faults(rest),
+        "cuts" => Some(Check::EndsWhere(cuts(rest)?)),
+        "puts" => Some(Check::EndsWhere(puts(rest)?)),
         _ => None,
     }
+}
+
+fn faults<'a>(rest: &'a str) -> Option<Check<'a>> {
+    let (calls, rest) = cut(rest);
+    let (times, words) = cut(rest);
+    Some(Check::Faults(read_calls(calls)?, number(times)?, words))
+}
+
+fn cuts<'a>(rest: &'a str) -> Option<Alterations<'a>> {
+    let (name, rest) = cut(rest);
+    let (first, rest) = cut(rest);
+    let (last, status) = cut(rest);
+    Some(Alterations {
+        side: side(name)?,
+        first: count(first)?,
+        last: count(last)?,
+        byte: None,
+        status,
+    })
+}
+
+fn puts<'a>(rest: &'a str) -> Option<Alterations<'a>> {
+    let (name, rest) = cut(rest);
+    let (first, rest) = cut(rest);
+    let (last, rest) = cut(rest);
+    let (number, status) = cut(rest);
+    Some(Alterations {
+        side: side(name)?,
+        first: count(first)?,
+        last: count(last)?,
+        byte: Some(byte(number)?),
+        status,
+    })
 }
 
 fn sum<'a>(rest: &'a str) -> Option<Check<'a>> {

@@ -24,6 +24,7 @@ pub(crate) struct FailingHost {
     writes: Countdown,
     syncs: Countdown,
     says: Countdown,
+    written: u64,
     disk_faults: u64,
     say_faults: u64,
     ghost fits: { (disk_faults < 2 ^ 64) × (say_faults < 2 ^ 64) },
@@ -42,6 +43,7 @@ impl FailingHost {
             writes,
             syncs,
             says,
+            written: 0,
             disk_faults: 0,
             say_faults: 0,
         }
@@ -55,6 +57,11 @@ impl FailingHost {
         choice: Choice,
     ) -> Result<Vec<u8>, AllocError> {
         self.host.image(alloc, side, choice)
+    }
+
+    /// How many bytes were written.
+    pub(crate) fn written(&self) -> u64 {
+        self.written
     }
 
     /// The text said.
@@ -131,7 +138,10 @@ impl Host for FailingHost {
             return Err(self.disk_fault());
         }
         match self.host.write_at(side, at, bytes) {
-            Ok(()) => Ok(()),
+            Ok(()) => {
+                self.written = self.written.saturating_add(bytes.len() as u64);
+                Ok(())
+            }
             Err(_) => Err(self.disk_fault()),
         }
     }

@@ -52,6 +52,8 @@ impl Inputs {
             Input::Line(text) => self.line(text),
             Input::Part(text) => self.repeat(1, text),
             Input::Repeat(count, text) => self.repeat(count, text),
+            Input::Lines(count, text) => self.lines(count, text),
+            Input::NumberedLines(count, text) => self.numbered_lines(alloc, count, text),
             Input::Byte(byte, count) => self.fill(byte, count),
             Input::Hex(digits) => self.hex(alloc, digits),
             Input::File(name) => self.file(alloc, name),
@@ -95,6 +97,26 @@ impl Inputs {
     fn repeat(&mut self, count: usize, text: &str) -> Result<(), AllocError> {
         for _ in 0..count {
             self.text.extend_from_slice(text.as_bytes())?;
+        }
+        Ok(())
+    }
+
+    fn lines(&mut self, count: usize, text: &str) -> Result<(), AllocError> {
+        for _ in 0..count {
+            self.line(text)?;
+        }
+        Ok(())
+    }
+
+    fn numbered_lines(
+        &mut self,
+        alloc: Global,
+        count: usize,
+        text: &str,
+    ) -> Result<(), AllocError> {
+        for number in 0..count {
+            let line = format!(in alloc; "{text}{number}")?;
+            self.line(&line)?;
         }
         Ok(())
     }

@@ -1,4 +1,5 @@
 //! What differs from what is wanted, in words.
+use crate::directive::Calls;
 use plain_text::read_number;
 use session_run::RunStatus;
 use std::alloc::{AllocError, Global};
@@ -67,12 +68,17 @@ pub(crate) fn difference_of_end(
     Ok(Some(text))
 }
 
-/// Whether a call that met one failing call of its host may end so.
-pub(crate) fn is_end_at_fault(status: RunStatus) -> bool {
-    matches!(
-        status,
-        RunStatus::Done | RunStatus::DiskFault | RunStatus::SayFault
-    )
+/// Whether a call in which one of these calls failed may end so.
+pub(crate) fn is_end_at_fault(calls: Calls, status: RunStatus) -> bool {
+    match status {
+        RunStatus::Done => true,
+        RunStatus::SourceFault => matches!(calls, Calls::Source),
+        RunStatus::ShelfFault => matches!(calls, Calls::Shelf),
+        RunStatus::DiskFault | RunStatus::SayFault => {
+            !matches!(calls, Calls::Source | Calls::Shelf)
+        }
+        _ => false,
+    }
 }
 
 /// What stands from the last line on that is this one, if there is one.

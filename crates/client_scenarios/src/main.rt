@@ -3,6 +3,7 @@
 //! found and what was wanted, and the last one how many passed. `directive` says how a scenario is written.
 #![tactic(auto)]
 
+mod alterations;
 mod directive;
 mod host;
 mod inputs;

@@ -40,10 +40,10 @@ impl Faults {
         }
     }
 
-    /// The call of the host with this number fails.
-    pub(crate) fn of_host(number: u64) -> Faults {
+    /// The call with this number fails.
+    pub(crate) fn of(calls: Calls, number: u64) -> Faults {
         let mut faults = Faults::none();
-        faults.host = number;
+        faults.add(calls, number);
         faults
     }
 
@@ -103,6 +103,11 @@ impl Outside {
             Change::Cut(side, length) => self.side(side).truncate(length),
             Change::Fail(calls, number) => self.faults.add(calls, number),
         }
+    }
+
+    /// A side becomes these bytes.
+    pub(crate) fn become_bytes(&mut self, side: Side, bytes: Vec<u8>) {
+        *self.side(side) = bytes;
     }
 
     /// The calls that fail in the next call of the program, and in none behind it.

@@ -1,5 +1,6 @@
 //! A scenario as far as it is done.
-use crate::directive::{Call, Check, Directive, Images};
+use crate::alterations::difference_over;
+use crate::directive::{Call, Calls, Check, Directive, Images};
 use crate::inputs::Inputs;
 use crate::judging::{
     difference, difference_of, difference_of_end, failing, is_end_at_fault, sum_behind_first, tail,
@@ -62,6 +63,7 @@ impl Scenario {
             Directive::Begin(name) => self.begin(alloc, name)?,
             Directive::Input(input) => self.inputs.write(alloc, input)?,
             Directive::Change(change) => self.outside.change(alloc, change),
+            Directive::Side(side) => self.become_text(alloc, side),
             Directive::Call(Call::Script(words)) => self.call(alloc, words)?,
             Directive::Call(Call::Again(words)) => self.call_again(alloc, words)?,
             Directive::Check(check) => return self.judge(alloc, check),
@@ -79,6 +81,11 @@ impl Scenario {
         self.outside = Outside::new(alloc);
         self.last = None;
         Ok(())
+    }
+
+    fn become_text(&mut self, alloc: Global, side: Side) {
+        let text = self.inputs.take_text(alloc);
+        self.outside.become_bytes(side, text);
     }
 
     fn call(&mut self, alloc: Global, words: &str) -> Result<(), AllocError> {
@@ -138,6 +145,7 @@ impl Scenario {
     ) -> Result<Option<String>, AllocError> {
         match check {
             Check::Said(text) => self.want(text),
+            Check::SaidText => self.want_text(alloc),
             Check::Tail(text) => self.want_at_end(alloc, text),
             Check::Ends(status) => self.judge_end(alloc, status),
             Check::Exit(code) => self.judge_code(alloc, code),
@@ -145,16 +153,24 @@ impl Scenario {
             Check::Sum(sum, line) => self.judge_sum(alloc, sum, line),
             Check::Unchanged => self.judge_change(alloc),
             Check::Grown => self.judge_growth(alloc),
+            Check::Wrote(count) => self.judge_written(alloc, count),
             Check::Holds(left, right) => self.judge_lengths(alloc, left, right),
             Check::Bytes(side) => self.judge_bytes(alloc, side),
             Check::Images(left, right) => self.judge_images(alloc, left, right),
-            Check::Faults(count, words) => self.judge_faults(alloc, count, words),
+            Check::Faults(calls, count, words) => self.judge_faults(alloc, calls, count, words),
+            Check::EndsWhere(altered) => difference_over(alloc, &self.outside, altered),
         }
     }
 
     fn want(&mut self, text: &str) -> Result<Option<String>, AllocError> {
         self.wanted.extend_from_slice(text.as_bytes())?;
         self.wanted.push(b'\n')?;
+        Ok(None)
+    }
+
+    fn want_text(&mut self, alloc: Global) -> Result<Option<String>, AllocError> {
+        let text = self.inputs.take_text(alloc);
+        self.wanted.extend_from_slice(&text)?;
         Ok(None)
     }
 
@@ -209,6 +225,13 @@ impl Scenario {
     fn judge_growth(&self, alloc: Global) -> Result<Option<String>, AllocError> {
         let has_grown = self.outside.left.len() > self.left_before.len();
         failing(alloc, has_grown, "the left side has not grown")
+    }
+
+    fn judge_written(&self, alloc: Global, count: u64) -> Result<Option<String>, AllocError> {
+        match &self.last {
+            Some(ended) => difference_of(alloc, "it has written", ended.host.written(), count),
+            None => failing(alloc, false, "there was no call"),
+        }
     }
 
     fn judge_lengths(
@@ -287,12 +310,14 @@ impl Scenario {
     fn judge_faults(
         &mut self,
         alloc: Global,
+        calls: Calls,
         count: u64,
         words: &str,
     ) -> Result<Option<String>, AllocError> {
         let script = self.inputs.take_text(alloc);
         for number in 1..=count {
-            if let Some(found) = self.judge_fault(alloc, number, words, &script)? {
+            let ended = self.ended_at_fault(alloc, Faults::of(calls, number), words, &script)?;
+            if let Some(found) = self.judge_fault(alloc, calls, &ended)? {
                 let text = format!(in alloc; "call {number} fails: {found}")?;
                 return Ok(Some(text));
             }
@@ -300,33 +325,31 @@ impl Scenario {
         Ok(None)
     }
 
-    // What differs where this call of the host fails.
+    // What differs after a call of the program in which one of these calls has failed.
     fn judge_fault(
         &self,
         alloc: Global,
-        number: u64,
-        words: &str,
-        script: &[u8],
+        calls: Calls,
+        ended: &Ended,
     ) -> Result<Option<String>, AllocError> {
-        let ended = self.ended_at_fault(alloc, number, words, script)?;
-        if is_end_at_fault(ended.status) {
-            return self.judge_states(alloc, &ended);
+        if is_end_at_fault(calls, ended.status) {
+            return self.judge_states(alloc, ended);
         }
         let text = format!(in alloc; "ends {}", ended.status)?;
         Ok(Some(text))
     }
 
-    // A call of the program in which this call of the host fails.
+    // A call of the program with these faults.
     fn ended_at_fault(
         &self,
         alloc: Global,
-        number: u64,
+        faults: Faults,
         words: &str,
         script: &[u8],
     ) -> Result<Ended, AllocError> {
-        let source = self.outside.source(alloc, script, Faults::none())?;
-        let shelf = self.inputs.shelf(alloc, 0)?;
-        let host = self.outside.host(alloc, Faults::of_host(number))?;
+        let source = self.outside.source(alloc, script, faults)?;
+        let shelf = self.inputs.shelf(alloc, faults.of_shelf())?;
+        let host = self.outside.host(alloc, faults)?;
         call(alloc, words, self.outside.moment(), source, shelf, host)
     }
 
@@ -343,7 +366,7 @@ impl Scenario {
         Ok(None)
     }
 
-    // What differs between the state that a pair of images shows and the new one, or the old one where it may show that.
+    // What differs between the state that a pair of images shows and the one that it is to show.
     fn judge_state(
         &self,
         alloc: Global,
@@ -353,9 +376,10 @@ impl Scenario {
     ) -> Result<Option<String>, AllocError> {
         let before = self.inputs.bytes_of("before");
         let after = self.inputs.bytes_of("after");
+        let answers = self.inputs.bytes_of("answers").len();
         let shown = self.shown(alloc, ended, left, right)?;
-        let said = shown.host.said();
-        let is_old = ended.host.said().is_empty() && said == before;
+        let (said, answered) = (shown.host.said(), ended.host.said().len());
+        let is_old = answered < answers || (answered == answers && said == before);
         let wanted = if is_old { before } else { after };
         difference_of_end(alloc, shown.status, "Done", said, wanted)
     }

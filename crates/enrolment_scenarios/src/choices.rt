@@ -3,10 +3,11 @@ ghost use Rattle.std.specs.Prelude.{◌≤◌, IfOk};
 ghost use Rattle.enrol_states.specs.Consistent.{IsConsistent};
 
 use crate::inputs::{cut, halves, recipes, slug};
-use crate::shown::{state_text, status_text};
+use crate::shown::{parts_text, state_text, status_text};
 use anyhow::{Context, Result, bail, ensure};
 use enrol_states::{
-    MAX_RECIPES, OptInFault, OptOutFault, State, is_exclusive, opt_in, opt_out, participate, reset,
+    MAX_RECIPES, OptInFault, OptOutFault, Part, State, is_exclusive, opt_in, opt_out, participate,
+    reset,
 };
 use plain_text::{Slug, read_number};
 use std::alloc::Global;
@@ -30,7 +31,7 @@ fn record(alloc: Global, slug: &str, kind: &str, features: &str) -> Result<Strin
 }
 
 // The state of a new store, with these recipes.
-fn with_recipes(alloc: Global, records: &str) -> Result<State>
+pub(crate) fn with_recipes(alloc: Global, records: &str) -> Result<State>
     ensures { IfOk result IsConsistent }
 {
     let recipes = recipes(alloc, records)?;
@@ -73,16 +74,26 @@ fn without(alloc: Global, state: &State, name: &str) -> Result<State>
     }
 }
 
-// The state after a line: `off`, `on`, `reset`, `out` and a slug, or a slug and a branch.
-fn step(alloc: Global, state: &State, line: &str) -> Result<State>
+// Participation in a part is off or on: of one kind where the line names it, as in `rollouts off`.
+fn switch(line: &str) -> Option<(Part, bool)> {
+    match line {
+        "off" => Some((Part::Both, false)),
+        "on" => Some((Part::Both, true)),
+        "experiments off" => Some((Part::Experiments, false)),
+        "experiments on" => Some((Part::Experiments, true)),
+        "rollouts off" => Some((Part::Rollouts, false)),
+        "rollouts on" => Some((Part::Rollouts, true)),
+        _ => None,
+    }
+}
+
+// The state after a line: a switch, `reset`, `out` and a slug, or a slug and a branch.
+pub(crate) fn step(alloc: Global, state: &State, line: &str) -> Result<State>
     requires { IsConsistent state.now }
     ensures { IfOk result IsConsistent }
 {
-    if line == "off" {
-        return Ok(participate(alloc, state, false)?);
-    }
-    if line == "on" {
-        return Ok(participate(alloc, state, true)?);
+    if let Some((part, on)) = switch(line) {
+        return Ok(participate(alloc, state, part, on)?);
     }
     if line == "reset" {
         return Ok(reset(alloc, state, OTHER_ID)?);
@@ -112,6 +123,12 @@ fn run(alloc: Global, state: State, lines: &str) -> Result<State>
 pub(crate) fn shown_after(alloc: Global, input: &str) -> Result<String> {
     let state = with_recipes(alloc, record(alloc, "alpha", "false", HOME)?.as_str())?;
     state_text(alloc, &run(alloc, state, input)?)
+}
+
+/// What the client takes part in, the opt-outs and the rows to which lines lead over four recipes, of which aroll is a
+/// rollout. Row: the lines.
+pub(crate) fn parts_after(alloc: Global, input: &str) -> Result<String> {
+    parts_text(alloc, &run(alloc, rivals(alloc)?, input)?)
 }
 
 /// The answer to an opt-in after lines over four recipes. Row: the lines, a slug and a branch.
@@ -156,14 +173,14 @@ pub(crate) fn status_after(alloc: Global, input: &str) -> Result<String> {
 }
 
 /// What a reset leaves of the client after lines over four recipes: its id, the moments of install and update, whether
-/// it takes part, the number of live recipes, whether any are pending, and whether its copy is the same. Row: the lines.
+/// it takes part in experiments and in rollouts, the number of live recipes, whether any are pending, and whether its copy is the same. Row: the lines.
 pub(crate) fn reset_after(alloc: Global, input: &str) -> Result<String> {
     let state = run(alloc, rivals(alloc)?, input)?;
     let (has_other_id, is_same) = (state.id == OTHER_ID, state.clone()? == state);
     let (count, is_pending) = (state.live.as_slice().len(), state.pending.is_some());
     Ok(format!(in alloc;
-        "{has_other_id} {} {} {} {count} {is_pending} {is_same}",
-        state.installed, state.updated, state.participating
+        "{has_other_id} {} {} {} {} {count} {is_pending} {is_same}",
+        state.installed, state.updated, state.experiments, state.rollouts
     )?)
 }
 

@@ -1,5 +1,5 @@
-//! Tables of rows on enrolment, which stand on standard input: sampling, conflicts, transitions, choices and drills. A
-//! line tells of each table that its rows pass, or what was found and what was wanted. `row_tables` says how a table is
+//! Tables of rows on enrolment, which stand on standard input: sampling, conflicts, verdicts, transitions,
+//! choices and drills. A line tells of each table that its rows pass, or what was found and what was wanted. `row_tables` says how a table is
 //! written, and the functions that `found` names what a row of each kind is.
 #![tactic(auto)]
 
@@ -9,6 +9,7 @@ mod inputs;
 mod sampled;
 mod shown;
 mod transitions;
+mod verdicts;
 mod wishes;
 
 use anyhow::{Result, bail};
@@ -24,7 +25,8 @@ fn found(alloc: Global, kind: &str, given: &str, input: &str) -> Result<String> 
         "bucket" => sampled::is_in_bucket(alloc, input),
         "branch" => sampled::branch_of(alloc, input),
         "wishes" => wishes::granted(alloc, given, input),
-        "transition" => transitions::outcome_of(alloc, input),
+        "transition" => transitions::outcome_of(alloc, given, input),
+        "verdict" => verdicts::verdict_on(alloc, given, input),
         "ended" => transitions::end_of(alloc, input),
         _ => found_of_states(alloc, kind, input),
     }
@@ -33,6 +35,7 @@ fn found(alloc: Global, kind: &str, given: &str, input: &str) -> Result<String> 
 fn found_of_states(alloc: Global, kind: &str, input: &str) -> Result<String> {
     match kind {
         "choices" => choices::shown_after(alloc, input),
+        "parts" => choices::parts_after(alloc, input),
         "opt-in" => choices::opt_in_after(alloc, input),
         "status" => choices::status_after(alloc, input),
         "reset" => choices::reset_after(alloc, input),

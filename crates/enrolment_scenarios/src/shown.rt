@@ -19,22 +19,41 @@ pub(crate) fn status_text(alloc: Global, status: &Status) -> Result<String> {
     })
 }
 
-/// The opt-outs and the rows of a state, each with a comma before it, or `nothing`.
+/// The opt-outs and the rows of a state, with commas between them, or `nothing`.
 pub(crate) fn state_text(alloc: Global, state: &State) -> Result<String> {
     let mut line = String::new(alloc);
     for slug in state.opted_out.as_slice() {
-        let text = format!(in alloc; ", out {}", slug.text())?;
-        line.push_str(text.as_str())?;
+        let text = format!(in alloc; "out {}", slug.text())?;
+        push(&mut line, text.as_str())?;
     }
     for row in state.rows.as_slice() {
         let status = status_text(alloc, &row.status)?;
-        let text = format!(in alloc; ", {} {status}", row.slug.text())?;
-        line.push_str(text.as_str())?;
+        let text = format!(in alloc; "{} {status}", row.slug.text())?;
+        push(&mut line, text.as_str())?;
     }
     if line.is_empty() {
         line.push_str("nothing")?;
     }
     Ok(line)
+}
+
+fn push(line: &mut String, text: &str) -> Result<()> {
+    if !line.is_empty() {
+        line.push_str(", ")?;
+    }
+    line.push_str(text)?;
+    Ok(())
+}
+
+/// What a client takes part in, and its opt-outs and rows.
+pub(crate) fn parts_text(alloc: Global, state: &State) -> Result<String> {
+    let part = match (state.experiments, state.rollouts) {
+        (true, true) => "both",
+        (true, false) => "experiments",
+        (false, true) => "rollouts",
+        (false, false) => "none",
+    };
+    Ok(format!(in alloc; "{part}, {}", state_text(alloc, state)?)?)
 }
 
 /// The lines of a text in one, with a bar between them.

@@ -10,19 +10,29 @@ use plain_text::read_number;
 use recipe_reader::Recipe;
 use std::alloc::Global;
 
-// A recipe with the branches `control` and `treatment`.
-const RECORD: &str =
+// An experiment with the branches `control` and `treatment`.
+const EXPERIMENT: &str =
     "{\"slug\":\"alpha\",\"schemaVersion\":\"1.12.0\",\"bucketConfig\":{\"randomizationUnit\":\"nimbus_id\",\"namespace\":\"ns\",\"start\":0,\"count\":10000,\"total\":10000},\"branches\":[{\"slug\":\"control\",\"ratio\":0},{\"slug\":\"treatment\",\"ratio\":1}]}";
 
-/// What follows from a verdict on the recipe. Row: the status before, or `none`, and the verdict.
-pub(crate) fn outcome_of(alloc: Global, input: &str) -> Result<String> {
+// A rollout with the same branches.
+const ROLLOUT: &str =
+    "{\"slug\":\"roll\",\"schemaVersion\":\"1.12.0\",\"isRollout\":true,\"bucketConfig\":{\"randomizationUnit\":\"nimbus_id\",\"namespace\":\"ns\",\"start\":0,\"count\":10000,\"total\":10000},\"branches\":[{\"slug\":\"control\",\"ratio\":0},{\"slug\":\"treatment\",\"ratio\":1}]}";
+
+/// What follows from a verdict on an experiment, or on a rollout where `rollout` is given. Row: the
+/// status before, or `none`, and the verdict.
+pub(crate) fn outcome_of(alloc: Global, given: &str, input: &str) -> Result<String> {
+    let record = if given == "rollout" {
+        ROLLOUT
+    } else {
+        EXPERIMENT
+    };
     let (old, verdict) = halves(input)?;
     let old = old_status(alloc, old)?;
     next(
         alloc,
         old.as_ref(),
         &verdict_of(alloc, verdict)?,
-        &recipe(alloc, RECORD)?,
+        &recipe(alloc, record)?,
     )
 }
 
@@ -73,9 +83,9 @@ fn verdict_of(alloc: Global, text: &str) -> Result<Verdict> {
     })
 }
 
-// A status of each kind, the reason and the causes of which don't matter.
+// A status of each kind. Why a client isn't enrolled, and what can't be judged, don't matter.
 fn old_status(alloc: Global, text: &str) -> Result<Option<Status>> {
-    let (word, branch) = cut(text);
+    let (word, rest) = cut(text);
     if word == "none" {
         return Ok(None);
     }
@@ -86,7 +96,8 @@ fn old_status(alloc: Global, text: &str) -> Result<Option<Status>> {
         "Error" => Status::Error {
             cause: ErrorCause::NoUnit,
         },
-        _ => old_enrolment(alloc, word, branch)?,
+        "Disqualified" => old_disqualification(alloc, rest)?,
+        _ => old_enrolment(alloc, word, rest)?,
     }))
 }
 
@@ -101,11 +112,27 @@ fn old_enrolment(alloc: Global, word: &str, branch: &str) -> Result<Status> {
             reason: EnrolledReason::OptIn,
             branch,
         },
-        "Disqualified" => Status::Disqualified {
-            reason: DisqualifiedReason::OptOut,
-            branch,
-        },
         "WasEnrolled" => Status::WasEnrolled { branch, ended: 5 },
         _ => bail!("no status: {word}"),
+    })
+}
+
+// A reason, and the branch.
+fn old_disqualification(alloc: Global, text: &str) -> Result<Status> {
+    let (reason, branch) = cut(text);
+    Ok(Status::Disqualified {
+        reason: disqualified_reason(reason)?,
+        branch: slug(alloc, branch)?,
+    })
+}
+
+fn disqualified_reason(text: &str) -> Result<DisqualifiedReason> {
+    Ok(match text {
+        "Error" => DisqualifiedReason::Error,
+        "FeatureConflict" => DisqualifiedReason::FeatureConflict,
+        "NotSelected" => DisqualifiedReason::NotSelected,
+        "NotTargeted" => DisqualifiedReason::NotTargeted,
+        "OptOut" => DisqualifiedReason::OptOut,
+        _ => bail!("no reason: {text}"),
     })
 }

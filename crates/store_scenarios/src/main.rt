@@ -5,6 +5,7 @@
 
 mod batches;
 mod directive;
+mod framed;
 mod hosts;
 mod inputs;
 mod scenario;

@@ -1,9 +1,9 @@
 //! A scenario as far as it is done.
 use crate::batches::batch_again;
-use crate::directive::{Directive, Expectation, Images};
+use crate::directive::{Alteration, Directive, Expectation, Images};
 use crate::hosts::ScenarioHost;
 use crate::inputs::Inputs;
-use crate::states::{changed, fresh, made, spelled, spelling};
+use crate::states::{change, changed, fresh, made, migrated, spelled, spelling};
 use crate::stores::{Call, Layer, Stores};
 use crate::text::bytes_of;
 use host_model::{Choice, Side};
@@ -69,6 +69,7 @@ impl Scenario {
             Directive::Begin(name) => self.begin(alloc, name)?,
             Directive::Room(room) => self.empty(alloc, room)?,
             Directive::Endless => self.host = ScenarioHost::endless(alloc)?,
+            Directive::Anew => self.host = self.copy(alloc, None)?,
             Directive::Side(side, bytes) => self.replace(alloc, side, bytes)?,
             Directive::Fails(call) => self.host = self.copy(alloc, Some(call))?,
             Directive::Stop(number, call) => self.stop(alloc, number, call)?,
@@ -77,6 +78,14 @@ impl Scenario {
             Directive::Batch(bytes) => {
                 let bytes = bytes_of(alloc, bytes)?;
                 self.answer = batch_again(alloc, &bytes)?;
+            }
+            Directive::Change(changes) => {
+                let others = changed(alloc, &self.rows, changes)?;
+                self.answer = change(alloc, &self.rows, &others)?;
+            }
+            Directive::Migration(changes) => {
+                let lines = changed(alloc, &self.rows, changes)?;
+                self.answer = migrated(alloc, &lines)?;
             }
             Directive::Row(line) => self.rows.push(String::from_str(alloc, line)?)?,
             Directive::NoRows => self.rows.truncate(0),
@@ -178,8 +187,21 @@ impl Scenario {
                 alloc, left, right, answer,
             )?,
             Expectation::Said(text) => differs(alloc, self.last_host().said(), text)?,
-            Expectation::State(old, new) => self.judge_rows(alloc, old, new, "state")?,
-            Expectation::NoState(old, new) => self.judge_rows(alloc, old, new, "NotAState")?,
+            Expectation::Opens(side, alteration, answer) => self.judge_altered(
+                alloc, side, alteration, answer,
+            )?,
+            Expectation::State(changes) => {
+                let lines = changed(alloc, &self.rows, changes)?;
+                judge_rows(alloc, &lines, &lines, "state")?
+            }
+            Expectation::FormerState(changes) => {
+                let lines = changed(alloc, &self.rows, changes)?;
+                judge_rows(alloc, &lines, &self.rows, "state")?
+            }
+            Expectation::NoState(changes) => {
+                let lines = changed(alloc, &self.rows, changes)?;
+                judge_rows(alloc, &lines, &lines, "NotAState")?
+            }
             Expectation::Altered(place, byte) => {
                 let mut bytes = spelling(alloc, &self.rows)?;
                 if let Some(there) = bytes.get_mut(place) {
@@ -233,21 +255,30 @@ impl Scenario {
         Ok(None)
     }
 
-    // Reads the rows, some of which are others, through their batch and by themselves.
-    fn judge_rows(
+    // Opens the sides, one of which is altered, for each number of a range, and gives the first number with another answer.
+    fn judge_altered(
         &self,
         alloc: Global,
-        old: &str,
-        new: &str,
+        side: Side,
+        alteration: Alteration,
         wanted: &str,
     ) -> Result<Option<Vec<u8>>, AllocError> {
-        let lines = changed(alloc, &self.rows, old, new)?;
-        let bytes = spelling(alloc, &lines)?;
-        let found = spelled(alloc, &bytes)?;
-        if found != wanted {
-            return Ok(Some(found.as_bytes().to_vec(alloc)?));
+        let (first, last) = alteration.range();
+        for number in first..=last {
+            let mut left = self.last_host().image(alloc, Side::Left, Choice::New)?;
+            let mut right = self.last_host().image(alloc, Side::Right, Choice::New)?;
+            match side {
+                Side::Left => alteration.alter(&mut left, number),
+                Side::Right => alteration.alter(&mut right, number),
+            }
+            let mut host = ScenarioHost::new(alloc, &left, &right, self.room, None)?;
+            let answer = Stores::new().open(alloc, &mut host, self.layer)?;
+            if let Some(found) = differs(alloc, &answer, wanted)? {
+                let found = found.escape_ascii();
+                return Ok(Some(format!(in alloc; "{found} at {number}")?.into_bytes()));
+            }
         }
-        differs(alloc, made(alloc, &lines)?.as_bytes(), wanted)
+        Ok(None)
     }
 
     fn judge_fresh(
@@ -299,5 +330,20 @@ fn other_number(alloc: Global, found: u64, wanted: u64) -> Result<Option<Vec<u8>
 
 // What bytes are, where they are a state's.
 fn no_state(alloc: Global, bytes: &[u8]) -> Result<Option<Vec<u8>>, AllocError> {
-    differs(alloc, spelled(alloc, bytes)?.as_bytes(), "NotAState")
+    differs(alloc, spelled(alloc, bytes, bytes)?.as_bytes(), "NotAState")
+}
+
+// Reads the rows of lines through their batch and by themselves: a state that they make has the other rows.
+fn judge_rows(
+    alloc: Global,
+    lines: &[String],
+    rows: &[String],
+    wanted: &str,
+) -> Result<Option<Vec<u8>>, AllocError> {
+    let bytes = spelling(alloc, lines)?;
+    let found = spelled(alloc, &bytes, &spelling(alloc, rows)?)?;
+    if found != wanted {
+        return Ok(Some(found.as_bytes().to_vec(alloc)?));
+    }
+    differs(alloc, made(alloc, lines, rows)?.as_bytes(), wanted)
 }

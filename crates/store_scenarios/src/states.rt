@@ -1,8 +1,14 @@
 //! Rows of states, and bytes that are a state's or no state's.
+ghost use Rattle.std.specs.Prelude.{IfOk, IfSome};
+ghost use Rattle.state_codec.specs.Sound.{IsSound};
+
 use crate::text::bytes_of;
 use enrol_states::State;
 use sequences::Sequence;
-use state_codec::{CodecFault, StoreRow, read_state, rows_of, state_of, state_size, write_state};
+use state_codec::{
+    CodecFault, StoreRow, change_between, migration, needs_migration, read_state, rows_of,
+    state_of, state_size, write_state,
+};
 use std::alloc::{AllocError, Global};
 use uuid::Uuid;
 
@@ -12,25 +18,37 @@ const NOW_BYTES: &[u8] = b"\x00\x00\x00\x00\x65\x53\xf1\x00";
 /// The moment of new states.
 const NOW: u64 = 1_700_000_000;
 
-/// The lines where those that begin with `old` have become the ones of `new`, between which ` | ` stands; none where it is
-/// empty.
+/// The lines where those that begin with a prefix have become others: `PREFIX => LINES`, in which ` | ` stands between two lines
+/// and which are none where nothing stands there, and ` ; ` between two of these.
 pub(crate) fn changed(
     alloc: Global,
     lines: &[String],
-    old: &str,
-    new: &str,
+    changes: &str,
 ) -> Result<Vec<String>, AllocError> {
     let mut found = Vec::new(alloc);
     for line in lines {
-        if old.is_empty() || !line.starts_with(old) {
-            found.push(line.clone()?)?;
-        } else if !new.is_empty() {
-            for part in new.split(" | ") {
-                found.push(String::from_str(alloc, part)?)?;
+        match replacement(line, changes) {
+            None => found.push(line.clone()?)?,
+            Some("") => {}
+            Some(others) => {
+                for other in others.split(" | ") {
+                    found.push(String::from_str(alloc, other)?)?;
+                }
             }
         }
     }
     Ok(found)
+}
+
+// What stands in place of a line, where something does.
+fn replacement<'a>(line: &str, changes: &'a str) -> Option<&'a str> {
+    for change in changes.split(" ; ") {
+        let (prefix, others) = change.split_once(" => ").unwrap_or((change, ""));
+        if !prefix.is_empty() && line.starts_with(prefix) {
+            return Some(others);
+        }
+    }
+    None
 }
 
 /// The batch of a clear and a put of each line: a key, a space and a value.
@@ -64,12 +82,16 @@ fn fields_of(alloc: Global, line: &str) -> Result<(Vec<u8>, Vec<u8>), AllocError
     Ok((bytes_of(alloc, key)?, value))
 }
 
-/// What bytes are: `state`, where these are the bytes and the size of the state that they spell, or `NotAState`.
-pub(crate) fn spelled(alloc: Global, bytes: &[u8]) -> Result<&'static str, AllocError> {
+/// What bytes are: `state`, where the state that they spell has this spelling and its size, or `NotAState`.
+pub(crate) fn spelled(
+    alloc: Global,
+    bytes: &[u8],
+    spelling: &[u8],
+) -> Result<&'static str, AllocError> {
     match read_state(alloc, bytes) {
         Ok(state) => {
             let again = write_state(alloc, &state)?;
-            if again.as_slice() == bytes && state_size(&state) == bytes.len() as u128 {
+            if again.as_slice() == spelling && state_size(&state) == spelling.len() as u128 {
                 Ok("state")
             } else {
                 Ok("another state")
@@ -80,8 +102,8 @@ pub(crate) fn spelled(alloc: Global, bytes: &[u8]) -> Result<&'static str, Alloc
     }
 }
 
-/// What the rows of lines are: `state`, where these are the rows of the state that they make, or `NotAState`.
-pub(crate) fn made(alloc: Global, lines: &[String]) -> Result<&'static str, AllocError> {
+// The rows of lines.
+fn rows_in(alloc: Global, lines: &[String]) -> Result<Vec<StoreRow>, AllocError> {
     let mut rows = Vec::new(alloc);
     for line in lines {
         let (key, value) = fields_of(alloc, line)?;
@@ -90,17 +112,59 @@ pub(crate) fn made(alloc: Global, lines: &[String]) -> Result<&'static str, Allo
             value: Sequence::from_vec(value),
         })?;
     }
-    match state_of(alloc, &rows) {
-        Ok(state) => {
-            let again = rows_of(alloc, &state)?;
-            if same_rows(&rows, again.as_slice()) {
-                Ok("state")
-            } else {
-                Ok("another state")
-            }
-        }
-        Err(CodecFault::NotAState) => Ok("NotAState"),
+    Ok(rows)
+}
+
+// The state that has these rows, if there is one.
+fn state_in(alloc: Global, rows: &[StoreRow]) -> Result<Option<State>, AllocError>
+    ensures { IfOk result (λ found. IfSome found IsSound) }
+{
+    match state_of(alloc, rows) {
+        Ok(state) => Ok(Some(state)),
+        Err(CodecFault::NotAState) => Ok(None),
         Err(CodecFault::OutOfMemory) => Err(AllocError),
+    }
+}
+
+/// What the rows of lines are: `state`, where the state that they make has these rows, or `NotAState`.
+pub(crate) fn made(
+    alloc: Global,
+    lines: &[String],
+    rows: &[String],
+) -> Result<&'static str, AllocError> {
+    let Some(state) = state_in(alloc, &rows_in(alloc, lines)?)? else {
+        return Ok("NotAState");
+    };
+    let again = rows_of(alloc, &state)?;
+    if same_rows(&rows_in(alloc, rows)?, again.as_slice()) {
+        Ok("state")
+    } else {
+        Ok("another state")
+    }
+}
+
+/// The bytes of the batch from the state of these lines to that of the others, where they are states.
+pub(crate) fn change(
+    alloc: Global,
+    lines: &[String],
+    others: &[String],
+) -> Result<Vec<u8>, AllocError> {
+    let Some(old) = state_in(alloc, &rows_in(alloc, lines)?)? else {
+        return b"NotAState".to_vec(alloc);
+    };
+    let Some(new) = state_in(alloc, &rows_in(alloc, others)?)? else {
+        return b"NotAState".to_vec(alloc);
+    };
+    change_between(alloc, &old, &new)?.bytes(alloc)
+}
+
+/// The bytes of the batch that gives the rows of lines their present form: `none`, where they have it, or `NotAState`.
+pub(crate) fn migrated(alloc: Global, lines: &[String]) -> Result<Vec<u8>, AllocError> {
+    let rows = rows_in(alloc, lines)?;
+    match state_in(alloc, &rows)? {
+        Some(state) if needs_migration(&rows) => migration(alloc, &state)?.bytes(alloc),
+        Some(_) => b"none".to_vec(alloc),
+        None => b"NotAState".to_vec(alloc),
     }
 }
 

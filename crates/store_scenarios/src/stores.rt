@@ -3,16 +3,19 @@ ghost use Rattle.std.specs.Prelude.{◌≤◌, length, IfOk, IsTrue};
 ghost use Rattle.gate_journal.specs.declared.frame.TheConstants.{MAX_PAYLOAD};
 ghost use Rattle.pair_store.specs.declared.mark.TheConstants.{MAX_WHOLE};
 ghost use Rattle.row_batches.specs.Batch.{applied, batch_text, whole_of};
+ghost use Rattle.row_store.specs.Ready.{IsReadyFor};
 
 use crate::batches::{bytes_of_rows, read_batch};
+use crate::framed::{JournalFramed, PairFramed, frame_of, on_journal, on_pair};
 use crate::hosts::{HostCall, ScenarioHost, done_text, number_text};
-use crate::text::{bytes_of, cut, number, payload_of, side};
-use gate_journal::{AppendFault, Frame, FrameFault, Journal, MAX_PAYLOAD};
+use crate::text::{bytes_of, cut, number, side};
+use gate_journal::{Frame, Journal, MAX_PAYLOAD};
 use host_model::Side;
 use pair_store::{MAX_WHOLE, PairStore};
 use row_batches::Batch;
-use row_store::RowStore;
+use row_store::{Ready, RowStore};
 use sequences::Sequence;
+use state_codec::{CodecFault, state_of};
 use std::alloc::{AllocError, Global};
 
 /// The journal, the pair and the row store of a scenario, where it has one.
@@ -23,12 +26,13 @@ pub(crate) struct Stores {
     rows: Option<RowStore>,
 }
 
-/// A layer that keeps a list or a map on sides.
+/// A layer that keeps a list, a map or a state on sides.
 #[derive(Clone, Copy, Debug, PartialEq, Eq)]
 pub(crate) enum Layer {
     Journal,
     Pair,
     Rows,
+    State,
 }
 
 /// A call on a store or on the host.
@@ -37,21 +41,19 @@ pub(crate) enum Call<'a> {
     Host(HostCall<'a>),
     JournalMake(Side, u8, &'a str),
     JournalOpen(Side),
-    JournalAppend(&'a str),
+    JournalFramed(JournalFramed, &'a str),
     JournalClose(Side),
     JournalGeneration,
-    JournalEndAfter(&'a str),
     PairMake(&'a str),
     PairOpen,
-    PairAppend(&'a str),
-    PairCheckpoint(&'a str),
-    PairWants(&'a str),
+    PairFramed(PairFramed, &'a str),
     RowsMake(&'a str),
     RowsOpen,
     RowsPrepare(&'a str),
     RowsCommit(&'a str),
     RowsGet(&'a str),
     RowsAll,
+    RowsState,
 }
 
 impl<'a> Call<'a> {
@@ -73,21 +75,17 @@ impl<'a> Call<'a> {
             Call::Host(_) => None,
             Call::JournalMake(..)
             | Call::JournalOpen(_)
-            | Call::JournalAppend(_)
+            | Call::JournalFramed(..)
             | Call::JournalClose(_)
-            | Call::JournalGeneration
-            | Call::JournalEndAfter(_) => Some(Layer::Journal),
-            Call::PairMake(_)
-            | Call::PairOpen
-            | Call::PairAppend(_)
-            | Call::PairCheckpoint(_)
-            | Call::PairWants(_) => Some(Layer::Pair),
+            | Call::JournalGeneration => Some(Layer::Journal),
+            Call::PairMake(_) | Call::PairOpen | Call::PairFramed(..) => Some(Layer::Pair),
             Call::RowsMake(_)
             | Call::RowsOpen
             | Call::RowsPrepare(_)
             | Call::RowsCommit(_)
             | Call::RowsGet(_)
             | Call::RowsAll => Some(Layer::Rows),
+            Call::RowsState => Some(Layer::State),
         }
     }
 }
@@ -102,10 +100,10 @@ fn journal_call<'a>(call: &str, rest: &'a str) -> Option<Call<'a>> {
             first,
         )),
         "open" => Some(Call::JournalOpen(side(name)?)),
-        "append" => Some(Call::JournalAppend(rest)),
+        "append" => Some(Call::JournalFramed(JournalFramed::Append, rest)),
         "close" => Some(Call::JournalClose(side(name)?)),
         "generation" => Some(Call::JournalGeneration),
-        "end" => Some(Call::JournalEndAfter(rest)),
+        "end" => Some(Call::JournalFramed(JournalFramed::EndAfter, rest)),
         _ => None,
     }
 }
@@ -114,9 +112,9 @@ fn pair_call<'a>(call: &str, rest: &'a str) -> Option<Call<'a>> {
     match call {
         "make" => Some(Call::PairMake(rest)),
         "open" => Some(Call::PairOpen),
-        "append" => Some(Call::PairAppend(rest)),
-        "checkpoint" => Some(Call::PairCheckpoint(rest)),
-        "wants" => Some(Call::PairWants(rest)),
+        "append" => Some(Call::PairFramed(PairFramed::Append, rest)),
+        "checkpoint" => Some(Call::PairFramed(PairFramed::Checkpoint, rest)),
+        "wants" => Some(Call::PairFramed(PairFramed::Wants, rest)),
         _ => None,
     }
 }
@@ -129,6 +127,7 @@ fn rows_call<'a>(call: &str, rest: &'a str) -> Option<Call<'a>> {
         "commit" => Some(Call::RowsCommit(rest)),
         "get" => Some(Call::RowsGet(rest)),
         "all" => Some(Call::RowsAll),
+        "state" => Some(Call::RowsState),
         _ => None,
     }
 }
@@ -156,21 +155,19 @@ impl Stores {
                 self.make_journal(alloc, host, side, generation, first)
             }
             Call::JournalOpen(side) => self.open_journal(alloc, host, side),
-            Call::JournalAppend(next) => self.append_to_journal(alloc, host, next),
+            Call::JournalFramed(call, payload) => self.on_journal(alloc, host, call, payload),
             Call::JournalClose(side) => done_text(alloc, Journal::close(host, side).is_ok()),
             Call::JournalGeneration => self.generation(alloc),
-            Call::JournalEndAfter(next) => self.end_after(alloc, next),
             Call::PairMake(first) => self.make_pair(alloc, host, first),
             Call::PairOpen => self.open_pair(alloc, host),
-            Call::PairAppend(next) => self.append_to_pair(alloc, host, next),
-            Call::PairCheckpoint(whole) => self.turn_pair(alloc, host, whole),
-            Call::PairWants(next) => self.wants_checkpoint(alloc, next),
+            Call::PairFramed(call, payload) => self.on_pair(alloc, host, call, payload),
             Call::RowsMake(changes) => make_rows(alloc, host, changes),
             Call::RowsOpen => self.open_rows(alloc, host),
             Call::RowsPrepare(changes) => self.prepare(alloc, changes),
             Call::RowsCommit(changes) => self.commit(alloc, host, changes),
             Call::RowsGet(key) => self.get(alloc, key),
             Call::RowsAll => self.all_rows(alloc),
+            Call::RowsState => self.open_state(alloc, host),
         }
     }
 
@@ -185,6 +182,7 @@ impl Stores {
             Layer::Journal => self.open_journal(alloc, host, Side::Left),
             Layer::Pair => self.open_pair(alloc, host),
             Layer::Rows => self.open_rows(alloc, host),
+            Layer::State => self.open_state(alloc, host),
         }
     }
 
@@ -223,22 +221,17 @@ impl Stores {
         }
     }
 
-    fn append_to_journal(
+    fn on_journal(
         &mut self,
         alloc: Global,
         host: &mut ScenarioHost,
-        next: &str,
+        call: JournalFramed,
+        payload: &str,
     ) -> Result<Vec<u8>, AllocError> {
-        let Some(next) = frame_of(alloc, next)? else {
-            return b"no payload".to_vec(alloc);
-        };
-        let Some(journal) = &mut self.journal else {
-            return b"no journal".to_vec(alloc);
-        };
-        match journal.append(host, &next) {
-            Ok(()) => b"Ok".to_vec(alloc),
-            Err(AppendFault::SideFull) => b"SideFull".to_vec(alloc),
-            Err(AppendFault::DiskFault) => b"Failed".to_vec(alloc),
+        match (&mut self.journal, frame_of(alloc, payload)?) {
+            (Some(journal), Some(frame)) => on_journal(host, journal, call, &frame).text(alloc),
+            (None, _) => b"no journal".to_vec(alloc),
+            (_, None) => b"TooLong".to_vec(alloc),
         }
     }
 
@@ -247,16 +240,6 @@ impl Stores {
             Some(journal) => number_text(alloc, u64::from(journal.generation())),
             None => b"no journal".to_vec(alloc),
         }
-    }
-
-    fn end_after(&self, alloc: Global, next: &str) -> Result<Vec<u8>, AllocError> {
-        let Some(next) = frame_of(alloc, next)? else {
-            return b"no payload".to_vec(alloc);
-        };
-        let Some(journal) = &self.journal else {
-            return b"no journal".to_vec(alloc);
-        };
-        number_text(alloc, journal.end_after(&next))
     }
 
     fn make_pair(
@@ -287,53 +270,17 @@ impl Stores {
         }
     }
 
-    fn append_to_pair(
+    fn on_pair(
         &mut self,
         alloc: Global,
         host: &mut ScenarioHost,
-        next: &str,
+        call: PairFramed,
+        payload: &str,
     ) -> Result<Vec<u8>, AllocError> {
-        let Some(next) = frame_of(alloc, next)? else {
-            return b"no payload".to_vec(alloc);
-        };
-        let Some(pair) = &mut self.pair else {
-            return b"no pair".to_vec(alloc);
-        };
-        if pair.wants_checkpoint(&next) {
-            return b"past the mark".to_vec(alloc);
-        }
-        done_text(alloc, pair.append(host, &next).is_ok())
-    }
-
-    fn turn_pair(
-        &mut self,
-        alloc: Global,
-        host: &mut ScenarioHost,
-        whole: &str,
-    ) -> Result<Vec<u8>, AllocError> {
-        let Some(whole) = frame_of(alloc, whole)? else {
-            return b"no payload".to_vec(alloc);
-        };
-        let Some(pair) = &mut self.pair else {
-            return b"no pair".to_vec(alloc);
-        };
-        if whole.bytes() > MAX_WHOLE as u64 {
-            return b"TooLong".to_vec(alloc);
-        }
-        done_text(alloc, pair.checkpoint(host, &whole).is_ok())
-    }
-
-    fn wants_checkpoint(&self, alloc: Global, next: &str) -> Result<Vec<u8>, AllocError> {
-        let Some(next) = frame_of(alloc, next)? else {
-            return b"no payload".to_vec(alloc);
-        };
-        let Some(pair) = &self.pair else {
-            return b"no pair".to_vec(alloc);
-        };
-        if pair.wants_checkpoint(&next) {
-            b"yes".to_vec(alloc)
-        } else {
-            b"no".to_vec(alloc)
+        match (&mut self.pair, frame_of(alloc, payload)?) {
+            (Some(pair), Some(frame)) => on_pair(host, pair, call, &frame).text(alloc),
+            (None, _) => b"no pair".to_vec(alloc),
+            (_, None) => b"TooLong".to_vec(alloc),
         }
     }
 
@@ -342,6 +289,26 @@ impl Stores {
             Ok(rows) => {
                 self.rows = Some(rows);
                 self.all_rows(alloc)
+            }
+            Err(fault) => Ok(format!(in alloc; "{fault:?}")?.into_bytes()),
+        }
+    }
+
+    // Opens the rows, and tells whether they are a state's.
+    fn open_state(
+        &mut self,
+        alloc: Global,
+        host: &mut ScenarioHost,
+    ) -> Result<Vec<u8>, AllocError> {
+        match RowStore::open(alloc, host) {
+            Ok(rows) => {
+                let answer = match state_of(alloc, rows.rows()) {
+                    Ok(_) => b"state".to_vec(alloc),
+                    Err(CodecFault::NotAState) => b"NotAState".to_vec(alloc),
+                    Err(CodecFault::OutOfMemory) => Err(AllocError),
+                };
+                self.rows = Some(rows);
+                answer
             }
             Err(fault) => Ok(format!(in alloc; "{fault:?}")?.into_bytes()),
         }
@@ -367,18 +334,12 @@ impl Stores {
 
     // Makes a batch ready, and lets it go.
     fn prepare(&mut self, alloc: Global, changes: &str) -> Result<Vec<u8>, AllocError> {
-        let Some(batch) = read_batch(alloc, changes)? else {
-            return b"no batch".to_vec(alloc);
-        };
         let Some(rows) = &mut self.rows else {
             return b"no rows".to_vec(alloc);
         };
-        if !fits(alloc, rows, &batch)? {
-            return b"TooLong".to_vec(alloc);
-        }
-        match rows.prepare(alloc, batch) {
-            Ok(_ready) => b"Ok".to_vec(alloc),
-            Err(AllocError) => b"OutOfMemory".to_vec(alloc),
+        match ready_in(alloc, rows, changes) {
+            Ok(_) => b"Ok".to_vec(alloc),
+            Err(unready) => unready.text(alloc),
         }
     }
 
@@ -389,19 +350,57 @@ impl Stores {
         host: &mut ScenarioHost,
         changes: &str,
     ) -> Result<Vec<u8>, AllocError> {
-        let Some(batch) = read_batch(alloc, changes)? else {
-            return b"no batch".to_vec(alloc);
-        };
         let Some(rows) = &mut self.rows else {
             return b"no rows".to_vec(alloc);
         };
-        if !fits(alloc, rows, &batch)? {
-            return b"TooLong".to_vec(alloc);
-        }
-        match rows.prepare(alloc, batch) {
+        match ready_in(alloc, rows, changes) {
             Ok(ready) => done_text(alloc, rows.commit(host, ready).is_ok()),
-            Err(AllocError) => b"OutOfMemory".to_vec(alloc),
+            Err(unready) => unready.text(alloc),
         }
+    }
+}
+
+// Why a batch was not made ready.
+#[derive(Clone, Copy)]
+enum Unready {
+    NoBatch,
+    TooLong,
+    // `prepare` was refused memory.
+    OutOfMemory,
+    // The scenario was.
+    NoScenario,
+}
+
+impl From<AllocError> for Unready {
+    fn from(_: AllocError) -> Self {
+        Unready::NoScenario
+    }
+}
+
+impl Unready {
+    fn text(self, alloc: Global) -> Result<Vec<u8>, AllocError> {
+        match self {
+            Unready::NoBatch => b"no batch".to_vec(alloc),
+            Unready::TooLong => b"TooLong".to_vec(alloc),
+            Unready::OutOfMemory => b"OutOfMemory".to_vec(alloc),
+            Unready::NoScenario => Err(AllocError),
+        }
+    }
+}
+
+// Makes a batch ready.
+fn ready_in(alloc: Global, rows: &mut RowStore, changes: &str) -> Result<Ready, Unready>
+    ensures { IfOk result (λ ready. IsReadyFor rows.new ready) }
+{
+    let Some(batch) = read_batch(alloc, changes)? else {
+        return Err(Unready::NoBatch);
+    };
+    if !fits(alloc, rows, &batch)? {
+        return Err(Unready::TooLong);
+    }
+    match rows.prepare(alloc, batch) {
+        Ok(ready) => Ok(ready),
+        Err(AllocError) => Err(Unready::OutOfMemory),
     }
 }
 
@@ -426,16 +425,6 @@ fn fits(alloc: Global, rows: &RowStore, batch: &Batch) -> Result<bool, AllocErro
 {
     let whole = batch.whole_after(alloc, rows.rows())?;
     Ok(batch.size() <= MAX_PAYLOAD as u128 && whole.len() <= MAX_WHOLE)
-}
-
-// The frame of a payload, where it isn't too long.
-fn frame_of(alloc: Global, payload: &str) -> Result<Option<Frame>, AllocError> {
-    let payload = payload_of(alloc, payload)?;
-    match Frame::new(alloc, &payload) {
-        Ok(frame) => Ok(Some(frame)),
-        Err(FrameFault::TooLong) => Ok(None),
-        Err(FrameFault::OutOfMemory) => Err(AllocError),
-    }
 }
 
 // Adds the payloads, each behind a space.

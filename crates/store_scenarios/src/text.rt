@@ -47,9 +47,13 @@ pub(crate) fn payload_of(alloc: Global, text: &str) -> Result<Vec<u8>, AllocErro
     let Some((times, part)) = text.split_once('*') else {
         return bytes_of(alloc, text);
     };
+    let times = count(times).unwrap_or(0);
     let part = bytes_of(alloc, part)?;
+    if let [byte] = part.as_slice() {
+        return vec![in alloc; *byte; times];
+    }
     let mut bytes = Vec::new(alloc);
-    for _ in 0..count(times).unwrap_or(0) {
+    for _ in 0..times {
         bytes.extend_from_slice(&part)?;
     }
     Ok(bytes)

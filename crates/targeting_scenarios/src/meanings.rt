@@ -1,0 +1,119 @@
+//! Rows on the values and faults of expressions.
+use crate::json_texts::{json_text, value};
+use crate::transforms::called;
+use anyhow::{Context, Result, bail, ensure};
+use jexl_eval::{eval, eval_truth};
+use jexl_lexer::lex;
+use jexl_parser::{Expr, parse};
+use jexl_transforms::{
+    Transform, TransformAnswer, TransformTable, bucket_transform, date_transform, version_transform,
+};
+use jexl_value::{Attributes, NamedValues, Value};
+use std::alloc::Global;
+
+/// A row over a table of the standard transforms, of the kind `value`, `truth` or `call`.
+pub(crate) fn with_standard(alloc: Global, kind: &str, given: &str, input: &str) -> Result<String> {
+    let version: Transform = Box::new(
+        alloc,
+        |attributes: &Attributes, subject: &Value, arguments: &[Value]| {
+            version_transform(attributes, subject, arguments)
+        },
+    )?;
+    let date: Transform = Box::new(
+        alloc,
+        |attributes: &Attributes, subject: &Value, arguments: &[Value]| {
+            date_transform(attributes, subject, arguments)
+        },
+    )?;
+    let bucket: Transform = Box::new(
+        alloc,
+        move |attributes: &Attributes, subject: &Value, arguments: &[Value]| {
+            bucket_transform(alloc, attributes, subject, arguments)
+        },
+    )?;
+    let mut table = TransformTable::new(alloc);
+    let (Ok(()), Ok(()), Ok(())) = (
+        table.push(alloc, "versionCompare", version),
+        table.push(alloc, "date", date),
+        table.push(alloc, "bucketSample", bucket),
+    ) else {
+        bail!("the table has no room");
+    };
+    ensure!(table.names() == 3, "it has other names");
+    found(alloc, &table, kind, given, input)
+}
+
+/// A row over a table whose closures find no memory, of the kind `wanting-value` or `wanting-call`.
+pub(crate) fn with_wanting(alloc: Global, kind: &str, given: &str, input: &str) -> Result<String> {
+    let version: Transform = Box::new(alloc, |_: &Attributes, _: &Value, _: &[Value]| {
+        TransformAnswer::OutOfMemory
+    })?;
+    let date: Transform = Box::new(alloc, |_: &Attributes, _: &Value, _: &[Value]| {
+        TransformAnswer::OutOfMemory
+    })?;
+    let bucket: Transform = Box::new(alloc, |_: &Attributes, _: &Value, _: &[Value]| {
+        TransformAnswer::OutOfMemory
+    })?;
+    let mut table = TransformTable::new(alloc);
+    let (Ok(()), Ok(()), Ok(())) = (
+        table.push(alloc, "versionCompare", version),
+        table.push(alloc, "date", date),
+        table.push(alloc, "bucketSample", bucket),
+    ) else {
+        bail!("the table has no room");
+    };
+    found(alloc, &table, kind, given, input)
+}
+
+fn found(
+    alloc: Global,
+    table: &TransformTable,
+    kind: &str,
+    given: &str,
+    input: &str,
+) -> Result<String> {
+    match kind {
+        "value" | "wanting-value" => value_found(alloc, table, given, input),
+        "truth" => truth_found(alloc, table, given, input),
+        _ => called(alloc, table, input),
+    }
+}
+
+// The value of an expression as a JSON text, or the name of its fault, over an object of attributes. Row: the
+// expression.
+fn value_found(alloc: Global, table: &TransformTable, given: &str, input: &str) -> Result<String> {
+    let expression = expression(alloc, input)?;
+    match eval(alloc, &expression, &attributes(alloc, given)?, table) {
+        Ok(value) => json_text(alloc, &value),
+        Err(fault) => Ok(format!(in alloc; "{fault:?}")?),
+    }
+}
+
+// The truth value of an expression, `none` where it has another value, or the name of its fault, over an object of
+// attributes. Row: the expression.
+fn truth_found(alloc: Global, table: &TransformTable, given: &str, input: &str) -> Result<String> {
+    let expression = expression(alloc, input)?;
+    match eval_truth(alloc, &expression, &attributes(alloc, given)?, table) {
+        Ok(Some(truth)) => Ok(format!(in alloc; "{truth}")?),
+        Ok(None) => Ok(String::from_str(alloc, "none")?),
+        Err(fault) => Ok(format!(in alloc; "{fault:?}")?),
+    }
+}
+
+fn expression(alloc: Global, text: &str) -> Result<Expr> {
+    let tokens = lex(alloc, text).ok().context("no tokens")?;
+    parse(alloc, tokens.as_slice())
+        .ok()
+        .context("no expression")
+}
+
+fn attributes(alloc: Global, given: &str) -> Result<Attributes> {
+    if given.is_empty() {
+        let pairs = NamedValues::new(alloc);
+        return Ok(Attributes { pairs });
+    }
+    match value(alloc, given)? {
+        Value::Object(pairs) => Ok(Attributes { pairs }),
+        _ => bail!("no object is given"),
+    }
+}
