@@ -2,12 +2,12 @@
 use Rattle.std.specs.Prelude.{◌≡◌, ◌⊎◌, ℕ}
 use Rattle.enrol_states.specs.Consistent.{IsConsistent}
 use Rattle.enrol_states.specs.declared.state.State.{State}
+use Rattle.state_codec.specs.RecipeLists.{HasLists}
 use Rattle.client_core.specs.declared.answer.Answer.{Answer}
 use Rattle.client_core.specs.declared.answer.Answer.TheVariants.{StateTooLarge}
 use Rattle.client_core.specs.declared.asked.Asked.{Asked}
 use Rattle.client_core.specs.declared.asked.Asked.TheVariants as asked
 use Rattle.client_core.specs.declared.session.Session.{Session}
-use Rattle.client_core.specs.RecipeLists.{HasLists}
 use Rattle.client_core.specs.Sessions.{changed_by}
 use Rattle.client_core.specs.Steps.{Outcome, Accepted, Refused}
 
@@ -21,10 +21,10 @@ answer_for (asked.NewState next recipes answer) = answer
 answer_for (asked.SameState change answer) = answer
 answer_for (asked.Refused refusal) = refusal
 
--- from this state: a new state is consistent, and its lists of recipes are as said
-abbrev pub IsAskedOf : State → Asked → Type 0
-IsAskedOf s (asked.NewState next recipes answer) = IsConsistent next × HasLists recipes s next
-IsAskedOf s asked = Unit {0}
+-- a new state that follows from this one is consistent, and its lists of recipes are as said
+abbrev pub FollowsFrom : State → Asked → Type 0
+FollowsFrom s (asked.NewState next recipes answer) = IsConsistent next × HasLists recipes s next
+FollowsFrom s asked = Unit {0}
 
 -- the answer, or that the new state is too large
 abbrev pub IsAnswerOrTooLarge : Answer → Answer → Type 0

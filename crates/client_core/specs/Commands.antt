@@ -12,14 +12,14 @@ names_file (commands.Context file) = true
 names_file (commands.Fetch file) = true
 names_file command = false
 
--- the names of the files, in order: a manifest's begin with its first one, and may be none
+-- the names of the files, in order. Of a manifest's the first one is said, where there is one: those behind it are asked for as includes
 abbrev pub AsksFor : Command → List (List ℕ) → Type 0
 AsksFor (commands.Manifest file channel) names = BeginWith file names
 AsksFor (commands.Context file) names = names ≡ file ∷ []
 AsksFor (commands.Fetch file) names = names ≡ file ∷ []
 AsksFor command names = names ≡ []
 
--- one shelf is left of another when the command has asked it for its files, and for no other
+-- one shelf is left of another when it has been asked for files with such names, one after the other, and for no other
 pub record HasAsked {F : Type 0} (f : Ghosts F) (command : Command) (shelf left : F) : Type 0 where
   pub names : List (List ℕ)
   pub files : AsksFor command names

@@ -14,10 +14,10 @@ pub mod Openings
 pub mod OptOuts
 pub mod Places
 pub mod Prepared
-pub mod RecipeLists
 pub mod ServedValues
 pub mod Sessions
 pub mod Settings
+pub mod Sized
 pub mod Soundness
 pub mod Steps
 pub mod Store

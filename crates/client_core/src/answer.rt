@@ -79,7 +79,8 @@ pub enum Answer {
     OptedOutLimit,
     /// No live recipe has the slug.
     NoSuchExperiment,
-    /// The client doesn't take part in recipes of the kind of the slug's.
+    /// The slug's live recipe is an experiment and the client doesn't take part in experiments, or a rollout and it doesn't
+    /// take part in rollouts.
     NotParticipating,
     /// The recipe has no such branch.
     NoSuchBranch,

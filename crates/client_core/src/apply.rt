@@ -1,18 +1,21 @@
 // `apply`: enrolments follow the recipes.
-ghost use Rattle.std.specs.Prelude.{◌≡◌, ◌≤◌, count_by, IfOk};
+ghost use Rattle.std.specs.Prelude.{◌≡◌, ◌≤◌, ℕ, List, count_by, IfOk};
+ghost use Rattle.app_context.specs.declared.context.Context.{Context};
+ghost use Rattle.enrol_evolver.specs.Evolution.{evolution};
 ghost use Rattle.enrol_states.specs.State.{last_moment};
 ghost use Rattle.enrol_states.specs.Statuses.{is_enrolled};
 ghost use Rattle.jexl_transforms.specs.Table.{HasStandardNames};
-ghost use Rattle.client_core.specs.Asked.{asked_outcome, IsAskedOf};
+ghost use Rattle.state_codec.specs.RecipeLists.{HasLists};
+ghost use Rattle.client_core.specs.Asked.{asked_outcome, FollowsFrom};
 ghost use Rattle.client_core.specs.Steps.{applying, applied_answer};
 
 use crate::answer::Answer;
 use crate::asked::Asked;
 use crate::client::Client;
-use crate::recipe_lists::RecipeLists;
 use enrol_evolver::evolve;
 use enrol_states::{Row, State};
 use jexl_transforms::TransformTable;
+use state_codec::RecipeLists;
 use std::alloc::{AllocError, Global};
 
 impl Client {
@@ -29,7 +32,7 @@ impl Client {
         requires table { HasStandardNames table.now }
         ensures asks { IfOk result (λ asked. asked_outcome (state_of self.now) (session_of self.now) asked
             ≡ applying now (state_of self.now) (session_of self.now) (session_of self.now).manifest (session_of self.now).context) }
-        ensures follows { IfOk result (λ asked. IsAskedOf (state_of self.now) asked) }
+        ensures follows { IfOk result (λ asked. FollowsFrom (state_of self.now) asked) }
     {
         let Some(linked) = &self.session.manifest else {
             return Ok(Asked::Refused(Answer::NoManifest));
@@ -39,12 +42,23 @@ impl Client {
         };
         let coenrolling = linked.coenrolling(alloc)?;
         let next = evolve(alloc, self.state(), context, coenrolling, table, now)?;
+        let recipes = applied_lists(self.state());
         let answer = applied_answer(&next);
         Ok(Asked::NewState {
             next,
-            recipes: RecipeLists::MayDiffer,
+            recipes,
             answer,
         })
+    }
+}
+
+/// What an apply makes of the lists of recipes: they stay where none are pending.
+fn applied_lists(state: &State) -> RecipeLists
+    ensures { (context : Context) (coenrolling : List (List ℕ)) (now : ℕ) → HasLists result state.now (evolution state.now context coenrolling now) }
+{
+    match &state.pending {
+        Some(_) => RecipeLists::MayDiffer,
+        None => RecipeLists::AsBefore,
     }
 }
 

@@ -2,9 +2,9 @@
 ghost use Rattle.std.specs.Prelude.{◌≡◌};
 
 use crate::answer::Answer;
-use crate::recipe_lists::RecipeLists;
 use crate::session::SessionChange;
 use enrol_states::State;
+use state_codec::RecipeLists;
 
 /// What a command asks for. What it leaves is known once the new state's size is.
 #[derive(Drop)]

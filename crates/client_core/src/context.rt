@@ -5,7 +5,7 @@ ghost use Rattle.host_model.specs.Causes.{Rose};
 ghost use Rattle.app_context.specs.Contexts.{context_of};
 ghost use Rattle.enrol_states.specs.declared.state.State.{State};
 ghost use Rattle.client_core.specs.declared.session.Session.{Session};
-ghost use Rattle.client_core.specs.Asked.{asked_outcome, IsAskedOf};
+ghost use Rattle.client_core.specs.Asked.{asked_outcome, FollowsFrom};
 ghost use Rattle.client_core.specs.Fetching.{file_tree};
 ghost use Rattle.client_core.specs.Found.{context_outcome};
 ghost use Rattle.client_core.specs.Steps.{context_read, reading_context};
@@ -29,7 +29,7 @@ pub(crate) fn reading_context<F: Shelf>(
 ) -> Result<Asked, StepFault>
     ensures asks { F.tells → IfOk result (λ asked. (s : State) (session : Session)
         → asked_outcome s session asked ≡ reading_context s session (file_tree file.now (F.file shelf.old file.now))) }
-    ensures follows { IfOk result (λ asked. (s : State) → IsAskedOf s asked) }
+    ensures follows { IfOk result (λ asked. (s : State) → FollowsFrom s asked) }
     ensures files { F.tells → (name : List ℕ) → F.file shelf.new name ≡ F.file shelf.old name }
     ensures asked { F.asks shelf.old file.now shelf.new }
     ensures cause { IsErrOf result StepFault.ShelfFault → Rose (F.faults shelf.old) (F.faults shelf.new) }

@@ -1,7 +1,7 @@
 // What a feature has.
 ghost use Rattle.std.specs.Prelude.{◌≡◌, IfOk};
 ghost use Rattle.client_core.specs.declared.command.Command.TheVariants.{Feature};
-ghost use Rattle.client_core.specs.Asked.{asked_outcome, answer_for, IsAskedOf};
+ghost use Rattle.client_core.specs.Asked.{asked_outcome, answer_for, FollowsFrom};
 ghost use Rattle.client_core.specs.ServedValues.{IsTyped};
 ghost use Rattle.client_core.specs.Steps.{serving};
 
@@ -20,7 +20,7 @@ impl Client {
     pub(crate) fn serving(&self, alloc: Global, name: &Text) -> Result<Asked, AllocError>
         ensures asks { IfOk result (λ asked. asked_outcome (state_of self.now) (session_of self.now) asked
             ≡ serving (state_of self.now) (session_of self.now) name.now (session_of self.now).manifest) }
-        ensures follows { IfOk result (λ asked. IsAskedOf (state_of self.now) asked) }
+        ensures follows { IfOk result (λ asked. FollowsFrom (state_of self.now) asked) }
         ensures typed { IfOk result (λ asked. IsTyped (state_of self.now) (session_of self.now) (Feature name.now) (answer_for asked)) }
     {
         let Some(linked) = &self.session.manifest else {

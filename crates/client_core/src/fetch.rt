@@ -6,7 +6,7 @@ ghost use Rattle.host_model.specs.Causes.{Rose};
 ghost use Rattle.enrol_states.specs.declared.state.State.{State};
 ghost use Rattle.enrol_states.specs.Consistent.{IsConsistent, AreKept};
 ghost use Rattle.client_core.specs.declared.session.Session.{Session};
-ghost use Rattle.client_core.specs.Asked.{asked_outcome, IsAskedOf};
+ghost use Rattle.client_core.specs.Asked.{asked_outcome, FollowsFrom};
 ghost use Rattle.client_core.specs.Fetching.{file_tree};
 ghost use Rattle.client_core.specs.Found.{accepted, outcome_of};
 ghost use Rattle.client_core.specs.Steps.{fetched, fetching};
@@ -15,12 +15,12 @@ use crate::answer::Answer;
 use crate::asked::Asked;
 use crate::faults::StepFault;
 use crate::files::read_tree;
-use crate::recipe_lists::RecipeLists;
 use enrol_states::State;
 use host_model::Shelf;
 use json_tree::Tree;
 use recipe_reader::{Payload, PayloadFault, read_payload};
 use sequences::Text;
+use state_codec::RecipeLists;
 use std::alloc::{AllocError, Global};
 
 /// What `fetch` asks for in this state.
@@ -33,7 +33,7 @@ pub(crate) fn fetching<F: Shelf>(
     requires { IsConsistent state.now }
     ensures asks { F.tells → IfOk result (λ asked. (session : Session)
         → asked_outcome state.now session asked ≡ fetching state.now session (file_tree file.now (F.file shelf.old file.now))) }
-    ensures follows { IfOk result (λ asked. (s : State) → IsAskedOf s asked) }
+    ensures follows { IfOk result (λ asked. FollowsFrom state.now asked) }
     ensures files { F.tells → (name : List ℕ) → F.file shelf.new name ≡ F.file shelf.old name }
     ensures asked { F.asks shelf.old file.now shelf.new }
     ensures cause { IsErrOf result StepFault.ShelfFault → Rose (F.faults shelf.old) (F.faults shelf.new) }
@@ -50,7 +50,7 @@ fn with_pending(state: &State, payload: Payload) -> Result<Asked, AllocError>
     requires consistent { IsConsistent state.now }
     requires kept { AreKept payload.recipes }
     ensures asks { IfOk result (λ asked. (session : Session) → asked_outcome state.now session asked ≡ accepted state.now session payload) }
-    ensures follows { IfOk result (λ asked. (s : State) → IsAskedOf s asked) }
+    ensures follows { IfOk result (λ asked. FollowsFrom state.now asked) }
 {
     let Payload { recipes, skipped } = payload;
     let kept = recipes.as_slice().len() as u32;
@@ -58,7 +58,7 @@ fn with_pending(state: &State, payload: Payload) -> Result<Asked, AllocError>
     next.pending = Some(recipes);
     Ok(Asked::NewState {
         next,
-        recipes: RecipeLists::MayDiffer,
+        recipes: RecipeLists::LiveAsBefore,
         answer: Answer::Fetched { kept, skipped },
     })
 }

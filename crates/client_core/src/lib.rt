@@ -23,7 +23,6 @@ mod opt_out;
 mod participate;
 mod prepared;
 mod preparing;
-mod recipe_lists;
 mod reset;
 mod session;
 mod show;

@@ -51,7 +51,7 @@ impl LinkedManifest {
         &self.manifest
     }
 
-    /// The names of the features that several experiments may have at once.
+    /// The names of the features that several recipes of one kind, experiments or rollouts, may set at once, in order.
     pub(crate) fn coenrolling(&self, alloc: Global) -> Result<Sequence<Text>, AllocError>
         ensures features { IfOk result (λ names. names ≡ coenrolling self.now.features) }
         ensures names { IfOk result (λ names. All (λ name. IsTrue (is_name name)) names) }

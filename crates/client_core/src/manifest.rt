@@ -6,7 +6,7 @@ ghost use Rattle.fml_link.specs.Asked.{IsAskedFrom};
 ghost use Rattle.fml_merge.specs.Faults.{bad_default};
 ghost use Rattle.enrol_states.specs.declared.state.State.{State};
 ghost use Rattle.client_core.specs.declared.session.Session.{Session};
-ghost use Rattle.client_core.specs.Asked.{asked_outcome, IsAskedOf};
+ghost use Rattle.client_core.specs.Asked.{asked_outcome, FollowsFrom};
 ghost use Rattle.client_core.specs.Manifests.{link_refusal, where_fits, manifest_of};
 ghost use Rattle.client_core.specs.Steps.{setting_manifest};
 
@@ -31,7 +31,7 @@ pub(crate) fn setting_manifest<F: Shelf>(
 ) -> Result<Asked, StepFault>
     ensures asks { F.tells → IfOk result (λ asked. (s : State) (session : Session)
         → asked_outcome s session asked ≡ setting_manifest s session (manifest_of (F.file shelf.old) file.now channel.now)) }
-    ensures follows { IfOk result (λ asked. (s : State) → IsAskedOf s asked) }
+    ensures follows { IfOk result (λ asked. (s : State) → FollowsFrom s asked) }
     ensures files { F.tells → (name : List ℕ) → F.file shelf.new name ≡ F.file shelf.old name }
     ensures asked { IsAskedFrom F.asks file.now shelf.old shelf.new }
     ensures cause { IsErrOf result StepFault.ShelfFault → Rose (F.faults shelf.old) (F.faults shelf.new) }

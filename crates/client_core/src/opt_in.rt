@@ -1,14 +1,14 @@
 // `opt-in`: the client is enrolled in a branch that its user chose.
 ghost use Rattle.std.specs.Prelude.{◌≡◌, IfOk};
-ghost use Rattle.client_core.specs.Asked.{asked_outcome, IsAskedOf};
+ghost use Rattle.client_core.specs.Asked.{asked_outcome, FollowsFrom};
 ghost use Rattle.client_core.specs.Steps.{opting_in};
 
 use crate::answer::Answer;
 use crate::asked::Asked;
 use crate::client::Client;
-use crate::recipe_lists::RecipeLists;
 use enrol_states::{OptInFault, opt_in};
 use plain_text::Slug;
+use state_codec::RecipeLists;
 use std::alloc::{AllocError, Global};
 
 impl Client {
@@ -23,7 +23,7 @@ impl Client {
     ) -> Result<Asked, AllocError>
         ensures asks { IfOk result (λ asked. asked_outcome (state_of self.now) (session_of self.now) asked
             ≡ opting_in (state_of self.now) (session_of self.now) slug.now branch.now) }
-        ensures follows { IfOk result (λ asked. IsAskedOf (state_of self.now) asked) }
+        ensures follows { IfOk result (λ asked. FollowsFrom (state_of self.now) asked) }
     {
         match opt_in(alloc, self.state(), slug, branch) {
             Ok(next) => Ok(Asked::NewState {

@@ -1,14 +1,14 @@
 // `opt-out`: nothing of a slug is enrolled any more.
 ghost use Rattle.std.specs.Prelude.{◌≡◌, IfOk};
-ghost use Rattle.client_core.specs.Asked.{asked_outcome, IsAskedOf};
+ghost use Rattle.client_core.specs.Asked.{asked_outcome, FollowsFrom};
 ghost use Rattle.client_core.specs.Steps.{opting_out};
 
 use crate::answer::Answer;
 use crate::asked::Asked;
 use crate::client::Client;
-use crate::recipe_lists::RecipeLists;
 use enrol_states::{OptOutFault, opt_out};
 use plain_text::Slug;
+use state_codec::RecipeLists;
 use std::alloc::{AllocError, Global};
 
 impl Client {
@@ -17,7 +17,7 @@ impl Client {
     /// What `opt-out` asks for.
     pub(crate) fn opting_out(&self, alloc: Global, slug: &Slug) -> Result<Asked, AllocError>
         ensures asks { IfOk result (λ asked. asked_outcome (state_of self.now) (session_of self.now) asked ≡ opting_out (state_of self.now) (session_of self.now) slug.now) }
-        ensures follows { IfOk result (λ asked. IsAskedOf (state_of self.now) asked) }
+        ensures follows { IfOk result (λ asked. FollowsFrom (state_of self.now) asked) }
     {
         match opt_out(alloc, self.state(), slug) {
             Ok(next) => Ok(Asked::NewState {

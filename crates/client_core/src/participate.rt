@@ -1,13 +1,13 @@
 // `participate`: the client takes part in experiments, in rollouts or in both, or leaves them.
 ghost use Rattle.std.specs.Prelude.{◌≡◌, IfOk};
-ghost use Rattle.client_core.specs.Asked.{asked_outcome, IsAskedOf};
+ghost use Rattle.client_core.specs.Asked.{asked_outcome, FollowsFrom};
 ghost use Rattle.client_core.specs.Steps.{participation};
 
 use crate::answer::Answer;
 use crate::asked::Asked;
 use crate::client::Client;
-use crate::recipe_lists::RecipeLists;
 use enrol_states::{Part, participate};
+use state_codec::RecipeLists;
 use std::alloc::{AllocError, Global};
 
 impl Client {
@@ -22,7 +22,7 @@ impl Client {
     ) -> Result<Asked, AllocError>
         ensures asks { IfOk result (λ asked. asked_outcome (state_of self.now) (session_of self.now) asked
             ≡ participation (state_of self.now) (session_of self.now) part on) }
-        ensures follows { IfOk result (λ asked. IsAskedOf (state_of self.now) asked) }
+        ensures follows { IfOk result (λ asked. FollowsFrom (state_of self.now) asked) }
     {
         let next = participate(alloc, self.state(), part, on)?;
         Ok(Asked::NewState {

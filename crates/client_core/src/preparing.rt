@@ -4,11 +4,11 @@ ghost use Rattle.host_model.specs.Causes.{Rose};
 ghost use Rattle.enrol_states.specs.Consistent.{IsConsistent};
 ghost use Rattle.enrol_states.specs.State.{last_moment};
 ghost use Rattle.jexl_transforms.specs.Table.{HasStandardNames};
+ghost use Rattle.state_codec.specs.RecipeLists.{HasLists};
 ghost use Rattle.state_codec.specs.Sound.{max_size};
 ghost use Rattle.state_codec.specs.Spelling.{spelling};
-ghost use Rattle.client_core.specs.Asked.{asked_outcome, answer_for, IsAskedOf, IsAnswerOrTooLarge};
+ghost use Rattle.client_core.specs.Asked.{asked_outcome, answer_for, FollowsFrom, IsAnswerOrTooLarge};
 ghost use Rattle.client_core.specs.Commands.{names_file, HasAsked};
-ghost use Rattle.client_core.specs.RecipeLists.{HasLists};
 ghost use Rattle.client_core.specs.ServedValues.{IsTyped};
 ghost use Rattle.client_core.specs.Settings.{setting};
 ghost use Rattle.client_core.specs.Sessions.{changed_by};
@@ -23,11 +23,11 @@ use crate::faults::StepFault;
 use crate::fetch::fetching;
 use crate::manifest::setting_manifest;
 use crate::prepared::Prepared;
-use crate::recipe_lists::RecipeLists;
 use crate::session::SessionChange;
 use enrol_states::State;
 use host_model::Shelf;
 use jexl_transforms::TransformTable;
+use state_codec::RecipeLists;
 use std::alloc::{AllocError, Global};
 
 impl Client {
@@ -58,7 +58,8 @@ impl Client {
         // A value that is answered of a feature has the feature's type.
         ensures typed { IfOk result (λ prepared. IsTyped (state_of self.old) (session_of self.old) command.now (answer_in prepared)) }
 
-        // The shelf is asked for the files of the command alone, and for nothing by a command that names no file.
+        // `context` and `fetch` ask the shelf for their file, and for no other. `manifest` asks for its file first, or for none,
+        // and then for those that it includes, of which nothing is said here. Each other command asks for none.
         ensures asked { HasAsked F.Shelf command.now shelf.old shelf.new }
         ensures unasked { names_file command.now ≡ false → shelf.new ≡ shelf.old }
         ensures shelf_fault { IsErrOf result StepFault.ShelfFault → IsTrue (names_file command.now) }
@@ -84,7 +85,7 @@ impl Client {
         requires table { HasStandardNames table.now }
         ensures outcome { (IsTrue (names_file command.now) → F.tells) → IfOk result (λ asked. asked_outcome (state_of self.now) (session_of self.now) asked
             ≡ outcome (setting F.Shelf shelf.old now) (state_of self.now) (session_of self.now) command.now) }
-        ensures follows { IfOk result (λ asked. IsAskedOf (state_of self.now) asked) }
+        ensures follows { IfOk result (λ asked. FollowsFrom (state_of self.now) asked) }
         ensures typed { IfOk result (λ asked. IsTyped (state_of self.now) (session_of self.now) command.now (answer_for asked)) }
         ensures asked { HasAsked F.Shelf command.now shelf.old shelf.new }
         ensures unasked { names_file command.now ≡ false → shelf.new ≡ shelf.old }
@@ -109,7 +110,7 @@ impl Client {
 
     // The step of what is asked for, unless the new state is too large.
     fn done(&mut self, alloc: Global, asked: Asked) -> Result<Prepared, AllocError>
-        requires { IsAskedOf (state_of self.old) asked }
+        requires { FollowsFrom (state_of self.old) asked }
         ensures same { IsSameClient self.old self.new }
         ensures made { IfOk result (λ prepared. IsMadeOn self.new prepared) }
         ensures step { IfOk result (λ prepared. Leads self.new prepared (done (state_of self.old) (session_of self.old)

@@ -1,6 +1,6 @@
 // `show`: the state is shown.
 ghost use Rattle.std.specs.Prelude.{◌≡◌, IfOk};
-ghost use Rattle.client_core.specs.Asked.{asked_outcome, IsAskedOf};
+ghost use Rattle.client_core.specs.Asked.{asked_outcome, FollowsFrom};
 ghost use Rattle.client_core.specs.Steps.{shown_answer, showing};
 
 use crate::answer::Answer;
@@ -15,7 +15,7 @@ impl Client {
     /// What `show` asks for.
     pub(crate) fn showing(&self, alloc: Global) -> Result<Asked, AllocError>
         ensures asks { IfOk result (λ asked. asked_outcome (state_of self.now) (session_of self.now) asked ≡ showing (state_of self.now) (session_of self.now)) }
-        ensures follows { IfOk result (λ asked. IsAskedOf (state_of self.now) asked) }
+        ensures follows { IfOk result (λ asked. FollowsFrom (state_of self.now) asked) }
     {
         let answer = answer_of(alloc, self.state())?;
         Ok(Asked::same(answer))

@@ -2,15 +2,14 @@
 ghost use Rattle.std.specs.Prelude.{◌≡◌, ◌≤◌, ◌+◌, IfOk, length};
 ghost use Rattle.row_batches.specs.Batch.{applied, batch_text, whole_of};
 ghost use Rattle.enrol_states.specs.Consistent.{IsConsistent};
-ghost use Rattle.state_codec.specs.Sound.{IsSound, HaveRecords};
+ghost use Rattle.state_codec.specs.RecipeLists.{HasLists};
+ghost use Rattle.state_codec.specs.Sound.{IsSound};
 ghost use Rattle.state_codec.specs.Spelling.{rows_of, spelling};
 ghost use Rattle.client_core.specs.Places.{row_changes};
-ghost use Rattle.client_core.specs.RecipeLists.{HasLists};
 
-use crate::recipe_lists::RecipeLists;
 use enrol_states::State;
 use row_batches::Batch;
-use state_codec::{change_beside_recipes, change_between, size_beside_recipes, state_size};
+use state_codec::{RecipeLists, StateSizes, change_after, sizes_after, sizes_of};
 use std::alloc::{AllocError, Global};
 use std::marker::Model;
 
@@ -19,20 +18,19 @@ const MAX_STATE_BYTES: u128 = 16_777_216;
 
 /// A state that may be stored, and how many bytes its spelling has. Contracts see it as the state.
 ///
-/// The next state's size is made of this one's: recipes are counted only where a command may change their lists.
+/// The next state's sizes are made of these: of recipes only those are counted that are gone, new or differ.
 #[derive(Drop)]
 pub(crate) struct SizedState {
     state: State,
-    size: u128,
+    sizes: StateSizes,
 }
 
 impl Model for SizedState {
-    ghost use Rattle.std.specs.Prelude.{◌≡◌, length};
     ghost use Rattle.std.specs.Coded.{codes};
     ghost use Rattle.json_tree.specs.Json.{json_code};
     ghost use Rattle.enrol_states.specs.declared.state.State.{State};
+    ghost use Rattle.state_codec.specs.Sizes.{IsSizeOf};
     ghost use Rattle.state_codec.specs.Sound.{IsSound};
-    ghost use Rattle.state_codec.specs.Spelling.{spelling};
 
     ghost Value = { State };
 
@@ -40,19 +38,19 @@ impl Model for SizedState {
 
     ghost view = { λ sized. sized.state };
 
-    ghost invariant = { λ sized. IsSound sized.state × (sized.size ≡ length (spelling sized.state)) };
+    ghost invariant = { λ sized. IsSound sized.state × IsSizeOf sized.state sized.sizes };
 }
 
 impl SizedState {
-    ghost use Rattle.client_core.specs.RecipeLists.{IsSized};
+    ghost use Rattle.client_core.specs.Sized.{IsSized};
 
     /// A sound state, whose spelling is counted.
     pub(crate) fn new(state: State) -> SizedState
         requires { IsSound state }
         ensures { result ≡ state }
     {
-        let size = state_size(&state);
-        SizedState { state, size }
+        let sizes = sizes_of(&state);
+        SizedState { state, sizes }
     }
 
     /// The state. It takes no memory.
@@ -69,24 +67,11 @@ impl SizedState {
         requires recipes { HasLists recipes self.now state }
         ensures { IsSized state result }
     {
-        let size = self.next_size(&state, recipes);
-        if size > MAX_STATE_BYTES {
-            return Err(size);
+        let sizes = sizes_after(self.sizes, &self.state, &state, recipes);
+        if sizes.total > MAX_STATE_BYTES {
+            return Err(sizes.total);
         }
-        Ok(SizedState { state, size })
-    }
-
-    // How many bytes the next state's spelling has.
-    fn next_size(&self, next: &State, recipes: RecipeLists) -> u128
-        requires consistent { IsConsistent next.now }
-        requires recipes { HasLists recipes self.now next.now }
-        ensures size { result ≡ length (spelling next.now) }
-        ensures records { HaveRecords next.now }
-    {
-        match recipes {
-            RecipeLists::AsBefore => size_beside_recipes(self.size, &self.state, next),
-            RecipeLists::MayDiffer => state_size(next),
-        }
+        Ok(SizedState { state, sizes })
     }
 
     /// The rows that change from this state to the next.
@@ -103,9 +88,6 @@ impl SizedState {
         ensures whole { IfOk result (λ batch. batch_text (whole_of (applied batch (rows_of self.now))) ≡ spelling next.now) }
         ensures size { IfOk result (λ batch. length (batch_text batch) ≤ length (spelling self.now) + length (spelling next.now)) }
     {
-        match recipes {
-            RecipeLists::AsBefore => change_beside_recipes(alloc, &self.state, &next.state),
-            RecipeLists::MayDiffer => change_between(alloc, &self.state, &next.state),
-        }
+        change_after(alloc, &self.state, &next.state, recipes)
     }
 }

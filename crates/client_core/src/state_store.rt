@@ -8,16 +8,17 @@ ghost use Rattle.row_store.specs.Moments.{KeepsEitherRows};
 ghost use Rattle.row_store.specs.Ready.{commit_cost, place_after};
 ghost use Rattle.row_store.specs.Store.{RowsStand, RowsStandWithGate, place};
 ghost use Rattle.enrol_states.specs.Consistent.{IsConsistent};
+ghost use Rattle.state_codec.specs.RecipeLists.{HasLists};
 ghost use Rattle.state_codec.specs.Sound.{IsSound};
 ghost use Rattle.state_codec.specs.Spelling.{rows_of};
-ghost use Rattle.client_core.specs.RecipeLists.{HasLists, IsSized};
+ghost use Rattle.client_core.specs.Sized.{IsSized};
 
 use crate::prepared::Change;
-use crate::recipe_lists::RecipeLists;
 use crate::sized_state::SizedState;
 use enrol_states::State;
 use host_model::{DiskFailed, Host};
 use row_store::RowStore;
+use state_codec::RecipeLists;
 use std::alloc::{AllocError, Global};
 use std::marker::Model;
 

@@ -1,6 +1,6 @@
 -- The changes between the rows of two states, whatever their bytes of participation are, are those of each list and of each row
 -- beside them.
-use Rattle.std.proofs.Common.{ℕ, ◌≡◌, ◌++◌, ◌∷◌, [], List, Option, map, refl, ap, ◌∙◌, sym, subst, append_assoc}
+use Rattle.std.proofs.Common.{ℕ, ◌≡◌, ◌++◌, ◌∷◌, [], List, Option, map, refl, ap, ap₂, ◌∙◌, sym, subst, append_assoc}
 use Rattle.std.specs.Cmp.Lexicographic.{bytes_decides, nat_list_cmp_total}
 use Rattle.std.proofs.lemmas.Cmp.{tied_itself}
 use Rattle.std.proofs.lemmas.List.{append-nil}
@@ -12,7 +12,7 @@ use Rattle.row_batches.specs.declared.store_row.StoreRow.{StoreRow}
 use Rattle.row_batches.proofs.Joining.{Precede, between-append}
 use Rattle.row_batches.proofs.Turns as turns
 use Rattle.state_codec.specs.Spelling.{key_row, recipe_row, status_row, status_rows, last_rows, pending_recipes, rows_with}
-use Rattle.state_codec.specs.Walking.{feature_changes, id_changes}
+use Rattle.state_codec.specs.Walking.{feature_changes, id_changes, live_changes, pending_changes}
 use Rattle.state_codec.proofs.Added.{follow}
 use Rattle.state_codec.proofs.KeyOrder.{IsBelow, all_below, from_statuses, from_opt_outs, from_pending, from_live, from_id, client_rows_below, opt_outs_below, pending_below, live_below, features_below}
 
@@ -23,10 +23,6 @@ list_joined f xs ys olds news old_below new_below = between-append olds news (ma
 pub between_itself : (rows : List StoreRow) → changes_between rows rows ≡ []
 between_itself [] = refl
 between_itself (r ∷ rs) = (turns.same r r rs rs ((bytes_decides r.value r.value).1 refl) (tied_itself nat_list_cmp_total r.key)).split ∙ between_itself rs
-
-nothing_more : (olds news : List StoreRow) (changes : List RowChange) → olds ≡ news → changes ≡ changes ++ changes_between olds news
-nothing_more olds news changes same =
-    sym (append-nil changes) ∙ ap (λ l. changes ++ l) (sym (subst (λ rows. changes_between olds rows ≡ []) same (between_itself olds)))
 
 statuses_below : (byte : ℕ) (s t : State) → Precede (status_rows byte s) (last_rows t)
 statuses_below byte s t = ((refl, (refl, (refl, tt))), ((refl, (refl, (refl, tt))), all_below status_row s.rows (last_rows t) (λ w. client_rows_below byte t w.slug)))
@@ -61,27 +57,32 @@ module _ (b c : ℕ) (s t : State) where
       let from_2 : c3 ≡ c1 ++ changes_between (from_statuses b s) (from_statuses c t) = follow (changes_between (status_rows b s) (status_rows c t)) (changes_between (last_rows s) (last_rows t)) c1 e2 e3 ∙ ap (λ l. c1 ++ l) (sym statuses) in
       follow of_opt_outs (changes_between (from_statuses b s) (from_statuses c t)) c0 e1 from_2 ∙ ap (λ l. c0 ++ l) (sym opt_outs)
 
-  pub all_added : (c0 c1 c2 c3 c4 : List RowChange) → c0 ≡ []
+  pub all_added : (c0 c1 c2 c3 : List RowChange) → c0 ≡ []
       → c1 ≡ c0 ++ (feature_changes s t ++ id_changes s t)
-      → c2 ≡ c1 ++ changes_between (map (recipe_row (108 ∷ [])) s.live) (map (recipe_row (108 ∷ [])) t.live)
-      → c3 ≡ c2 ++ changes_between (map (recipe_row (110 ∷ [])) (pending_recipes s.pending)) (map (recipe_row (110 ∷ [])) (pending_recipes t.pending))
-      → c4 ≡ c3 ++ changes_between (from_opt_outs b s) (from_opt_outs c t)
-      → c4 ≡ changes_between (rows_with b s) (rows_with c t)
-  all_added c0 c1 c2 c3 c4 none e1 e2 e3 e4 =
-      let of_pending : List RowChange = changes_between (map (recipe_row (110 ∷ [])) (pending_recipes s.pending)) (map (recipe_row (110 ∷ [])) (pending_recipes t.pending)) in
-      let of_live : List RowChange = changes_between (map (recipe_row (108 ∷ [])) s.live) (map (recipe_row (108 ∷ [])) t.live) in
-      let from_3 : c4 ≡ c2 ++ changes_between (from_pending b s) (from_pending c t) = follow of_pending (changes_between (from_opt_outs b s) (from_opt_outs c t)) c2 e3 e4 ∙ ap (λ l. c2 ++ l) (sym pending) in
-      let from_2 : c4 ≡ c1 ++ changes_between (from_live b s) (from_live c t) = follow of_live (changes_between (from_pending b s) (from_pending c t)) c1 e2 from_3 ∙ ap (λ l. c1 ++ l) (sym live) in
-      let from_1 : c4 ≡ c0 ++ ((feature_changes s t ++ id_changes s t) ++ changes_between (from_live b s) (from_live c t)) = follow (feature_changes s t ++ id_changes s t) (changes_between (from_live b s) (from_live c t)) c0 e1 from_2 in
+      → c2 ≡ c1 ++ (live_changes s t ++ pending_changes s t)
+      → c3 ≡ c2 ++ changes_between (from_opt_outs b s) (from_opt_outs c t)
+      → c3 ≡ changes_between (rows_with b s) (rows_with c t)
+  all_added c0 c1 c2 c3 none e1 e2 e3 =
+      let behind : List RowChange = changes_between (from_opt_outs b s) (from_opt_outs c t) in
+      let of_recipes : (live_changes s t ++ pending_changes s t) ++ behind ≡ changes_between (from_live b s) (from_live c t) = append_assoc (live_changes s t) (pending_changes s t) behind ∙ ap (λ l. live_changes s t ++ l) (sym pending) ∙ sym live in
+      let from_2 : c3 ≡ c1 ++ changes_between (from_live b s) (from_live c t) = follow (live_changes s t ++ pending_changes s t) behind c1 e2 e3 ∙ ap (λ l. c1 ++ l) of_recipes in
+      let from_1 : c3 ≡ c0 ++ ((feature_changes s t ++ id_changes s t) ++ changes_between (from_live b s) (from_live c t)) = follow (feature_changes s t ++ id_changes s t) (changes_between (from_live b s) (from_live c t)) c0 e1 from_2 in
       let as_rows : (feature_changes s t ++ id_changes s t) ++ changes_between (from_live b s) (from_live c t) ≡ changes_between (rows_with b s) (rows_with c t) = append_assoc (feature_changes s t) (id_changes s t) (changes_between (from_live b s) (from_live c t)) ∙ sym features in
       from_1 ∙ ap (λ l. c0 ++ l) as_rows ∙ ap (λ l. l ++ changes_between (rows_with b s) (rows_with c t)) none
 
+-- ---- recipes
+
+module _ (s t : State) where
+  same_live : s.live ≡ t.live → live_changes s t ≡ []
+  same_live same = subst (λ (rs : List Recipe). changes_between (map (recipe_row (108 ∷ [])) s.live) (map (recipe_row (108 ∷ [])) rs) ≡ []) same (between_itself (map (recipe_row (108 ∷ [])) s.live))
+
+  same_pending : s.pending ≡ t.pending → pending_changes s t ≡ []
+  same_pending same =
+      subst (λ (p : Option (List Recipe)). changes_between (map (recipe_row (110 ∷ [])) (pending_recipes s.pending)) (map (recipe_row (110 ∷ [])) (pending_recipes p)) ≡ []) same (between_itself (map (recipe_row (110 ∷ [])) (pending_recipes s.pending)))
+
   -- recipes that stay as they are add nothing
-  pub all_beside_recipes : (c0 c1 c2 : List RowChange) → s.live ≡ t.live → s.pending ≡ t.pending → c0 ≡ []
-      → c1 ≡ c0 ++ (feature_changes s t ++ id_changes s t)
-      → c2 ≡ c1 ++ changes_between (from_opt_outs b s) (from_opt_outs c t)
-      → c2 ≡ changes_between (rows_with b s) (rows_with c t)
-  all_beside_recipes c0 c1 c2 same_live same_pending none e1 e2 =
-      let live_rows : map (recipe_row (108 ∷ [])) s.live ≡ map (recipe_row (108 ∷ [])) t.live = ap (map (recipe_row (108 ∷ []))) same_live in
-      let pending_rows : map (recipe_row (110 ∷ [])) (pending_recipes s.pending) ≡ map (recipe_row (110 ∷ [])) (pending_recipes t.pending) = ap (λ (p : Option (List Recipe)). map (recipe_row (110 ∷ [])) (pending_recipes p)) same_pending in
-      all_added c0 c1 c1 c1 c2 none e1 (nothing_more _ _ c1 live_rows) (nothing_more _ _ c1 pending_rows) e2
+  pub none_added : (c0 : List RowChange) → s.live ≡ t.live → s.pending ≡ t.pending → c0 ≡ c0 ++ (live_changes s t ++ pending_changes s t)
+  none_added c0 live pending = sym (append-nil c0) ∙ ap₂ (λ (of_live of_pending : List RowChange). c0 ++ (of_live ++ of_pending)) (sym (same_live live)) (sym (same_pending pending))
+
+  pub pending_added : (c0 c1 : List RowChange) → s.live ≡ t.live → c1 ≡ c0 ++ pending_changes s t → c1 ≡ c0 ++ (live_changes s t ++ pending_changes s t)
+  pending_added c0 c1 live is = is ∙ ap (λ (of_live : List RowChange). c0 ++ (of_live ++ pending_changes s t)) (sym (same_live live))

@@ -1,4 +1,5 @@
 pub mod Records
+pub mod RecipeWalk
 pub mod Folding
 pub mod SectionsRead
 pub mod StateRead

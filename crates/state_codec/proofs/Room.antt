@@ -38,6 +38,10 @@ pub pending_valid : (p : Option (List Recipe)) → ArePending p → AreValid (pe
 pending_valid None are = tt
 pending_valid (Some rs) are = are.valid
 
+pub pending_limit : (p : Option (List Recipe)) → ArePending p → length (pending_recipes p) ≤ 2000
+pending_limit None are = omega arith
+pending_limit (Some rs) are = are.limit
+
 keys_short : (byte : ℕ) (s : State) → IsConsistent s → HaveShortKeys (rows_with byte s)
 unfolding rows_with
 keys_short byte s is =

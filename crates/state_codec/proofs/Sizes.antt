@@ -1,5 +1,5 @@
 -- How many bytes rows are put in.
-use Rattle.std.proofs.Common.{◌≡◌, ◌+◌, ◌<◌, ◌++◌, ◌∷◌, [], List, Option, ℕ, map, length, get_or, take, ap, ap₂, ◌∙◌, sym, arith, length-append}
+use Rattle.std.proofs.Common.{◌≡◌, ◌+◌, ◌<◌, ◌≤◌, ◌^◌, ◌++◌, ◌∷◌, [], List, ℕ, map, length, get_or, take, refl, ap, ◌∙◌, sym, arith, length-append}
 use Rattle.std.proofs.lemmas.List.{map-append, take_more}
 use Rattle.std.specs.Option.{is_some}
 use Rattle.row_batches.proofs.Sizes.{put_size, puts_text-append, puts_size-append}
@@ -9,7 +9,9 @@ use Rattle.recipe_reader.specs.declared.recipe.Recipe.{Recipe}
 use Rattle.enrol_states.specs.declared.state.State.{State}
 use Rattle.state_codec.specs.Forms.{old_spelling}
 use Rattle.state_values.specs.Values.{hyphenated, participation, bit}
-use Rattle.state_codec.specs.Spelling.{row, key_row, recipe_row, recipe_rows, status_row, status_rows, last_rows, pending_recipes, rows_with, spelling}
+use Rattle.state_codec.specs.Sizes.{recipes_size}
+use Rattle.state_codec.specs.Sound.{IsSound}
+use Rattle.state_codec.specs.Spelling.{row, key_row, recipe_row, status_row, status_rows, last_rows, pending_recipes, rows_with, spelling}
 use Rattle.state_values.specs.Statuses.{number}
 use Rattle.row_batches.specs.declared.store_row.StoreRow.{StoreRow}
 use Rattle.state_values.proofs.ValuesRead.{length-number}
@@ -43,12 +45,14 @@ last_rows_size : (s : State) → length (puts_text (last_rows s)) ≡ 40 + lengt
 last_rows_size s =
     omega (arith, put_size (row (116 ∷ []) (number s.installed)) (row (117 ∷ []) (number s.updated) ∷ row (118 ∷ []) s.version ∷ []), put_size (row (117 ∷ []) (number s.updated)) (row (118 ∷ []) s.version ∷ []), put_size (row (118 ∷ []) s.version) [], length-number s.installed, length-number s.updated)
 
-recipe_rows_size : (s : State) → length (puts_text (recipe_rows s)) ≡ length (puts_text (map (recipe_row (108 ∷ [])) s.live)) + length (puts_text (map (recipe_row (110 ∷ [])) (pending_recipes s.pending)))
-recipe_rows_size s = puts_size-append (map (recipe_row (108 ∷ [])) s.live) (map (recipe_row (110 ∷ [])) (pending_recipes s.pending))
+-- whatever the letter of their keys is
+recipe_rows_size : (tag : ℕ) (rs : List Recipe) → length (puts_text (map (recipe_row (tag ∷ [])) rs)) ≡ recipes_size rs
+recipe_rows_size tag [] = refl
+recipe_rows_size tag (r ∷ rs) = omega (arith, put_size (recipe_row (tag ∷ []) r) (map (recipe_row (tag ∷ [])) rs), recipe_rows_size tag rs)
 
 pub length-with : (byte : ℕ) (s : State) → length (batch_text (whole_of (rows_with byte s)))
     ≡ 103 + length (puts_text (map (key_row (99 ∷ [])) s.coenrolling)) + length (puts_text (map (key_row (111 ∷ [])) s.opted_out)) + length (puts_text (map status_row s.rows)) + length s.version
-    + length (puts_text (recipe_rows s))
+    + (recipes_size s.live + recipes_size (pending_recipes s.pending))
 unfolding rows_with
 length-with byte s =
     let c = map (key_row (99 ∷ [])) s.coenrolling in
@@ -57,11 +61,11 @@ length-with byte s =
     let n = map (recipe_row (110 ∷ [])) (pending_recipes s.pending) in
     let o = map (key_row (111 ∷ [])) s.opted_out in
     let last = status_rows byte s ++ last_rows s in
-    omega (arith, puts_size-append c (i ∷ (l ++ (n ++ (o ++ last)))), put_size i (l ++ (n ++ (o ++ last))), length-hyphenated s.id, puts_size-append l (n ++ (o ++ last)), puts_size-append n (o ++ last), recipe_rows_size s, puts_size-append o last, puts_size-append (status_rows byte s) (last_rows s), status_rows_size byte s, last_rows_size s)
+    omega (arith, puts_size-append c (i ∷ (l ++ (n ++ (o ++ last)))), put_size i (l ++ (n ++ (o ++ last))), length-hyphenated s.id, puts_size-append l (n ++ (o ++ last)), puts_size-append n (o ++ last), recipe_rows_size 108 s.live, recipe_rows_size 110 (pending_recipes s.pending), puts_size-append o last, puts_size-append (status_rows byte s) (last_rows s), status_rows_size byte s, last_rows_size s)
 
 pub length-spelling : (s : State) → length (spelling s)
     ≡ 103 + length (puts_text (map (key_row (99 ∷ [])) s.coenrolling)) + length (puts_text (map (key_row (111 ∷ [])) s.opted_out)) + length (puts_text (map status_row s.rows)) + length s.version
-    + length (puts_text (recipe_rows s))
+    + (recipes_size s.live + recipes_size (pending_recipes s.pending))
 unfolding spelling
 length-spelling s = length-with (participation s) s
 
@@ -73,10 +77,9 @@ pub length-old : (s : State) → length (old_spelling s) ≡ length (spelling s)
 unfolding old_spelling spelling
 length-old s = length-byte (bit s.experiments) (participation s) s
 
--- the size of a state with the same recipes
-pub length-same_recipes : (s t : State) → s.live ≡ t.live → s.pending ≡ t.pending → length (puts_text (recipe_rows s)) ≡ length (puts_text (recipe_rows t))
-length-same_recipes s t live pending = ap₂ (λ (rs : List Recipe) (p : Option (List Recipe)). length (puts_text (map (recipe_row (108 ∷ [])) rs ++ map (recipe_row (110 ∷ [])) (pending_recipes p)))) live pending
+-- the parts of a sound state are short
+pub live_short : (s : State) → IsSound s → recipes_size s.live ≤ 2 ^ 24
+live_short s is = omega (arith, length-spelling s, is.size)
 
-pub length-recipe_rows : (s : State) (live pending : ℕ) → live ≡ length (puts_text (map (recipe_row (108 ∷ [])) s.live)) → pending ≡ length (puts_text (map (recipe_row (110 ∷ [])) (pending_recipes s.pending)))
-    → length (puts_text (recipe_rows s)) ≡ live + pending
-length-recipe_rows s live pending live_is pending_is = omega (arith, recipe_rows_size s, live_is, pending_is)
+pub pending_short : (s : State) → IsSound s → recipes_size (pending_recipes s.pending) ≤ 2 ^ 24
+pending_short s is = omega (arith, length-spelling s, is.size)

@@ -7,3 +7,5 @@ pub mod Laws
 pub mod Folds
 pub mod Reading
 pub mod Walking
+pub mod RecipeLists
+pub mod Sizes

@@ -41,10 +41,7 @@ last_rows s = row (codes "t") (number s.installed) ∷ row (codes "u") (number s
 abbrev pub status_rows : ℕ → State → List StoreRow
 status_rows byte s = row (codes "p") (byte ∷ []) ∷ row (codes "q") (bit (is_some s.pending) ∷ []) ∷ map status_row s.rows
 
--- the rows of recipes, and those behind them; a state has features and its id before them
-abbrev pub recipe_rows : State → List StoreRow
-recipe_rows s = map (recipe_row (codes "l")) s.live ++ map (recipe_row (codes "n")) (pending_recipes s.pending)
-
+-- the rows behind those of recipes
 abbrev pub rows_behind_recipes : ℕ → State → List StoreRow
 rows_behind_recipes byte s = map (key_row (codes "o")) s.opted_out ++ (status_rows byte s ++ last_rows s)
 

@@ -1,4 +1,4 @@
--- The changes of what stands before the recipes, and steps of a walk over two lists: what their first items are to each other,
+-- The changes of the parts of a state up to its recipes, and steps of a walk over two lists: what their first items are to each other,
 -- by the texts behind their letters and by their values.
 use Rattle.std.specs.Prelude.{◌≡◌, ℕ, List, true, false, map, codes, bytes_eq}
 use Rattle.std.specs.declared.cmp.Ordering.TheVariants.{Less, Equal, Greater}
@@ -7,7 +7,7 @@ use Rattle.row_batches.specs.Between.{put_where_differs, changes_between}
 use Rattle.row_batches.specs.Rows.{key_cmp}
 use Rattle.row_batches.specs.declared.change.RowChange.{RowChange}
 use Rattle.state_values.specs.Values.{hyphenated}
-use Rattle.state_codec.specs.Spelling.{row, key_row}
+use Rattle.state_codec.specs.Spelling.{row, key_row, recipe_row, pending_recipes}
 use Rattle.state_codec.specs.declared.walking.Step.{Step}
 use Rattle.state_codec.specs.declared.walking.Step.TheVariants.{Gone, New, Differs, Same}
 
@@ -16,6 +16,12 @@ feature_changes s t = changes_between (map (key_row (codes "c")) s.coenrolling) 
 
 abbrev pub id_changes : State → State → List RowChange
 id_changes s t = put_where_differs (row (codes "i") (hyphenated s.id)) (row (codes "i") (hyphenated t.id))
+
+abbrev pub live_changes : State → State → List RowChange
+live_changes s t = changes_between (map (recipe_row (codes "l")) s.live) (map (recipe_row (codes "l")) t.live)
+
+abbrev pub pending_changes : State → State → List RowChange
+pending_changes s t = changes_between (map (recipe_row (codes "n")) (pending_recipes s.pending)) (map (recipe_row (codes "n")) (pending_recipes t.pending))
 
 abbrev pub IsStep : List ℕ → List ℕ → List ℕ → List ℕ → Step → Type 0
 IsStep old old_value new new_value Gone = key_cmp old new ≡ Less

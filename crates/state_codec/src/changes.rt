@@ -6,10 +6,12 @@ ghost use Rattle.enrol_states.specs.Statuses.{IsStatus};
 ghost use Rattle.row_batches.specs.Batch.{applied, batch_text, whole_of};
 ghost use Rattle.row_batches.specs.Between.{put_where_differs, changes_between, between};
 ghost use Rattle.state_codec.specs.Kinds.{letter};
+ghost use Rattle.state_codec.specs.RecipeLists.{HasLists};
 ghost use Rattle.state_values.specs.Values.{participation};
 ghost use Rattle.state_codec.specs.Spelling.{key_row, recipe_row, status_row, status_rows, last_rows, pending_recipes, rows_behind_recipes, rows_of, spelling};
-ghost use Rattle.state_codec.specs.Walking.{feature_changes, id_changes};
+ghost use Rattle.state_codec.specs.Walking.{feature_changes, id_changes, live_changes, pending_changes};
 
+use crate::recipe_lists::RecipeLists;
 use crate::row_kind::RowKind;
 use crate::row_making::{flag_row, id_row, moment_row, participation_row, version_row};
 use crate::rows::rows_of;
@@ -36,8 +38,8 @@ pub fn whole_batch(alloc: Global, state: &State) -> Result<Batch, AllocError>
 
 /// The batch from the rows of a state to those of the next: a put for each row that is new or differs, a delete for each that
 /// is gone, and nothing else. Its cost is that of comparing the states: a row is made only where it changes, and recipes are
-/// compared as values. Of a list of recipes that both states share each is compared with itself: where the caller knows that
-/// the recipes are the same, `change_beside_recipes` gives the same batch and looks at none.
+/// compared as values. Where it is known that a list of recipes is as before, `change_after` gives the same batch and looks at
+/// none of them.
 pub fn change_between(alloc: Global, old: &State, new: &State) -> Result<Batch, AllocError>
     requires old_state { IsConsistent old.now }
     requires new_state { IsConsistent new.now }
@@ -50,19 +52,22 @@ pub fn change_between(alloc: Global, old: &State, new: &State) -> Result<Batch, 
     ensures whole { IfOk result (λ batch. batch_text (whole_of (applied batch (rows_of old.now))) ≡ spelling new.now) }
     ensures size { IfOk result (λ batch. length (batch_text batch) ≤ length (spelling old.now) + length (spelling new.now)) }
 {
-    let changes = changes_of(alloc, old, new)?;
-    Ok(Batch::of_changes(changes))
+    change_after(alloc, old, new, RecipeLists::MayDiffer)
 }
 
-/// The batch from the rows of a state to those of the next, as `change_between` gives it, where both have the same recipes:
-/// these aren't looked at, so the cost is that of the other lists, which are walked once.
-pub fn change_beside_recipes(alloc: Global, old: &State, new: &State) -> Result<Batch, AllocError>
+/// The batch of `change_between`, where it is known which lists of recipes are as before: these aren't looked at, so the cost
+/// is that of the other lists, which are walked once.
+pub fn change_after(
+    alloc: Global,
+    old: &State,
+    new: &State,
+    recipes: RecipeLists,
+) -> Result<Batch, AllocError>
     requires old_state { IsConsistent old.now }
     requires new_state { IsConsistent new.now }
     requires old_size { length (spelling old.now) < 2 ^ 32 }
     requires new_size { length (spelling new.now) < 2 ^ 32 }
-    requires same_live { old.now.live ≡ new.now.live }
-    requires same_pending { old.now.pending ≡ new.now.pending }
+    requires recipes { HasLists recipes old.now new.now }
     ensures between { IfOk result (λ batch. batch ≡ between (rows_of old.now) (rows_of new.now)) }
     ensures gives { IfOk result (λ batch. applied batch (rows_of old.now) ≡ rows_of new.now) }
 
@@ -70,55 +75,91 @@ pub fn change_beside_recipes(alloc: Global, old: &State, new: &State) -> Result<
     ensures whole { IfOk result (λ batch. batch_text (whole_of (applied batch (rows_of old.now))) ≡ spelling new.now) }
     ensures size { IfOk result (λ batch. length (batch_text batch) ≤ length (spelling old.now) + length (spelling new.now)) }
 {
-    let changes = changes_beside_recipes(alloc, old, new)?;
+    let changes = changes_of(alloc, old, new, recipes)?;
     Ok(Batch::of_changes(changes))
 }
 
 // The changes from the rows of a state to those of the next.
-#[tactic(auto, using(crate::proofs::Room::pending_valid))]
-fn changes_of(alloc: Global, old: &State, new: &State) -> Result<Sequence<RowChange>, AllocError>
+fn changes_of(
+    alloc: Global,
+    old: &State,
+    new: &State,
+    recipes: RecipeLists,
+) -> Result<Sequence<RowChange>, AllocError>
     requires old_state { IsConsistent old.now }
     requires new_state { IsConsistent new.now }
+    requires recipes { HasLists recipes old.now new.now }
     ensures { IfOk result (λ changes. changes ≡ changes_between (rows_of old.now) (rows_of new.now)) }
 {
     let mut changes = Sequence::new(alloc);
     add_before_recipes(alloc, &mut changes, old, new)?;
-    add_recipes(
-        alloc,
-        &mut changes,
-        RowKind::Live,
-        old.live.as_slice(),
-        new.live.as_slice(),
-    )?;
-    let old_pending = pending_recipes(&old.pending);
-    let new_pending = pending_recipes(&new.pending);
-    add_recipes(
-        alloc,
-        &mut changes,
-        RowKind::Pending,
-        old_pending,
-        new_pending,
-    )?;
+    add_recipes(alloc, &mut changes, old, new, recipes)?;
     add_behind_recipes(alloc, &mut changes, old, new)?;
     Ok(changes)
 }
 
-// The same of states that have the same recipes.
-fn changes_beside_recipes(
+// Adds the changes of the rows of recipes.
+fn add_recipes(
     alloc: Global,
+    changes: &mut Sequence<RowChange>,
     old: &State,
     new: &State,
-) -> Result<Sequence<RowChange>, AllocError>
-    requires old_statuses { All (λ row. IsStatus row.status) old.now.rows }
-    requires new_statuses { All (λ row. IsStatus row.status) new.now.rows }
-    requires same_live { old.now.live ≡ new.now.live }
-    requires same_pending { old.now.pending ≡ new.now.pending }
-    ensures { IfOk result (λ changes. changes ≡ changes_between (rows_of old.now) (rows_of new.now)) }
+    recipes: RecipeLists,
+) -> Result<(), AllocError>
+    requires old_state { IsConsistent old.now }
+    requires new_state { IsConsistent new.now }
+    requires recipes { HasLists recipes old.now new.now }
+    ensures { OnOk result (changes.new ≡ changes.old ++ (live_changes old.now new.now ++ pending_changes old.now new.now)) }
 {
-    let mut changes = Sequence::new(alloc);
-    add_before_recipes(alloc, &mut changes, old, new)?;
-    add_behind_recipes(alloc, &mut changes, old, new)?;
-    Ok(changes)
+    match recipes {
+        RecipeLists::AsBefore => Ok(()),
+        RecipeLists::LiveAsBefore => add_pending(alloc, changes, old, new),
+        RecipeLists::MayDiffer => {
+            add_live(alloc, changes, old, new)?;
+            add_pending(alloc, changes, old, new)
+        }
+    }
+}
+
+// Adds the changes of the rows of live recipes.
+fn add_live(
+    alloc: Global,
+    changes: &mut Sequence<RowChange>,
+    old: &State,
+    new: &State,
+) -> Result<(), AllocError>
+    requires old_state { IsConsistent old.now }
+    requires new_state { IsConsistent new.now }
+    ensures { OnOk result (changes.new ≡ changes.old ++ live_changes old.now new.now) }
+{
+    add_list(
+        alloc,
+        changes,
+        RowKind::Live,
+        old.live.as_slice(),
+        new.live.as_slice(),
+    )
+}
+
+// Adds the changes of the rows of pending recipes.
+#[tactic(auto, using(crate::proofs::Room::pending_valid))]
+fn add_pending(
+    alloc: Global,
+    changes: &mut Sequence<RowChange>,
+    old: &State,
+    new: &State,
+) -> Result<(), AllocError>
+    requires old_state { IsConsistent old.now }
+    requires new_state { IsConsistent new.now }
+    ensures { OnOk result (changes.new ≡ changes.old ++ pending_changes old.now new.now) }
+{
+    add_list(
+        alloc,
+        changes,
+        RowKind::Pending,
+        pending_recipes(&old.pending),
+        pending_recipes(&new.pending),
+    )
 }
 
 // Adds the changes of the rows of the features and of the id.
@@ -238,8 +279,9 @@ fn add_opt_outs(
     add_changes(alloc, changes, RowKind::OptedOut, olds, news)
 }
 
+// Adds the changes of the rows of one list of recipes.
 #[tactic(auto, using(crate::proofs::Items::all_valid))]
-fn add_recipes(
+fn add_list(
     alloc: Global,
     changes: &mut Sequence<RowChange>,
     kind: RowKind,
@@ -266,8 +308,8 @@ fn add_client_rows(
     add_changes(alloc, changes, RowKind::Status, olds, news)
 }
 
-// The recipes that are pending, if any are.
-fn pending_recipes(pending: &Option<Recipes>) -> &[Recipe]
+/// The recipes that are pending, if any are.
+pub(crate) fn pending_recipes(pending: &Option<Recipes>) -> &[Recipe]
     ensures { result.now ≡ pending_recipes pending.now }
 {
     match pending {

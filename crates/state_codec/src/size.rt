@@ -1,25 +1,39 @@
 // How many bytes a state is spelled in.
-ghost use Rattle.std.specs.Prelude.{◌≡◌, ◌≤◌, ◌<◌, ◌+◌, ◌^◌, ◌*◌, ◌∷◌, [], ℕ, All, IsTrue, map, codes, length};
-ghost use Rattle.recipe_reader.specs.Payloads.{AreValid};
+ghost use Rattle.std.specs.Prelude.{◌≡◌, ◌≤◌, ◌<◌, ◌+◌, ◌^◌, ◌*◌, All, IsTrue, map, codes, length};
 ghost use Rattle.plain_text.specs.Names.{is_name};
 ghost use Rattle.enrol_states.specs.Consistent.{IsConsistent};
 ghost use Rattle.row_batches.specs.Batch.{puts_text};
 ghost use Rattle.state_codec.specs.Forms.{old_spelling};
-ghost use Rattle.state_codec.specs.Spelling.{spelling, key_row, recipe_row, recipe_rows, status_row, pending_recipes};
+ghost use Rattle.state_codec.specs.RecipeLists.{HasLists};
+ghost use Rattle.state_codec.specs.Sizes.{recipes_size, IsSizeOf};
+ghost use Rattle.state_codec.specs.Spelling.{spelling, key_row, status_row, pending_recipes};
 ghost use Rattle.state_codec.specs.Sound.{IsSound, HaveRecords, AreRecords};
 
+use crate::changes::pending_recipes;
+use crate::recipe_lists::RecipeLists;
+use crate::recipe_sizes::{recipes_size, recipes_size_after};
 use enrol_states::{Row, State};
 use plain_text::Slug;
-use recipe_reader::{Recipe, Recipes, record_length};
 use sequences::Text;
 use state_values::status_len;
 
 /// The bytes of a put beside its key and its value.
-const PUT: u128 = 7;
+pub(crate) const PUT: u128 = 7;
 
 /// The clear, and the rows that a state has one of each: the id, participation, whether recipes are pending, two moments, and
 /// the version without its value.
 const FRAME: u128 = 103;
+
+/// How many bytes a state is spelled in, and how many of them its recipes take.
+#[derive(Clone, Copy)]
+pub struct StateSizes {
+    /// Of the whole spelling.
+    pub total: u128,
+    /// Of the rows of live recipes.
+    pub live: u128,
+    /// Of the rows of pending recipes.
+    pub pending: u128,
+}
 
 /// How many bytes the state's spelling has, and its old form. It is counted without a text, and takes no memory.
 pub fn state_size(state: &State) -> u128
@@ -28,29 +42,88 @@ pub fn state_size(state: &State) -> u128
     ensures old_size { result ≡ length (old_spelling state.now) }
     ensures records { HaveRecords state.now }
 {
-    let live = recipes_size(state.live.as_slice());
-    let pending = pending_size(&state.pending);
-    size_without_recipes(state) + live + pending
+    sizes_of(state).total
 }
 
-/// How many bytes the new state's spelling has, by those of the old one's, where both have the same recipes: these aren't
-/// looked at. It takes no memory.
-pub fn size_beside_recipes(before: u128, old: &State, new: &State) -> u128
-    requires before { before ≡ length (spelling old.now) }
+/// The sizes of the state. They are counted without a text, and take no memory.
+#[tactic(auto, using(crate::proofs::Room::pending_valid, crate::proofs::Room::pending_limit))]
+pub fn sizes_of(state: &State) -> StateSizes
+    requires { IsConsistent state.now }
+    ensures sizes { IsSizeOf state.now result }
+    ensures records { HaveRecords state.now }
+{
+    let live = recipes_size(state.live.as_slice());
+    let pending = recipes_size(pending_recipes(&state.pending));
+    StateSizes {
+        total: size_without_recipes(state) + live + pending,
+        live,
+        pending,
+    }
+}
+
+/// The sizes of the new state, by those of the old one. A list of recipes that is as before isn't looked at, and of one that
+/// may differ both are walked once, and only recipes that are gone, new or differ are counted. It takes no memory.
+pub fn sizes_after(before: StateSizes, old: &State, new: &State, recipes: RecipeLists) -> StateSizes
+    requires before { IsSizeOf old.now before }
     requires old_state { IsSound old.now }
     requires new_state { IsConsistent new.now }
-    requires same_live { old.now.live ≡ new.now.live }
-    requires same_pending { old.now.pending ≡ new.now.pending }
-    ensures size { result ≡ length (spelling new.now) }
+    requires recipes { HasLists recipes old.now new.now }
+    ensures sizes { IsSizeOf new.now result }
     ensures records { HaveRecords new.now }
 {
-    before - size_without_recipes(old) + size_without_recipes(new)
+    let live = live_size(before.live, old, new, recipes);
+    let pending = pending_size(before.pending, old, new, recipes);
+    StateSizes {
+        total: size_without_recipes(new) + live + pending,
+        live,
+        pending,
+    }
+}
+
+// The size of the new state's live recipes, by that of the old one's.
+#[tactic(auto, using(crate::proofs::Sizes::live_short))]
+fn live_size(before: u128, old: &State, new: &State, recipes: RecipeLists) -> u128
+    requires before { before ≡ recipes_size old.now.live }
+    requires old_state { IsSound old.now }
+    requires new_state { IsConsistent new.now }
+    requires recipes { HasLists recipes old.now new.now }
+    ensures size { result ≡ recipes_size new.now.live }
+    ensures bound { result ≤ 2 ^ 92 }
+    ensures records { AreRecords new.now.live }
+{
+    match recipes {
+        RecipeLists::AsBefore | RecipeLists::LiveAsBefore => before,
+        RecipeLists::MayDiffer => {
+            recipes_size_after(before, old.live.as_slice(), new.live.as_slice())
+        }
+    }
+}
+
+// The size of the new state's pending recipes, by that of the old one's.
+#[tactic(auto, using(crate::proofs::Room::pending_valid, crate::proofs::Room::pending_limit, crate::proofs::Sizes::pending_short))]
+fn pending_size(before: u128, old: &State, new: &State, recipes: RecipeLists) -> u128
+    requires before { before ≡ recipes_size (pending_recipes old.now.pending) }
+    requires old_state { IsSound old.now }
+    requires new_state { IsConsistent new.now }
+    requires recipes { HasLists recipes old.now new.now }
+    ensures size { result ≡ recipes_size (pending_recipes new.now.pending) }
+    ensures bound { result ≤ 2 ^ 92 }
+    ensures records { AreRecords (pending_recipes new.now.pending) }
+{
+    match recipes {
+        RecipeLists::AsBefore => before,
+        RecipeLists::LiveAsBefore | RecipeLists::MayDiffer => recipes_size_after(
+            before,
+            pending_recipes(&old.pending),
+            pending_recipes(&new.pending),
+        ),
+    }
 }
 
 // How many bytes the spelling has beside the rows of recipes.
 fn size_without_recipes(state: &State) -> u128
     requires { All (λ name. IsTrue (is_name name)) state.now.coenrolling }
-    ensures size { length (spelling state.now) ≡ result + length (puts_text (recipe_rows state.now)) }
+    ensures size { length (spelling state.now) ≡ result + (recipes_size state.now.live + recipes_size (pending_recipes state.now.pending)) }
     ensures bound { result < 2 ^ 80 }
 {
     let features = features_size(state.coenrolling.as_slice());
@@ -58,33 +131,6 @@ fn size_without_recipes(state: &State) -> u128
     let rows = client_rows_size(state.rows.as_slice());
     let version = state.version.as_str().len() as u128;
     FRAME + features + slugs + rows + version
-}
-
-fn recipes_size(recipes: &[Recipe]) -> u128
-    requires count { length recipes.now ≤ 2000 }
-    requires valid { AreValid recipes.now }
-    ensures size { (tag : ℕ) → result ≡ length (puts_text (map (recipe_row (tag ∷ [])) recipes.now)) }
-    ensures bound { result ≤ 2000 * 2 ^ 79 }
-    ensures records { AreRecords recipes.now }
-{
-    let mut size: u128 = 0;
-    for recipe in recipes {
-        size += PUT + 1 + recipe.slug.text().len() as u128 + record_length(recipe);
-    }
-    size
-}
-
-fn pending_size(pending: &Option<Recipes>) -> u128
-    requires count { length (pending_recipes pending.now) ≤ 2000 }
-    requires valid { AreValid (pending_recipes pending.now) }
-    ensures size { (tag : ℕ) → result ≡ length (puts_text (map (recipe_row (tag ∷ [])) (pending_recipes pending.now))) }
-    ensures bound { result ≤ 2000 * 2 ^ 79 }
-    ensures records { AreRecords (pending_recipes pending.now) }
-{
-    match pending {
-        Some(recipes) => recipes_size(recipes.as_slice()),
-        None => 0,
-    }
 }
 
 fn features_size(features: &[Text]) -> u128

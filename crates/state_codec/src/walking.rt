@@ -59,8 +59,8 @@ pub(crate) fn add_changes<T: RowItem>(
     }
 }
 
-// The first item, and those behind it.
-fn first_of<T>(items: &[T]) -> Option<(&T, &[T])>
+/// The first item, and those behind it.
+pub(crate) fn first_of<T>(items: &[T]) -> Option<(&T, &[T])>
     ensures some { IfSome result (λ p. items.now ≡ p.0.now ∷ p.1.now) }
     ensures none { IfNone result (items.now ≡ []) }
 {

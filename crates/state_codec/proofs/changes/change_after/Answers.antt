@@ -1,7 +1,7 @@
 -- The changes are a batch, and the text of all rows after it is the spelling of the next state.
 use Rattle.state_codec.proofs.Changed.{is_batch, gives_rows, gives_whole, is_short}
 use Rattle.state_codec.proofs.Spelled.{batch_between}
-use Rattle.state_codec.proofs.changes.change_beside_recipes.Goals as goal
+use Rattle.state_codec.proofs.changes.change_after.Goals as goal
 
 pub of_changes-requires : goal.of_changes-requires
 of_changes-requires c = is_batch c.args.old.now c.args.new.now c.in_ok-changes.changes c.requires.old_state c.requires.new_state c.requires.old_size c.requires.new_size c.in_ok-changes.ensures
