@@ -35,7 +35,7 @@ commands of `nimbus run`:
   show                   prints the state
 
 exit status:
-   0 Done                all was done and said
+   0 Done                all was done and printed
    2 Usage               the words have none of these forms
    3 ScriptTooLong       standard input gave more than 1048576 bytes
    4 NoStore             there is no store in the current folder
@@ -45,7 +45,7 @@ exit status:
    9 ShelfFault          a file that a command names failed
   10 DiskFault           a file of the store failed
   11 SayFault            standard output failed
-  12 OutOfMemory         want of memory
+  12 OutOfMemory         out of memory
 ";
 
 const VERSION: &str = "nimbus 0.1.0\n";

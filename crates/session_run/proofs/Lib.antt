@@ -2,6 +2,7 @@ mod Answering
 mod Asking
 mod Beginning
 mod Belonging
+mod Causing
 mod Chaining
 mod Commands
 mod DrillIds
@@ -24,6 +25,7 @@ mod SoundRuns
 mod SpelledStores
 mod Starting
 mod Stepping
+mod Undone
 mod Values
 mod WordLists
 mod Writing

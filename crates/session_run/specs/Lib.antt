@@ -3,8 +3,10 @@ pub mod Chains
 pub mod DrillEnds
 pub mod Drills
 pub mod Ends
+pub mod FaultCauses
 pub mod Files
 pub mod Finds
+pub mod Lines
 pub mod Making
 pub mod Moments
 pub mod OptOuts

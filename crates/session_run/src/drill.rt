@@ -1,6 +1,5 @@
 // A drill: its store is made, its script is run over its files from memory, and the summary of the last state is said.
 ghost use Rattle.std.specs.Prelude.{◌≡◌, ◌⊎◌, ◌≤◌, ◌+◌, ℕ};
-ghost use Rattle.host_model.specs.Causes.{Rose};
 ghost use Rattle.host_model.specs.Hosts.{MeetsAll};
 ghost use Rattle.host_model.specs.Moments.{IsSaying, KeepsSide};
 ghost use Rattle.host_model.specs.declared.side.Side.{Side};
@@ -16,6 +15,7 @@ ghost use Rattle.state_codec.specs.Spelling.{rows_of};
 ghost use Rattle.client_core.specs.OpenStore.{AllKept};
 ghost use Rattle.session_run.specs.DrillEnds.{SummaryEnds, ScriptEnds, Drilled};
 ghost use Rattle.session_run.specs.Drills.{drill_bytes, drill_fresh, drill_start, drill_summary, AfterReady};
+ghost use Rattle.session_run.specs.FaultCauses.{IsStatusOf, HasHostCauses};
 ghost use Rattle.session_run.specs.Finds.{MakingFound};
 ghost use Rattle.session_run.specs.Statuses.{of_drill, IsOfMaking};
 ghost use Rattle.session_run.specs.Writes.{IsBelowMark};
@@ -57,9 +57,8 @@ fn say_summary<H: Host>(
     ensures still { H.tells → (side : Side) → KeepsSide H.reads H.images side host.old host.new }
     ensures ends { H.tells → SummaryEnds (H.said host.old) (counts.summary start count state.now) (H.said host.new) result }
     ensures only { (result ≡ RunStatus.Done) ⊎ (result ≡ RunStatus.SayFault) ⊎ (result ≡ RunStatus.OutOfMemory) }
-    ensures say_cause { result ≡ RunStatus.SayFault → Rose (H.say_faults host.old) (H.say_faults host.new) }
+    ensures host_causes { HasHostCauses H.Host (IsStatusOf result) host.old host.new }
     ensures disk_faults { H.disk_faults host.new ≡ H.disk_faults host.old }
-    ensures say_faults { H.say_faults host.old ≤ H.say_faults host.new }
 {
     let Ok(text) = summary(alloc, start, count, state) else {
         return RunStatus::OutOfMemory;
@@ -105,8 +104,7 @@ fn run_script<H: Host>(
         (H.written host.old + repair_cost (H.reads host.old Left) (H.reads host.old Right))) (drill_summary start count now) host.new result) }
     ensures below { H.tells → MeetsAll H.Host host.old host.new (IsBelowMark H.Host host.old) }
     ensures is_of { IsOfMaking result }
-    ensures disk_cause { result ≡ RunStatus.DiskFault → Rose (H.disk_faults host.old) (H.disk_faults host.new) }
-    ensures say_cause { result ≡ RunStatus.SayFault → Rose (H.say_faults host.old) (H.say_faults host.new) }
+    ensures host_causes { HasHostCauses H.Host (IsStatusOf result) host.old host.new }
 {
     let Drill {
         id: _,
@@ -145,8 +143,7 @@ pub(crate) fn drill<H: Host>(
     ensures drilled { H.tells → Drilled H.Host start count now host.old host.new result }
     ensures found { H.tells → MakingFound H.Host host.old host.new result }
     ensures is_of { IsOfMaking result }
-    ensures disk_cause { result ≡ RunStatus.DiskFault → Rose (H.disk_faults host.old) (H.disk_faults host.new) }
-    ensures say_cause { result ≡ RunStatus.SayFault → Rose (H.say_faults host.old) (H.say_faults host.new) }
+    ensures host_causes { HasHostCauses H.Host (IsStatusOf result) host.old host.new }
 {
     let Ok(drill) = Drill::new(alloc, start, count) else {
         return RunStatus::OutOfMemory;

@@ -30,9 +30,10 @@ use std::alloc::Global;
 /// The table has exactly the standard transforms of targeting: `versionCompare`, `date` and `bucketSample`.
 ///
 /// What is promised stands in four records: `Ran` of a run, `Made` of the making of a store, `Drilled` of a drill, and
-/// `HasCauses` of each status. The first three hold where the source, the shelf and the host tell what they hold. What
-/// reads give is one of the images. A run's lines begin with the shelf's files, this moment, the store's state, and the
-/// text that was said.
+/// `HasCauses` of each status. `Ran` holds where the source, the shelf and the host tell what they hold, `Made` and
+/// `Drilled` where the host does, and `HasCauses` of each source, shelf and host. What reads give is one of the images. A
+/// run's lines begin with the shelf's files, this moment, the store's state and the place of its next record, the text that
+/// was said, and the count of written bytes with those of the opening.
 pub fn nimbus<S: Source, F: Shelf, H: Host>(
     alloc: Global,
     words: &[String],

@@ -19,8 +19,8 @@ pub fn runs_are_links()
 {}
 
 /// After any runs and crashes, each run begun on what the one before left, the store is kept for the state of the lines
-/// that counted, run by run, which is sound. A slug that a user opts out of stays out over all of them, until a line that
-/// counted brings it back.
+/// that counted, run by run, which is sound. A slug that is out when one of the runs begins, or that a line which counted
+/// opts out of, stays out from there on, over all later runs, until a line that counted brings it back.
 pub fn kept_chain()
     ensures ends { (l r : List ℕ) (s : State) (links : List Link) → KeptFor l r s → IsChain l r links → EndsKept l r links (folded s links) }
     ensures sound { (l r : List ℕ) (s : State) (links : List Link) → KeptFor l r s → IsChain l r links → IsSound (folded s links) }
@@ -33,8 +33,8 @@ pub fn runs_stay_sound()
     ensures { (at : Setting) (s : State) (lines : List (List ℕ)) (k : ℕ) → at.now ≤ last_moment → IsSound s → IsSound (after at s lines k) }
 {}
 
-/// A slug that a user opts out of stays out, until a line that is done brings it back: after the first k lines it is
-/// opted out, and the client isn't enrolled in its recipe.
+/// A slug that is out when the run begins, or that a line opts out of, stays out until a line that is done brings it back:
+/// after the first k lines it is opted out, and the client isn't enrolled in its recipe.
 pub fn opt_outs_stay()
     ensures { (at : Setting) (s : State) (lines : List (List ℕ)) (k : ℕ) (slug : List ℕ) → k ≤ length lines → IsSound (after at s lines k)
         → IsHeldOut at s lines k slug → IsOut (after at s lines k) slug }

@@ -1,12 +1,12 @@
 // All lines of a script.
 ghost use Rattle.std.specs.Prelude.{◌≡◌, ◌≤◌, ℕ, List, All, OnOk, IsErrOf, length, map};
-ghost use Rattle.host_model.specs.Causes.{Rose};
 ghost use Rattle.enrol_states.specs.State.{last_moment};
 ghost use Rattle.jexl_transforms.specs.Table.{HasStandardNames};
 ghost use Rattle.client_core.specs.Clients.{state_of, session_of, end_of, IsOpenOn, HasGateOn};
 ghost use Rattle.client_core.specs.Settings.{setting};
 ghost use Rattle.client_core.specs.Sessions.{no_session};
 ghost use Rattle.client_words.specs.Commands.{bytes_at, IsWithin};
+ghost use Rattle.session_run.specs.FaultCauses.{HasShelfCauses, HasHostCauses};
 ghost use Rattle.session_run.specs.Files.{LinesAsked};
 ghost use Rattle.session_run.specs.Runs.{LinesRan};
 ghost use Rattle.session_run.specs.Starts.{start_on, last_state};
@@ -41,13 +41,8 @@ pub(crate) fn run_lines<F: Shelf, H: Host>(
     ensures state { F.tells → OnOk result
         (state_of client.new ≡ last_state (start_on F.Shelf H.Host now shelf.old host.old (map (bytes_at script.now) spans.now) (state_of client.old) (end_of client.old))) }
 
-    ensures files { F.tells → (name : List ℕ) → F.file shelf.new name ≡ F.file shelf.old name }
-    ensures shelf_cause { IsErrOf result RunFault.ShelfFault → Rose (F.faults shelf.old) (F.faults shelf.new) }
-    ensures cause { IsErrOf result RunFault.DiskFault → Rose (H.disk_faults host.old) (H.disk_faults host.new) }
-    ensures say_cause { IsErrOf result RunFault.SayFault → Rose (H.say_faults host.old) (H.say_faults host.new) }
-    ensures shelf_faults { F.faults shelf.old ≤ F.faults shelf.new }
-    ensures disk_faults { H.disk_faults host.old ≤ H.disk_faults host.new }
-    ensures say_faults { H.say_faults host.old ≤ H.say_faults host.new }
+    ensures shelf_causes { HasShelfCauses F.Shelf (IsErrOf result) shelf.old shelf.new }
+    ensures host_causes { HasHostCauses H.Host (IsErrOf result) host.old host.new }
 {
     for span in spans {
         let line = bytes_at(script, *span);

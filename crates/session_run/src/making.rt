@@ -1,7 +1,7 @@
 // A store is made, and said to be ready.
 ghost use Rattle.std.specs.Prelude.{◌≡◌, ◌≤◌, IfOk};
-ghost use Rattle.host_model.specs.Causes.{Rose};
 ghost use Rattle.enrol_states.specs.State.{last_moment};
+ghost use Rattle.session_run.specs.FaultCauses.{IsStatusOf, HasHostCauses};
 ghost use Rattle.session_run.specs.Finds.{MakingFound};
 ghost use Rattle.session_run.specs.Making.{ready, Made};
 ghost use Rattle.session_run.specs.Statuses.{IsOfMaking};
@@ -34,10 +34,7 @@ pub(crate) fn init<H: Host>(alloc: Global, id: [u8; 16], now: u64, host: &mut H)
     ensures made { H.tells → Made H.Host id now host.old host.new result }
     ensures found { H.tells → MakingFound H.Host host.old host.new result }
     ensures is_of { IsOfMaking result }
-    ensures disk_cause { result ≡ RunStatus.DiskFault → Rose (H.disk_faults host.old) (H.disk_faults host.new) }
-    ensures say_cause { result ≡ RunStatus.SayFault → Rose (H.say_faults host.old) (H.say_faults host.new) }
-    ensures disk_faults { H.disk_faults host.old ≤ H.disk_faults host.new }
-    ensures say_faults { H.say_faults host.old ≤ H.say_faults host.new }
+    ensures host_causes { HasHostCauses H.Host (IsStatusOf result) host.old host.new }
 {
     let Ok(text) = ready(alloc, id) else {
         return RunStatus::OutOfMemory;

@@ -8,6 +8,7 @@ ghost use Rattle.client_core.specs.Clients.{state_of};
 ghost use Rattle.client_core.specs.Store.{StandsFor};
 ghost use Rattle.client_words.specs.Commands.{lines_of};
 ghost use Rattle.session_run.specs.Causes.{IsUnreached};
+ghost use Rattle.session_run.specs.FaultCauses.{IsStatusOf, HasShelfCauses, HasHostCauses};
 ghost use Rattle.session_run.specs.Files.{LinesAsked};
 ghost use Rattle.session_run.specs.Finds.{RunFound};
 ghost use Rattle.session_run.specs.Runs.{Ran};
@@ -40,12 +41,8 @@ pub(crate) fn run_client<F: Shelf, H: Host>(
         → state_of client ≡ last_state (opened_on F.Shelf H.Host now shelf.old host.old (lines_of script.now) s 0 0)) }
     ensures found { H.tells → RunFound H.Host host.old host.new (status_of result) }
     ensures is_of { IsOfLines (status_of result) }
-    ensures shelf_cause { status_of result ≡ RunStatus.ShelfFault → Rose (F.faults shelf.old) (F.faults shelf.new) }
-    ensures disk_cause { status_of result ≡ RunStatus.DiskFault → Rose (H.disk_faults host.old) (H.disk_faults host.new) }
-    ensures say_cause { status_of result ≡ RunStatus.SayFault → Rose (H.say_faults host.old) (H.say_faults host.new) }
-    ensures files { F.tells → (name : List ℕ) → F.file shelf.new name ≡ F.file shelf.old name }
-    ensures disk_faults { H.disk_faults host.old ≤ H.disk_faults host.new }
-    ensures say_faults { H.say_faults host.old ≤ H.say_faults host.new }
+    ensures shelf_causes { HasShelfCauses F.Shelf (IsStatusOf (status_of result)) shelf.old shelf.new }
+    ensures host_causes { HasHostCauses H.Host (IsStatusOf (status_of result)) host.old host.new }
     ensures not_done { IsErrOf result RunStatus.Done → ⊥ }
 {
     let Ok(spans) = lines(alloc, script) else {
@@ -102,10 +99,8 @@ pub(crate) fn run<S: Source, F: Shelf, H: Host>(
         → (result ≡ RunStatus.ScriptTooLong) ⊎ (result ≡ RunStatus.SourceFault) ⊎ (result ≡ RunStatus.OutOfMemory) }
     ensures unreached { IsUnreached result → (host.new ≡ host.old) × (shelf.new ≡ shelf.old) }
     ensures source_cause { result ≡ RunStatus.SourceFault → Rose (S.faults source.old) (S.faults source.new) }
-    ensures shelf_cause { result ≡ RunStatus.ShelfFault → Rose (F.faults shelf.old) (F.faults shelf.new) }
-    ensures disk_cause { result ≡ RunStatus.DiskFault → Rose (H.disk_faults host.old) (H.disk_faults host.new) }
-    ensures say_cause { result ≡ RunStatus.SayFault → Rose (H.say_faults host.old) (H.say_faults host.new) }
-    ensures files { F.tells → (name : List ℕ) → F.file shelf.new name ≡ F.file shelf.old name }
+    ensures shelf_causes { HasShelfCauses F.Shelf (IsStatusOf result) shelf.old shelf.new }
+    ensures host_causes { HasHostCauses H.Host (IsStatusOf result) host.old host.new }
 {
     match read_script(alloc, source) {
         Ok(script) => ended(run_client(alloc, host, shelf, now, table, &script)),

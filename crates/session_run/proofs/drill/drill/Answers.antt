@@ -4,8 +4,10 @@ use Rattle.host_model.specs.declared.side.Side.TheVariants.{Left, Right}
 use Rattle.host_model.specs.Hosts.{NowOf}
 use Rattle.host_model.proofs.Meeting.{started}
 use Rattle.session_run.specs.declared.status.RunStatus.TheVariants.{Done, OutOfMemory}
+use Rattle.session_run.specs.FaultCauses.{IsStatusOf}
 use Rattle.session_run.specs.Making.{Made}
 use Rattle.session_run.specs.Writes.{IsBelowMark}
+use Rattle.session_run.proofs.Causing.{causes_behind}
 use Rattle.session_run.proofs.Drilling.{found_made, drilled_made, drilled_unmade, drilled_unbegun}
 use Rattle.session_run.proofs.Judging.{making_judges}
 use Rattle.session_run.proofs.Writing.{met_now, no_more}
@@ -31,6 +33,10 @@ returns-in-Done-clause-found g c tells =
     let made = subst (λ (id : List ℕ). Made h id c.args.now old mid Done) c.id_bytes.ensures (c.in-Done.ensures.made tells) in
     let ends = c.run_script.ensures.ends tells in
     found_made h c.args.start c.args.count c.args.now old mid c.run_script.new.host c.run_script.result made (c.in-Done.ensures.found tells).finds ends.0 ends.1 ends.2
+
+pub returns-in-Done-clause-host_causes : goal.returns-in-Done-clause-host_causes
+returns-in-Done-clause-host_causes g c =
+    causes_behind g.H.Host c.args.host.now c.init.new.host c.run_script.new.host c.init.ensures.host_causes.disk_later c.init.ensures.host_causes.say_later (IsStatusOf c.run_script.result) c.run_script.ensures.host_causes
 
 pub returns-in_default-init-clause-drilled : goal.returns-in_default-init-clause-drilled
 returns-in_default-init-clause-drilled g c tells =

@@ -10,9 +10,11 @@ use Rattle.session_run.specs.declared.status.RunStatus.TheVariants.{Done, DiskFa
 use Rattle.session_run.specs.DrillEnds.{ScriptEnds}
 use Rattle.session_run.specs.Drills.{drill_fresh, drill_start, drill_summary}
 use Rattle.session_run.specs.Ends.{RunEnds}
+use Rattle.session_run.specs.FaultCauses.{IsStatusOf}
 use Rattle.session_run.specs.Statuses.{IsOfLines, IsOfMaking}
 use Rattle.session_run.specs.Writes.{IsBelowMark}
 use Rattle.session_run.proofs.Belonging.{drill_status, status_was, drill_is_of, summary_is_of}
+use Rattle.session_run.proofs.Causing.{causes_behind}
 use Rattle.session_run.proofs.DrillScripts.{setting_with, setting_is, lines_are, here, unsaid_met, unsaid_ends, said_met, said_ends, ready_elsewhere}
 use Rattle.session_run.proofs.Linking.{among_one}
 use Rattle.session_run.proofs.SpelledStores.{spelled_ends}
@@ -74,6 +76,10 @@ returns-in-Ok-clause-below g c tells =
 pub returns-in-Ok-clause-is_of : goal.returns-in-Ok-clause-is_of
 returns-in-Ok-clause-is_of g c = summary_is_of c.say_summary.result c.say_summary.ensures.only
 
+pub returns-in-Ok-clause-host_causes : goal.returns-in-Ok-clause-host_causes
+returns-in-Ok-clause-host_causes g c =
+    causes_behind g.H.Host c.args.host.now c.run_client.new.host c.say_summary.new.host c.run_client.ensures.host_causes.disk_later c.run_client.ensures.host_causes.say_later (IsStatusOf c.say_summary.result) c.say_summary.ensures.host_causes
+
 -- ---- not all are
 
 pub returns-clause-any_moment : goal.returns-clause-any_moment
@@ -113,17 +119,21 @@ returns-clause-ends g c tells =
       subst (ScriptEnds h (drill_start c.args.start c.args.count now ends.0 (h.said old) written) (drill_summary c.args.start c.args.count now) new) same
           (unsaid_ends h c.args.start c.args.count now (setting_with (parts_of d) now) (lines_of c.as_slice.result.now) (setting_is d c.args.start c.args.count c.requires.drill now)
           (lines_are d c.args.start c.args.count c.requires.drill c.as_slice.result.now c.as_slice.ensures) old ends.0 written _ new status ends.2
-          (λ is. ended.not_done (ap Err is)) (λ is. subst IsOfLines is ended.is_of) (λ is. subst IsOfLines is ended.is_of) (λ is. absurd (omega (arith, ended.shelf_cause is)))),
+          (λ is. ended.not_done (ap Err is)) (λ is. subst IsOfLines is ended.is_of) (λ is. subst IsOfLines is ended.is_of) (λ is. absurd (omega (arith, ended.shelf_causes.shelf is)))),
     )
 
 pub returns-clause-below : goal.returns-clause-below
 returns-clause-below g c tells = (c.run_client.ensures.ran tt tells).below
 
 pub returns-clause-is_of : goal.returns-clause-is_of
-returns-clause-is_of g c = subst IsOfMaking (sym c.ended.ensures) (drill_is_of c.in-Err.status c.in-Err.ensures.is_of (λ is. absurd (omega (arith, c.in-Err.ensures.shelf_cause is))))
+returns-clause-is_of g c = subst IsOfMaking (sym c.ended.ensures) (drill_is_of c.in-Err.status c.in-Err.ensures.is_of (λ is. absurd (omega (arith, c.in-Err.ensures.shelf_causes.shelf is))))
 
-pub returns-clause-disk_cause : goal.returns-clause-disk_cause
-returns-clause-disk_cause g c is = c.in-Err.ensures.disk_cause (status_was c.in-Err.status DiskFault (λ other. absurd cc) (sym c.ended.ensures ∙ is))
-
-pub returns-clause-say_cause : goal.returns-clause-say_cause
-returns-clause-say_cause g c is = c.in-Err.ensures.say_cause (status_was c.in-Err.status SayFault (λ other. absurd cc) (sym c.ended.ensures ∙ is))
+pub returns-clause-host_causes : goal.returns-clause-host_causes
+returns-clause-host_causes g c =
+    let causes = c.in-Err.ensures.host_causes in
+    record {
+      disk = λ is. causes.disk (status_was c.in-Err.status DiskFault (λ other. absurd cc) (sym c.ended.ensures ∙ is));
+      say = λ is. causes.say (status_was c.in-Err.status SayFault (λ other. absurd cc) (sym c.ended.ensures ∙ is));
+      disk_later = causes.disk_later;
+      say_later = causes.say_later;
+    }

@@ -68,7 +68,7 @@ pub returns-in-Some-Init-clause-causes : goal.returns-in-Some-Init-clause-causes
 returns-in-Some-Init-clause-causes g c =
     let init = c.init.ensures in
     let there = c.in-Some-Init.ensures.init c.in-Some-Init.id (ap Some c.in-Some-Init.field-0-is) in
-    making_causes g.S.Source g.F.Shelf g.H.Host _ c.args.source.now c.args.shelf.now c.args.host.now c.init.new.host c.init.result (inl (c.in-Some-Init.id, there)) init.is_of init.disk_cause init.say_cause init.found
+    making_causes g.S.Source g.F.Shelf g.H.Host _ c.args.source.now c.args.shelf.now c.args.host.now c.init.new.host c.init.result (inl (c.in-Some-Init.id, there)) init.is_of init.host_causes init.found
 
 -- ---- a drill
 
@@ -97,7 +97,7 @@ pub returns-in-Some-Drill-clause-causes : goal.returns-in-Some-Drill-clause-caus
 returns-in-Some-Drill-clause-causes g c =
     let drill = c.drill.ensures in
     let there : IsDrill (map string_bytes c.args.words.now) = (c.in-Some-Drill.start, c.in-Some-Drill.count, c.in-Some-Drill.ensures.drill c.in-Some-Drill.start c.in-Some-Drill.count (ap Some c.in-Some-Drill.field-0-is)) in
-    making_causes g.S.Source g.F.Shelf g.H.Host _ c.args.source.now c.args.shelf.now c.args.host.now c.drill.new.host c.drill.result (inr there) drill.is_of drill.disk_cause drill.say_cause drill.found
+    making_causes g.S.Source g.F.Shelf g.H.Host _ c.args.source.now c.args.shelf.now c.args.host.now c.drill.new.host c.drill.result (inr there) drill.is_of drill.host_causes drill.found
 
 -- its numbers are within their bounds
 pub drill-requires-clause-at_least : goal.drill-requires-clause-at_least
@@ -131,19 +131,19 @@ returns-in-Some-Run-clause-causes g c =
     record {
       belongs = run_belongs _ there answered run.is_of;
       source_rose = run.source_cause;
-      shelf_rose = run.shelf_cause;
-      disk_rose = run.disk_cause;
-      say_rose = run.say_cause;
+      shelf_rose = run.shelf_causes.shelf;
+      disk_rose = run.host_causes.disk;
+      say_rose = run.host_causes.say;
       unreached = run.unreached;
       unread = λ is. absurd (subst IsOfRun is run.is_of);
       apart = λ is. absurd (run_makes_none _ there is);
-      files = run.files;
+      files = run.shelf_causes.files;
       too_long = run.too_long;
       too_long_where = λ is_run. run.too_long_where;
       read = λ is_run. run.read;
       run_found = λ is_run. run.found;
       making_found = λ is. absurd (run_makes_none _ there is);
       run_done = λ is_run source_tells tells short found source shelf disk say. run_complete _ _ answered (run.found tells).finds found (λ is. omega (arith, short, run.too_long is source_tells))
-          (λ is. source (run.source_cause is)) (λ is. shelf (run.shelf_cause is)) (λ is. disk (run.disk_cause is)) (λ is. say (run.say_cause is));
+          (λ is. source (run.source_cause is)) (λ is. shelf (run.shelf_causes.shelf is)) (λ is. disk (run.host_causes.disk is)) (λ is. say (run.host_causes.say is));
       making_done = λ is. absurd (run_makes_none _ there is);
     }

@@ -76,12 +76,12 @@ returns-in_err-run_line-clause-ran g c shelf_tells tells =
     let there = line_at script spans i _ line c.loop-span-test.true c.bytes_at-line.ensures in
     subst (λ (r : Result (Unit {0}) RunFault). LinesRan h (LinesAsked g.F.Shelf c.args.shelf.now c.run_line.new.shelf) gated start c.args.host.now new r) (sym (err_is c.from_residual.result fault c.from_residual.ensures.1)) (record {
       moments = λ gate. met_more at _ same s lines i line within more (run_of c.loop-span.client) (inv.state shelf_tells) h c.args.host.now c.loop-span.host new (inv.said shelf_tells tells) place written (inv.any_moment shelf_tells tells gate)
-          (c.run_line.ensures.any_moment shelf_tells tells (inv.gate tells gate));
+          ((c.run_line.ensures.ran shelf_tells tells).moments (inv.gate tells gate));
       ends = λ gate. ends_more at _ same s lines i line within more (run_of c.loop-span.client) (inv.state shelf_tells) h c.args.host.now c.loop-span.host new (inv.said shelf_tells tells) (LinesAsked g.F.Shelf c.args.shelf.now c.run_line.new.shelf) place written fault
           (asked_more g.F.Shelf c.args.shelf.now c.loop-span.shelf c.run_line.new.shelf lines i line more inv.asked c.run_line.ensures.asked)
-          (most_more at _ same s lines i line within more (run_of c.loop-span.client) (inv.state shelf_tells) place (end_of c.loop-span.client) written (h.written c.loop-span.host) (h.written new) (inv.place shelf_tells) (inv.cost shelf_tells tells) (c.run_line.ensures.cost shelf_tells tells).most) there
-          (λ is. c.in_err-run_line.ensures.named (ap Err is)) (c.in_err-run_line.ensures.ends shelf_tells tells (inv.gate tells gate));
-      below = below_then h c.args.host.now c.loop-span.host new (g.met.H.Host.read_is_image c.loop-span.host Left tells) (g.met.H.Host.read_is_image c.loop-span.host Right tells) (inv.below tells) (inv.below_now tells) (c.run_line.ensures.below tells);
+          (most_more at _ same s lines i line within more (run_of c.loop-span.client) (inv.state shelf_tells) place (end_of c.loop-span.client) written (h.written c.loop-span.host) (h.written new) (inv.place shelf_tells) (inv.cost shelf_tells tells) (c.run_line.ensures.ran shelf_tells tells).cost.most) there
+          (λ is. c.in_err-run_line.ensures.named (ap Err is)) ((c.in_err-run_line.ensures.ran shelf_tells tells).ends (inv.gate tells gate));
+      below = below_then h c.args.host.now c.loop-span.host new (g.met.H.Host.read_is_image c.loop-span.host Left tells) (g.met.H.Host.read_is_image c.loop-span.host Right tells) (inv.below tells) (inv.below_now tells) (c.run_line.ensures.stays_open tells).below;
       images = tt;
       text = tt;
       cost = tt;
@@ -109,28 +109,28 @@ loop-span-preserved g c =
     let there = line_at script spans i _ line c.loop-span-test.true c.bytes_at-line.ensures in
     let same = λ (tells : f.tells). same_setting f c.args.shelf.now c.loop-span.shelf c.args.now (inv.files tells) in
     let done = c.in_ok-run_line.ensures in
-    let below_all = λ (tells : h.tells). below_then h c.args.host.now c.loop-span.host new (g.met.H.Host.read_is_image c.loop-span.host Left tells) (g.met.H.Host.read_is_image c.loop-span.host Right tells) (inv.below tells) (inv.below_now tells) (done.below tells) in
+    let below_all = λ (tells : h.tells). below_then h c.args.host.now c.loop-span.host new (g.met.H.Host.read_is_image c.loop-span.host Left tells) (g.met.H.Host.read_is_image c.loop-span.host Right tells) (inv.below tells) (inv.below_now tells) (done.stays_open tells).below in
     record {
-      holds = done.holds;
-      files = λ tells name. done.files tells name ∙ inv.files tells name;
+      holds = λ tells. (done.stays_open tells).holds;
+      files = λ tells name. done.shelf_causes.files tells name ∙ inv.files tells name;
       asked = asked_more g.F.Shelf c.args.shelf.now c.loop-span.shelf c.run_line.new.shelf lines i line more inv.asked done.asked;
       state = λ tells. state_more at here (same tells) s lines i line within more now (inv.state tells) next (done.state tells);
-      said = λ shelf_tells tells. said_more at here (same shelf_tells) s lines i line within more now (inv.state shelf_tells) (h.said c.loop-span.host) (h.said c.args.host.now) (h.said new) (inv.said shelf_tells tells) (done.said shelf_tells tells);
-      gate = λ tells gate. done.gate tells (inv.gate tells gate);
+      said = λ shelf_tells tells. said_more at here (same shelf_tells) s lines i line within more now (inv.state shelf_tells) (h.said c.loop-span.host) (h.said c.args.host.now) (h.said new) (inv.said shelf_tells tells) (done.ran shelf_tells tells).said;
+      gate = λ tells gate. (done.stays_open tells).gate (inv.gate tells gate);
       gate_made = λ shelf_tells tells k below changed. elim (cases_eq k i) [
-        | inl is ↦ done.gate_made tells (changes_here at here (same shelf_tells) s lines i line within more now (inv.state shelf_tells) next (done.state shelf_tells)
+        | inl is ↦ (done.stays_open tells).gate_made (changes_here at here (same shelf_tells) s lines i line within more now (inv.state shelf_tells) next (done.state shelf_tells)
             (subst (λ (n : ℕ). after at s lines n ≢ after at s lines (n + 1)) is changed))
-        | inr past ↦ done.gate tells (inv.gate_made shelf_tells tells k (omega (arith, below, past)) changed)
+        | inr past ↦ (done.stays_open tells).gate (inv.gate_made shelf_tells tells k (omega (arith, below, past)) changed)
       ];
-      any_moment = λ shelf_tells tells gate. met_more at here (same shelf_tells) s lines i line within more now (inv.state shelf_tells) h c.args.host.now c.loop-span.host new (inv.said shelf_tells tells) (end_of c.args.client.now) (h.written c.args.host.now) (inv.any_moment shelf_tells tells gate) (done.any_moment shelf_tells tells (inv.gate tells gate));
+      any_moment = λ shelf_tells tells gate. met_more at here (same shelf_tells) s lines i line within more now (inv.state shelf_tells) h c.args.host.now c.loop-span.host new (inv.said shelf_tells tells) (end_of c.args.client.now) (h.written c.args.host.now) (inv.any_moment shelf_tells tells gate) ((done.ran shelf_tells tells).moments (inv.gate tells gate));
       place = λ tells. place_more at here (same tells) s lines i line within more now (inv.state tells) (end_of c.args.client.now) (end_of c.loop-span.client) (end_of c.run_line.new.client) next (done.state tells) (inv.place tells) done.place;
       cost = λ shelf_tells tells. cost_more at here (same shelf_tells) s lines i line within more now (inv.state shelf_tells) (end_of c.args.client.now) (end_of c.loop-span.client) (h.written c.args.host.now) (h.written c.loop-span.host) (h.written new)
-          (inv.place shelf_tells) (inv.cost shelf_tells tells) (done.cost shelf_tells tells).exact;
+          (inv.place shelf_tells) (inv.cost shelf_tells tells) (done.ran shelf_tells tells).cost.exact;
       below = λ tells. below_all tells;
       below_now = λ tells. met_now h c.args.host.now new (IsBelowMark h c.args.host.now) (below_all tells) (g.met.H.Host.counts_now new) tells;
-      shelf_faults = omega (arith, inv.shelf_faults, done.shelf_faults);
-      disk_faults = omega (arith, inv.disk_faults, done.disk_faults);
-      say_faults = omega (arith, inv.say_faults, done.say_faults);
+      shelf_faults = omega (arith, inv.shelf_faults, done.shelf_causes.later);
+      disk_faults = omega (arith, inv.disk_faults, done.host_causes.disk_later);
+      say_faults = omega (arith, inv.say_faults, done.host_causes.say_later);
     }
 
 pub returns-clause-ran : goal.returns-clause-ran

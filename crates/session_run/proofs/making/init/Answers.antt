@@ -7,12 +7,15 @@ use Rattle.enrol_states.specs.State.{fresh}
 use Rattle.client_core.specs.Moments.{IsLeftAmong}
 use Rattle.client_core.specs.Places.{making_bytes}
 use Rattle.client_core.proofs.Holding.{kept_said}
+use Rattle.session_run.specs.declared.status.RunStatus.{RunStatus}
+use Rattle.session_run.specs.FaultCauses.{IsStatusOf, HasHostCauses}
 use Rattle.session_run.specs.Finds.{MakingFound}
 use Rattle.session_run.specs.Making.{ready, DuringMaking, Made}
 use Rattle.session_run.specs.Statuses.{of_making, IsOfMaking}
 use Rattle.session_run.specs.declared.status.RunStatus.TheVariants.{Done, SayFault, OutOfMemory}
 use Rattle.session_run.specs.Writes.{IsBelowMark}
 use Rattle.session_run.proofs.Belonging.{making_is_of, making_leaves, making_finds, making_not_done, making_memory, making_never}
+use Rattle.session_run.proofs.Causing.{done_causes, said_causes, making_causes_of}
 use Rattle.session_run.proofs.Judging.{making_judges}
 use Rattle.session_run.proofs.MadeStores.{IsMade, made_said}
 use Rattle.session_run.proofs.Writing.{met_now, below_of, below_then, below_saying, below_unwritten, no_more}
@@ -137,3 +140,19 @@ returns-in_default-clause-found g c tells =
     let h = g.H.Host in
     let old = c.args.host.now in
     record { finds = tt; judges = making_judges (h.reads old Left) (h.reads old Right) OutOfMemory tt; leaves = tt; quiet = λ found. no_more h old (λ l r u met. g.met.H.Host.only_now old l r u tells met) }
+
+-- ---- the causes
+
+pub returns-in-Ok-say-clause-host_causes : goal.returns-in-Ok-say-clause-host_causes
+returns-in-Ok-say-clause-host_causes g c =
+    done_causes g.H.Host c.args.host.now c.say.new.self (omega (arith, c.make.ensures.disk_faults, c.say.ensures.disk_faults)) (omega (arith, c.make.ensures.say_faults, c.say.ensures.cause.later))
+
+pub returns-in-Ok-make-clause-host_causes : goal.returns-in-Ok-make-clause-host_causes
+returns-in-Ok-make-clause-host_causes g c =
+    said_causes g.H.Host c.args.host.now c.say.new.self (omega (arith, c.make.ensures.disk_faults, c.say.ensures.disk_faults)) (omega (arith, c.make.ensures.say_faults, c.say.ensures.cause.later))
+    (omega (arith, c.make.ensures.say_faults, c.in-Err-say.ensures.cause.failed))
+
+pub returns-clause-host_causes : goal.returns-clause-host_causes
+returns-clause-host_causes g c =
+    subst (λ (status : RunStatus). HasHostCauses g.H.Host (IsStatusOf status) c.args.host.now c.make.new.host) (sym c.into.ensures)
+    (making_causes_of g.H.Host c.args.host.now c.make.new.host c.make.ensures.disk_faults (omega (arith, c.make.ensures.say_faults)) c.in-Err.fault (λ is. c.in-Err.ensures.cause (ap Err is)))

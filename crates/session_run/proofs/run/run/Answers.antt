@@ -2,6 +2,8 @@
 use Rattle.std.proofs.Common.{◌≡◌, inl, inr, List, ℕ, length, sym, ◌∙◌, ap, subst, arith}
 use Rattle.host_model.specs.declared.side.Side.TheVariants.{Left, Right}
 use Rattle.client_words.specs.Commands.{lines_of}
+use Rattle.session_run.specs.declared.status.RunStatus.{RunStatus}
+use Rattle.session_run.specs.FaultCauses.{IsStatusOf, HasShelfCauses, HasHostCauses}
 use Rattle.session_run.specs.Files.{LinesAsked}
 use Rattle.session_run.specs.Finds.{RunFound}
 use Rattle.session_run.specs.Runs.{Ran}
@@ -43,14 +45,11 @@ returns-in-Ok-clause-unreached g c (inl is) = absurd (subst IsOfLines (sym c.end
 returns-in-Ok-clause-unreached g c (inr (inl is)) = absurd (subst IsOfLines (sym c.ended.ensures ∙ is) c.run_client.ensures.is_of)
 returns-in-Ok-clause-unreached g c (inr (inr is)) = absurd (subst IsOfLines (sym c.ended.ensures ∙ is) c.run_client.ensures.is_of)
 
-pub returns-in-Ok-clause-shelf_cause : goal.returns-in-Ok-clause-shelf_cause
-returns-in-Ok-clause-shelf_cause g c is = c.run_client.ensures.shelf_cause (sym c.ended.ensures ∙ is)
+pub returns-in-Ok-clause-shelf_causes : goal.returns-in-Ok-clause-shelf_causes
+returns-in-Ok-clause-shelf_causes g c = subst (λ (status : RunStatus). HasShelfCauses g.F.Shelf (IsStatusOf status) c.args.shelf.now c.run_client.new.shelf) (sym c.ended.ensures) c.run_client.ensures.shelf_causes
 
-pub returns-in-Ok-clause-disk_cause : goal.returns-in-Ok-clause-disk_cause
-returns-in-Ok-clause-disk_cause g c is = c.run_client.ensures.disk_cause (sym c.ended.ensures ∙ is)
-
-pub returns-in-Ok-clause-say_cause : goal.returns-in-Ok-clause-say_cause
-returns-in-Ok-clause-say_cause g c is = c.run_client.ensures.say_cause (sym c.ended.ensures ∙ is)
+pub returns-in-Ok-clause-host_causes : goal.returns-in-Ok-clause-host_causes
+returns-in-Ok-clause-host_causes g c = subst (λ (status : RunStatus). HasHostCauses g.H.Host (IsStatusOf status) c.args.host.now c.run_client.new.host) (sym c.ended.ensures) c.run_client.ensures.host_causes
 
 pub returns-in-Ok-clause-too_long_where : goal.returns-in-Ok-clause-too_long_where
 returns-in-Ok-clause-too_long_where g c source_tells long =

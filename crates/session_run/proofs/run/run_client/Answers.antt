@@ -1,5 +1,5 @@
 -- A store is opened, and its lines are done.
-use Rattle.std.proofs.Common.{◌≡◌, inr, List, ℕ, All, Ok, Err, length, map, refl, sym, ◌∙◌, subst}
+use Rattle.std.proofs.Common.{◌≡◌, inr, List, ℕ, All, Ok, Err, length, map, refl, sym, ap, ◌∙◌, subst, arith}
 use Rattle.host_model.specs.declared.side.Side.TheVariants.{Left, Right}
 use Rattle.client_core.specs.Clients.{state_of, end_of}
 use Rattle.client_core.specs.Moments.{IsLeftAmong}
@@ -7,7 +7,9 @@ use Rattle.client_core.specs.Settings.{setting}
 use Rattle.client_core.specs.Store.{IsStore}
 use Rattle.client_words.specs.Commands.{IsWithin, bytes_at, lines_of}
 use Rattle.client_words.proofs.Within.{lines-within, lines_at}
+use Rattle.session_run.specs.declared.status.RunStatus.{RunStatus}
 use Rattle.session_run.specs.declared.status.RunStatus.TheVariants.{Done, OutOfMemory}
+use Rattle.session_run.specs.FaultCauses.{IsStatusOf, HasShelfCauses, HasHostCauses}
 use Rattle.session_run.specs.Files.{LinesAsked}
 use Rattle.session_run.specs.Finds.{RunFound}
 use Rattle.session_run.specs.Runs.{Ran}
@@ -16,6 +18,7 @@ use Rattle.session_run.specs.Statuses.{of_store, of_run, IsOfLines}
 use Rattle.session_run.specs.Writes.{IsBelowMark}
 use Rattle.session_run.proofs.Opened.{unopened_before, store_not_done, run_finds, unopened_leaves, unopened_in, lines_find, lines_leave, ran_unbegun, ran_unreached, ran_opened}
 use Rattle.session_run.proofs.Belonging.{lines_are_of, store_is_of}
+use Rattle.session_run.proofs.Causing.{unopened_causes, shelf_causes_of, host_causes_of, done_causes, opening_causes}
 use Rattle.session_run.proofs.Judging.{run_judges}
 use Rattle.session_run.proofs.Starting.{same_start}
 use Rattle.session_run.proofs.Writing.{met_now, below_of, no_more}
@@ -150,3 +153,29 @@ returns-clause-is_of g c = subst IsOfLines (sym c.into-in-Err.ensures) (store_is
 
 pub run_lines-requires-clause-holds : goal.run_lines-requires-clause-holds
 run_lines-requires-clause-holds g c tells = (c.in-Ok-open.ensures.ends tells).open_on
+
+-- ---- the causes
+
+pub returns-in-Ok-run_lines-clause-host_causes : goal.returns-in-Ok-run_lines-clause-host_causes
+returns-in-Ok-run_lines-clause-host_causes g c =
+    let causes = c.in-Ok-run_lines.ensures.host_causes in
+    done_causes g.H.Host c.args.host.now c.run_lines.new.host (omega (arith, c.open.ensures.disk_faults, causes.disk_later)) (omega (arith, c.open.ensures.say_faults, causes.say_later))
+
+pub returns-in-Ok-open-clause-shelf_causes : goal.returns-in-Ok-open-clause-shelf_causes
+returns-in-Ok-open-clause-shelf_causes g c =
+    subst (λ (status : RunStatus). HasShelfCauses g.F.Shelf (IsStatusOf status) c.args.shelf.now c.run_lines.new.shelf) (sym c.into.ensures)
+    (shelf_causes_of g.F.Shelf c.in-Err-run_lines.fault c.args.shelf.now c.run_lines.new.shelf c.in-Err-run_lines.ensures.shelf_causes)
+
+pub returns-in-Ok-open-clause-host_causes : goal.returns-in-Ok-open-clause-host_causes
+returns-in-Ok-open-clause-host_causes g c =
+    subst (λ (status : RunStatus). HasHostCauses g.H.Host (IsStatusOf status) c.args.host.now c.run_lines.new.host) (sym c.into.ensures)
+    (host_causes_of g.H.Host c.args.host.now c.open.new.host c.run_lines.new.host c.open.ensures.disk_faults (omega (arith, c.open.ensures.say_faults)) c.in-Err-run_lines.fault c.in-Err-run_lines.ensures.host_causes)
+
+pub returns-clause-shelf_causes : goal.returns-clause-shelf_causes
+returns-clause-shelf_causes g c =
+    subst (λ (status : RunStatus). HasShelfCauses g.F.Shelf (IsStatusOf status) c.args.shelf.now c.args.shelf.now) (sym c.into-in-Err.ensures) (unopened_causes g.F.Shelf c.in-Err.fault c.args.shelf.now)
+
+pub returns-clause-host_causes : goal.returns-clause-host_causes
+returns-clause-host_causes g c =
+    subst (λ (status : RunStatus). HasHostCauses g.H.Host (IsStatusOf status) c.args.host.now c.open.new.host) (sym c.into-in-Err.ensures)
+    (opening_causes g.H.Host c.args.host.now c.open.new.host c.open.ensures.disk_faults (omega (arith, c.open.ensures.say_faults)) c.in-Err.fault (λ is. c.in-Err.ensures.cause (ap Err is)))

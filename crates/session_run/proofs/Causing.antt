@@ -1,0 +1,90 @@
+-- The cause of a fault, as that of the call that met it.
+use Rattle.std.proofs.Common.{◌≡◌, ◌≤◌, ℕ, refl, sym, ◌∙◌, ap, arith, Err}
+use Rattle.std.specs.Prelude.{IsErrOf}
+use Rattle.host_model.specs.Causes.{Rose}
+use Rattle.host_model.specs.declared.host.Host.{Ghosts}
+use Rattle.host_model.specs.declared.shelf.Shelf as shelves
+use Rattle.client_core.specs.declared.faults.ClientFault.{ClientFault}
+use Rattle.client_core.specs.declared.faults.ClientFault.TheVariants as store
+use Rattle.client_core.specs.declared.faults.MakeFault.{MakeFault}
+use Rattle.client_core.specs.declared.faults.MakeFault.TheVariants as make
+use Rattle.session_run.specs.declared.faults.RunFault.{RunFault}
+use Rattle.session_run.specs.declared.faults.RunFault.TheVariants as run
+use Rattle.session_run.specs.declared.status.RunStatus.{RunStatus}
+use Rattle.session_run.specs.declared.status.RunStatus.TheVariants.{Done, Usage, ScriptTooLong, NoStore, AlreadyStore, BadStore, SourceFault, ShelfFault, DiskFault, SayFault, OutOfMemory}
+use Rattle.session_run.specs.FaultCauses.{IsStatusOf, HasHostCauses, HasShelfCauses}
+use Rattle.session_run.specs.Statuses.{of_run, of_store, of_making}
+
+-- each fault has its own status
+abbrev fault_of : RunStatus → RunFault
+fault_of ShelfFault = run.ShelfFault
+fault_of DiskFault = run.DiskFault
+fault_of SayFault = run.SayFault
+fault_of status = run.OutOfMemory
+
+own_status : (fault : RunFault) → fault_of (of_run fault) ≡ fault
+own_status run.ShelfFault = refl
+own_status run.DiskFault = refl
+own_status run.SayFault = refl
+own_status run.OutOfMemory = refl
+
+same_fault : (fault other : RunFault) → IsStatusOf (of_run fault) other → fault ≡ other
+same_fault fault other is = sym (own_status fault) ∙ ap fault_of is ∙ own_status other
+
+module _ {F : Type 0} (f : shelves.Ghosts F) where
+  -- the shelf was not asked
+  pub unasked_causes : (is : RunFault → Type 0) (shelf : F) → (is run.ShelfFault → ⊥) → HasShelfCauses f is shelf shelf
+  unasked_causes is shelf none = record { shelf = λ fault. absurd (none fault); later = omega arith; files = λ tells name. refl }
+
+  -- nor was it where the store was not opened
+  pub unopened_causes : (fault : ClientFault) (shelf : F) → HasShelfCauses f (IsStatusOf (of_store fault)) shelf shelf
+  unopened_causes store.NoStore shelf = unasked_causes (IsStatusOf NoStore) shelf (λ is. absurd cc)
+  unopened_causes store.BadStore shelf = unasked_causes (IsStatusOf BadStore) shelf (λ is. absurd cc)
+  unopened_causes store.DiskFault shelf = unasked_causes (IsStatusOf DiskFault) shelf (λ is. absurd cc)
+  unopened_causes store.OutOfMemory shelf = unasked_causes (IsStatusOf OutOfMemory) shelf (λ is. absurd cc)
+
+  -- a run ends with the status of its lines' fault
+  pub shelf_causes_of : (fault : RunFault) (old new : F) → HasShelfCauses f (IsErrOf {T = Unit {0}} (Err fault)) old new → HasShelfCauses f (IsStatusOf (of_run fault)) old new
+  shelf_causes_of fault old new causes = record { shelf = λ is. causes.shelf (ap Err (same_fault fault run.ShelfFault is)); later = causes.later; files = causes.files }
+
+module _ {H : Type 0} (h : Ghosts H) where
+  module _ (old mid new : H) (disk : h.disk_faults old ≤ h.disk_faults mid) (say : h.say_faults old ≤ h.say_faults mid) where
+    -- one call after the other
+    pub causes_behind : (is : RunFault → Type 0) → HasHostCauses h is mid new → HasHostCauses h is old new
+    causes_behind is causes = record {
+      disk = λ fault. omega (arith, disk, causes.disk fault);
+      say = λ fault. omega (arith, say, causes.say fault);
+      disk_later = omega (arith, disk, causes.disk_later);
+      say_later = omega (arith, say, causes.say_later);
+    }
+
+    pub host_causes_of : (fault : RunFault) → HasHostCauses h (IsErrOf {T = Unit {0}} (Err fault)) mid new → HasHostCauses h (IsStatusOf (of_run fault)) old new
+    host_causes_of fault causes = record {
+      disk = λ is. omega (arith, disk, causes.disk (ap Err (same_fault fault run.DiskFault is)));
+      say = λ is. omega (arith, say, causes.say (ap Err (same_fault fault run.SayFault is)));
+      disk_later = omega (arith, disk, causes.disk_later);
+      say_later = omega (arith, say, causes.say_later);
+    }
+
+  module _ (old new : H) (disk : h.disk_faults old ≤ h.disk_faults new) (say : h.say_faults old ≤ h.say_faults new) where
+    -- all is done
+    pub done_causes : HasHostCauses h (IsStatusOf Done) old new
+    done_causes = record { disk = λ is. absurd cc; say = λ is. absurd cc; disk_later = disk; say_later = say }
+
+    -- the output has failed
+    pub said_causes : Rose (h.say_faults old) (h.say_faults new) → HasHostCauses h (IsStatusOf SayFault) old new
+    said_causes rose = record { disk = λ is. absurd cc; say = λ is. rose; disk_later = disk; say_later = say }
+
+    -- the store was not opened
+    pub opening_causes : (fault : ClientFault) → (fault ≡ store.DiskFault → Rose (h.disk_faults old) (h.disk_faults new)) → HasHostCauses h (IsStatusOf (of_store fault)) old new
+    opening_causes store.NoStore rose = record { disk = λ is. absurd cc; say = λ is. absurd cc; disk_later = disk; say_later = say }
+    opening_causes store.BadStore rose = record { disk = λ is. absurd cc; say = λ is. absurd cc; disk_later = disk; say_later = say }
+    opening_causes store.DiskFault rose = record { disk = λ is. rose refl; say = λ is. absurd cc; disk_later = disk; say_later = say }
+    opening_causes store.OutOfMemory rose = record { disk = λ is. absurd cc; say = λ is. absurd cc; disk_later = disk; say_later = say }
+
+    -- it was not made
+    pub making_causes_of : (fault : MakeFault) → (fault ≡ make.DiskFault → Rose (h.disk_faults old) (h.disk_faults new)) → HasHostCauses h (IsStatusOf (of_making fault)) old new
+    making_causes_of make.AlreadyStore rose = record { disk = λ is. absurd cc; say = λ is. absurd cc; disk_later = disk; say_later = say }
+    making_causes_of make.BadStore rose = record { disk = λ is. absurd cc; say = λ is. absurd cc; disk_later = disk; say_later = say }
+    making_causes_of make.DiskFault rose = record { disk = λ is. rose refl; say = λ is. absurd cc; disk_later = disk; say_later = say }
+    making_causes_of make.OutOfMemory rose = record { disk = λ is. absurd cc; say = λ is. absurd cc; disk_later = disk; say_later = say }

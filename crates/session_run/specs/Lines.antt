@@ -1,0 +1,33 @@
+-- What is promised of a line.
+use Rattle.std.specs.Prelude.{◌≡◌, ◌≢◌, ◌++◌, ℕ, List, Result, OnOk}
+use Rattle.host_model.specs.declared.host.Host.{Ghosts}
+use Rattle.host_model.specs.Hosts.{MeetsAll}
+use Rattle.gate_journal.specs.Costs.{HasCost}
+use Rattle.enrol_states.specs.declared.state.State.{State}
+use Rattle.client_core.specs.declared.client.Client.{Client}
+use Rattle.client_core.specs.Clients.{state_of, end_of, IsOpenOn, HasGateOn}
+use Rattle.client_core.specs.Places.{bytes_for}
+use Rattle.session_run.specs.declared.faults.RunFault.{RunFault}
+use Rattle.session_run.specs.Ends.{LineEnds}
+use Rattle.session_run.specs.Moments.{DuringLine}
+use Rattle.session_run.specs.Writes.{IsBelowMark}
+
+-- a line on this client that leads to the state t, with this answer
+pub record LineRan {H T : Type 0} (h : Ghosts H) (client : Client) (t : State) (text : List ℕ) (old new : H) (result : Result T RunFault) : Type 0 where
+  -- at each moment: the text of before with the old or the new state, or the new state with a prefix of the answer
+  pub moments : HasGateOn h client old → MeetsAll h old new (DuringLine (h.said old) (state_of client) t text)
+  -- what stands when it has ended, and what is said where it is done
+  pub ends : HasGateOn h client old → LineEnds h (state_of client) t text (h.said old) new result
+  pub said : OnOk result (h.said new ≡ h.said old ++ text)
+  -- a line that is done writes exactly the bytes of its change, and any other no more
+  pub cost : HasCost (bytes_for (end_of client) (state_of client) t) (h.written old) (h.written new) result
+
+-- a line that leaves this client, whatever the shelf tells
+pub record StaysOpen {H T : Type 0} (h : Ghosts H) (client new_client : Client) (old new : H) (result : Result T RunFault) : Type 0 where
+  -- where it is done the client is open on the host that it leaves
+  pub holds : OnOk result (IsOpenOn h new_client new)
+  -- with a byte at the gate behind its records, if one stood there before or the state changed
+  pub gate : OnOk result (HasGateOn h client old → HasGateOn h new_client new)
+  pub gate_made : OnOk result (state_of client ≢ state_of new_client → HasGateOn h new_client new)
+  -- no byte at or past byte 33,554,432 of a side is written
+  pub below : MeetsAll h old new (IsBelowMark h old)
