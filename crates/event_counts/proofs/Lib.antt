@@ -1,0 +1,14 @@
+pub mod Ordered
+pub mod Rising
+pub mod Found
+pub mod Turning
+pub mod Soundness
+pub mod Events
+pub mod Bytes
+pub mod SameRows
+pub mod Values
+pub mod RowsRead
+pub mod InOrder
+pub mod NameTexts
+pub mod Sums
+pub mod Adding

@@ -1,0 +1,9 @@
+pub mod Intervals
+pub mod Lists
+pub mod Sound
+pub mod Kept
+pub mod View
+pub mod Places
+pub mod Rows
+pub mod History
+pub mod Laws

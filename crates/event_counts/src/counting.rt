@@ -1,0 +1,128 @@
+// How an event is counted.
+ghost use Rattle.std.specs.Prelude.{◌≡◌, ◌≤◌, ◌<◌, ◌↔◌, length, None, IfOk, IsErrOf, IsTrue, slice_set};
+ghost use Rattle.std.specs.List.{insert};
+ghost use Rattle.plain_text.specs.Names.{is_name};
+ghost use Rattle.event_counts.specs.Kept.{at_moment, counted_in, found, moment_at, with_more, no_counts};
+ghost use Rattle.event_counts.specs.Sound.{IsSound};
+
+use crate::counts::{Counts, MAX_NAMES};
+use crate::fault::CountFault;
+use crate::name_counts::NameCounts;
+use crate::searching::place_of;
+use std::alloc::{AllocError, Global};
+
+impl Counts {
+    /// The counts after an event of this name, which came so many times. Its moment is the greatest of `now` and the latest
+    /// moments, so time never goes back; moments are in seconds since 1970, up to the end of the year 9999. Each count stops at
+    /// 4,294,967,295. `EventLimit` comes exactly where the name is new and 64 names are there.
+    pub fn count_in(
+        &self,
+        alloc: Global,
+        name: &str,
+        count: u32,
+        now: u64,
+    ) -> Result<Counts, CountFault>
+        requires name { IsTrue (is_name name.now) }
+        requires moment { now ≤ 253402300799 }
+        ensures counts { IfOk result (λ c. c ≡ counted_in name.now count now self.now) }
+        ensures sound { IfOk result IsSound }
+        ensures limit { IsErrOf result CountFault.EventLimit ↔ ((found name.now self.now ≡ None) × (64 ≤ length self.now)) }
+    {
+        let names = self.names();
+        let moment = moment_at(names, now);
+        match place_of(names, name) {
+            Ok(place) => {
+                let more = counted(alloc, &names[place], count, moment)?;
+                Ok(Counts {
+                    names: with_replaced(alloc, names, place, more)?,
+                })
+            }
+            Err(_) if names.len() >= MAX_NAMES => Err(CountFault::EventLimit),
+            Err(place) => {
+                let first = first_counted(alloc, name, count, moment)?;
+                Ok(Counts {
+                    names: with_inserted(alloc, names, place, first)?,
+                })
+            }
+        }
+    }
+}
+
+/// The greatest of a moment and the latest moments.
+pub(crate) fn moment_at(names: &[NameCounts], now: u64) -> u64
+    ensures { result ≡ moment_at now names.now }
+{
+    let mut moment = now;
+    for counts in names {
+        moment = moment.max(counts.latest);
+    }
+    moment
+}
+
+// The counts of a name after an event of it at a moment.
+fn counted(
+    alloc: Global,
+    counts: &NameCounts,
+    count: u32,
+    moment: u64,
+) -> Result<NameCounts, AllocError>
+    ensures { IfOk result (λ n. n ≡ with_more count (at_moment moment counts.now)) }
+{
+    let mut more = counts.at_moment(alloc, moment)?;
+    more.raise(count);
+    Ok(more)
+}
+
+// The counts of a name after its first event, at a moment.
+fn first_counted(
+    alloc: Global,
+    name: &str,
+    count: u32,
+    moment: u64,
+) -> Result<NameCounts, AllocError>
+    ensures { IfOk result (λ n. n ≡ with_more count (no_counts name.now moment)) }
+{
+    let mut first = NameCounts::new(alloc, name, moment)?;
+    first.raise(count);
+    Ok(first)
+}
+
+// Copies of the counts, of which those at a place are these.
+fn with_replaced(
+    alloc: Global,
+    names: &[NameCounts],
+    place: usize,
+    counts: NameCounts,
+) -> Result<Vec<NameCounts>, AllocError>
+    requires { place < length names.now }
+    ensures { IfOk result (λ v. v.items ≡ slice_set names.now place counts) }
+{
+    let mut copies = copies(alloc, names)?;
+    copies[place] = counts;
+    Ok(copies)
+}
+
+// Copies of the counts, with these before those at a place.
+fn with_inserted(
+    alloc: Global,
+    names: &[NameCounts],
+    place: usize,
+    counts: NameCounts,
+) -> Result<Vec<NameCounts>, AllocError>
+    requires { place ≤ length names.now }
+    ensures { IfOk result (λ v. v.items ≡ insert names.now place counts) }
+{
+    let mut copies = copies(alloc, names)?;
+    copies.insert(place, counts)?;
+    Ok(copies)
+}
+
+fn copies(alloc: Global, names: &[NameCounts]) -> Result<Vec<NameCounts>, AllocError>
+    ensures { IfOk result (λ v. v.items ≡ names.now) }
+{
+    let mut copies = Vec::with_capacity(alloc, names.len() + 1)?;
+    for counts in names {
+        copies.push(counts.copy(alloc)?)?;
+    }
+    Ok(copies)
+}

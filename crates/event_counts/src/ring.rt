@@ -1,0 +1,90 @@
+// A list of counts in a ring: as time goes on the oldest counts give way to new ones.
+ghost use Rattle.std.specs.Prelude.{◌≡◌, length, replicate, IfOk};
+ghost use Rattle.circular_buffer.specs.Buffer.{buffer};
+ghost use Rattle.event_counts.specs.Lists.{turned, raised};
+
+use circular_buffer::HeapCircularBuffer;
+use std::alloc::{AllocError, Global};
+use std::marker::Model;
+
+/// A full ring of counts, of which the first is the newest. Contracts see it as the list of the counts.
+#[derive(Drop)]
+pub struct Ring {
+    counts: HeapCircularBuffer<u32>,
+}
+
+impl Model for Ring {
+    ghost use Rattle.std.specs.Prelude.{◌≡◌, ℕ, List, length};
+
+    ghost Value = { List ℕ };
+
+    ghost view = { λ r. r.counts.items };
+
+    ghost invariant = { λ r. length r.counts.items ≡ r.counts.capacity };
+}
+
+impl Ring {
+    /// A ring of so many zeros.
+    pub(crate) fn of_zeros(alloc: Global, len: usize) -> Result<Ring, AllocError>
+        ensures { IfOk result (λ r. r ≡ replicate len 0) }
+    {
+        let zeros = vec![in alloc; 0; len]?;
+        Ring::of_counts(alloc, zeros.as_slice())
+    }
+
+    /// A ring of these counts.
+    pub(crate) fn of_counts(alloc: Global, list: &[u32]) -> Result<Ring, AllocError>
+        ensures { IfOk result (λ r. r ≡ list.now) }
+    {
+        let mut counts = HeapCircularBuffer::with_capacity(alloc, list.len())?;
+        counts.fill_from_slice(list);
+        Ok(Ring { counts })
+    }
+
+    /// The counts, the newest first.
+    pub(crate) fn to_vec(&self, alloc: Global) -> Result<Vec<u32>, AllocError>
+        ensures { IfOk result (λ v. v.items ≡ self.now) }
+    {
+        self.counts.to_vec(alloc)
+    }
+
+    /// The same counts in a ring of their own.
+    pub(crate) fn copy(&self, alloc: Global) -> Result<Ring, AllocError>
+        ensures { IfOk result (λ r. r ≡ self.now) }
+    {
+        let list = self.to_vec(alloc)?;
+        Ring::of_counts(alloc, list.as_slice())
+    }
+
+    /// Turns the ring by so many intervals. Each is a new zero, which takes the place of the oldest count.
+    #[tactic(auto, using(crate::proofs::Turning::turned_min, crate::proofs::Turning::length_of_turned))]
+    pub(crate) fn turn(&mut self, steps: u64)
+        ensures { self.new ≡ turned steps self.old }
+    {
+        let steps = steps.min(self.counts.len() as u64);
+        turn_by(&mut self.counts, steps);
+    }
+
+    /// Adds to the newest count, up to the greatest `u32`.
+    #[tactic(auto, using(crate::proofs::Turning::raised_newest, crate::proofs::Turning::raised_none))]
+    pub(crate) fn raise(&mut self, count: u32)
+        ensures { self.new ≡ raised count self.old }
+    {
+        if let Some(newest) = self.counts.pop_front() {
+            self.counts.push_front(newest.saturating_add(count));
+        }
+    }
+}
+
+// Turns a full ring by so many intervals, one after the other.
+#[tactic(auto, using(crate::proofs::Turning::turned_once, crate::proofs::Turning::turned_not))]
+fn turn_by(counts: &mut HeapCircularBuffer<u32>, steps: u64)
+    requires { length counts.old.items ≡ counts.old.capacity }
+    ensures { counts.new ≡ buffer (turned steps counts.old.items) counts.old.capacity }
+{
+    let mut left = steps;
+    while left > 0 {
+        counts.push_front(0);
+        left -= 1;
+    }
+}

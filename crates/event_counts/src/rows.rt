@@ -1,0 +1,86 @@
+// The rows that keep counts in a store.
+ghost use Rattle.std.specs.Prelude.{◌≡◌, ◌++◌, codes, IfOk, OnOk};
+ghost use Rattle.row_batches.specs.Rows.{AreRows};
+ghost use Rattle.event_counts.specs.Rows.{list_bytes, row_of, rows_of, value_of};
+ghost use Rattle.event_counts.specs.Sound.{AreInOrder};
+
+use crate::counts::Counts;
+use crate::name_counts::NameCounts;
+use crate::ring::Ring;
+use row_batches::StoreRow;
+use sequences::Sequence;
+use std::alloc::{AllocError, Global};
+
+/// What the key of each row begins with.
+pub(crate) const TAG: u8 = b'e';
+
+/// How many bytes the value of each row has.
+pub(crate) const VALUE_LEN: usize = 728;
+
+impl Counts {
+    /// The rows, in the order of their keys: for each name one whose key is `e` and the name. Its value has 728 bytes: the latest
+    /// moment in eight, and the counts of the hours, the days and the weeks in four each, the newest first. The highest byte of
+    /// a number is its first.
+    pub fn rows(&self, alloc: Global) -> Result<Sequence<StoreRow>, AllocError>
+        ensures rows { IfOk result (λ rows. rows ≡ rows_of self.now) }
+        ensures order { IfOk result AreRows }
+    {
+        rows_of(alloc, self.names())
+    }
+}
+
+fn rows_of(alloc: Global, names: &[NameCounts]) -> Result<Sequence<StoreRow>, AllocError>
+    requires { AreInOrder names.now }
+    ensures rows { IfOk result (λ rows. rows ≡ rows_of names.now) }
+    ensures order { IfOk result AreRows }
+{
+    let mut rows = Sequence::new(alloc);
+    for counts in names {
+        rows.push(row_of(alloc, counts)?)?;
+    }
+    Ok(rows)
+}
+
+fn row_of(alloc: Global, counts: &NameCounts) -> Result<StoreRow, AllocError>
+    ensures { IfOk result (λ row. row ≡ row_of counts.now) }
+{
+    let name = counts.name.as_str().as_bytes();
+    let mut key = Vec::with_capacity(alloc, name.len() + 1)?;
+    key.push(TAG)?;
+    key.extend_from_slice(name)?;
+    let value = value_of(alloc, counts)?;
+    Ok(StoreRow {
+        key: Sequence::from_vec(key),
+        value: Sequence::from_vec(value),
+    })
+}
+
+#[tactic(auto, unfolding(crate::specs::Rows::moment_bytes))]
+fn value_of(alloc: Global, counts: &NameCounts) -> Result<Vec<u8>, AllocError>
+    ensures { IfOk result (λ v. v.items ≡ value_of counts.now) }
+{
+    let mut value = Vec::with_capacity(alloc, VALUE_LEN)?;
+    value.extend_from_slice(&counts.latest.to_be_bytes())?;
+    add_counts(alloc, &mut value, &counts.hours)?;
+    add_counts(alloc, &mut value, &counts.days)?;
+    add_counts(alloc, &mut value, &counts.weeks)?;
+    Ok(value)
+}
+
+// Adds the bytes of the counts, the newest first.
+fn add_counts(alloc: Global, bytes: &mut Vec<u8>, ring: &Ring) -> Result<(), AllocError>
+    ensures { OnOk result (bytes.new.items ≡ bytes.old.items ++ list_bytes ring.now) }
+{
+    let counts = ring.to_vec(alloc)?;
+    add_numbers(bytes, counts.as_slice())
+}
+
+#[tactic(auto, unfolding(crate::specs::Rows::count_bytes))]
+fn add_numbers(bytes: &mut Vec<u8>, numbers: &[u32]) -> Result<(), AllocError>
+    ensures { OnOk result (bytes.new.items ≡ bytes.old.items ++ list_bytes numbers.now) }
+{
+    for number in numbers {
+        bytes.extend_from_slice(&number.to_be_bytes())?;
+    }
+    Ok(())
+}
