@@ -1,0 +1,7 @@
+pub mod ByteOrder
+pub mod Numbers
+pub mod Order
+pub mod OneList
+pub mod Histories
+pub mod FoundRows
+pub mod Turns

@@ -1,0 +1,81 @@
+//! Rows on what actions leave of an outbox.
+use crate::inputs::{halves, slug};
+use crate::shown::{outbox_text, push};
+use crate::stored::given_outbox;
+use anyhow::{Context, Result, bail};
+use change_outbox::{AppendChangesFault, Change, ChangeKind, ConfirmFault, Outbox};
+use plain_text::read_number;
+use sequences::Sequence;
+use std::alloc::Global;
+
+/// The answers, and what the outbox then has. Row: actions with semicolons between them, which begin with a new outbox or with
+/// that of the rows that are given. An action is `append` and changes with commas between them, or `confirm` and a number.
+pub(crate) fn outbox_after(alloc: Global, given: &str, input: &str) -> Result<String> {
+    let mut outbox = given_outbox(alloc, given)?;
+    let answers = act_all(alloc, &mut outbox, input)?;
+    let left = outbox_text(alloc, &outbox)?;
+    Ok(format!(in alloc; "{answers}; {left}")?)
+}
+
+/// Does the actions, and gives their answers.
+pub(crate) fn act_all(alloc: Global, outbox: &mut Outbox, input: &str) -> Result<String> {
+    let mut answers = String::new(alloc);
+    for action in input.split("; ") {
+        let answer = act(alloc, outbox, action)?;
+        push(&mut answers, answer.as_str())?;
+    }
+    Ok(answers)
+}
+
+fn act(alloc: Global, outbox: &mut Outbox, action: &str) -> Result<String> {
+    let (verb, rest) = halves(action, " ")?;
+    match verb {
+        "append" => append(alloc, outbox, rest),
+        "confirm" => confirm(alloc, outbox, rest),
+        _ => bail!("no action: {action}"),
+    }
+}
+
+fn append(alloc: Global, outbox: &mut Outbox, changes: &str) -> Result<String> {
+    let answer = match outbox.append(changes_of(alloc, changes)?) {
+        Ok(()) => "ok",
+        Err(AppendChangesFault::ChangesSpent) => "ChangesSpent",
+        Err(AppendChangesFault::OutOfMemory) => bail!("out of memory"),
+    };
+    Ok(String::from_str(alloc, answer)?)
+}
+
+fn confirm(alloc: Global, outbox: &mut Outbox, number: &str) -> Result<String> {
+    let number = read_number(number.as_bytes()).context("no number")?;
+    Ok(match outbox.confirm(number) {
+        Ok(()) => String::from_str(alloc, "ok")?,
+        Err(ConfirmFault::NoSuchChange(next)) => format!(in alloc; "NoSuchChange {next}")?,
+    })
+}
+
+// The changes that a text names, or none.
+fn changes_of(alloc: Global, text: &str) -> Result<Sequence<Change>> {
+    let mut changes = Sequence::new(alloc);
+    if text != "none" {
+        for change in text.split(", ") {
+            changes.push(change_of(alloc, change)?)?;
+        }
+    }
+    Ok(changes)
+}
+
+// `join` or `leave`, a slug and a branch.
+fn change_of(alloc: Global, text: &str) -> Result<Change> {
+    let (kind, names) = halves(text, " ")?;
+    let (name, branch) = halves(names, " ")?;
+    Ok(Change {
+        number: 0,
+        slug: slug(alloc, name)?,
+        kind: match kind {
+            "join" => ChangeKind::Join,
+            "leave" => ChangeKind::Leave,
+            _ => bail!("no change: {text}"),
+        },
+        branch: slug(alloc, branch)?,
+    })
+}
