@@ -1,0 +1,13 @@
+pub mod Order
+pub mod Places
+pub mod Joins
+pub mod Parts
+pub mod Sound
+pub mod UserMaps
+pub mod Values
+pub mod OneList
+pub mod RowOrder
+pub mod Rising
+pub mod Merged
+pub mod Names
+pub mod Read

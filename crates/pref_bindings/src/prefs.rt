@@ -1,0 +1,180 @@
+// The preferences that have a value.
+ghost use Rattle.std.specs.Prelude.{◌≡◌, [], ⊤, IfOk, IsTrue, MatchOption, None, Some, option_map};
+ghost use Rattle.plain_text.specs.Names.{is_name};
+ghost use Rattle.pref_bindings.specs.Changes.{AreSettings, joined, left, set_by_user};
+ghost use Rattle.pref_bindings.specs.Preferences.{IsSound, IsValue, found, holder_of, value_of};
+
+use crate::joining::joined;
+use crate::leaving::left;
+use crate::preference::Preference;
+use crate::setting::{users_preference, with_preference, without_name};
+use json_tree::Tree;
+use plain_text::Slug;
+use sequences::{Sequence, SharedList, Text};
+use std::alloc::{AllocError, Global};
+use std::marker::Model;
+
+/// The preferences that have a value, in order by name. Contracts see it as their list. A clone shares the list.
+///
+/// A recipe's slug that sets a preference holds it until it leaves, and the value of before is kept as long. One that is held
+/// isn't set by another slug.
+#[derive(Drop)]
+pub struct Prefs {
+    preferences: SharedList<Preference>,
+}
+
+impl Model for Prefs {
+    ghost use Rattle.std.specs.Prelude.{List};
+    ghost use Rattle.std.specs.Coded.{codes};
+    ghost use Rattle.json_tree.specs.Json.{json_code};
+    ghost use Rattle.pref_bindings.specs.declared.preference.Preference.{Preference};
+    ghost use Rattle.pref_bindings.specs.Preferences.{IsSound};
+
+    ghost Value = { List Preference };
+
+    ghost coded = { Prim.hlevel (codes, json_code) };
+
+    ghost view = { λ p. p.preferences };
+
+    ghost invariant = { λ p. IsSound p.preferences };
+}
+
+/// The same preferences. It takes no memory.
+impl Clone for Prefs {
+    ghost is_clone = { λ p q. q ≡ p };
+
+    fn clone(&self) -> Result<Prefs, AllocError> {
+        Ok(Prefs {
+            preferences: self.preferences.clone()?,
+        })
+    }
+}
+
+impl Prefs {
+    /// No preferences. It takes no memory.
+    pub fn new(alloc: Global) -> Prefs
+        ensures { result ≡ [] }
+    {
+        Prefs {
+            preferences: SharedList::new(alloc),
+        }
+    }
+
+    /// The preferences, in order by name. It takes no memory.
+    pub fn as_slice(&self) -> &[Preference]
+        ensures preferences { result.now ≡ self.now }
+        ensures sound { IsSound self.now }
+    {
+        self.preferences.as_slice()
+    }
+
+    /// The present value of a name, where it has one. It takes no memory.
+    pub fn get(&self, name: &str) -> Option<&Tree>
+        ensures { option_map (λ value. value.now) result ≡ value_of name.now self.now }
+    {
+        match self.find(name) {
+            Some(preference) => Some(&preference.value),
+            None => None,
+        }
+    }
+
+    /// The slug that holds a name, where one does. It takes no memory.
+    pub fn holder(&self, name: &str) -> Option<&Slug>
+        ensures { option_map (λ slug. slug.now) result ≡ holder_of name.now self.now }
+    {
+        match self.find(name) {
+            Some(preference) => holder_in(preference),
+            None => None,
+        }
+    }
+
+    // The preference of a name, by a binary search.
+    fn find(&self, name: &str) -> Option<&Preference>
+        ensures { option_map (λ preference. preference.now) result ≡ found name.now self.now }
+    {
+        let preferences = self.as_slice();
+        match preferences.binary_search_by(|preference| preference.name.as_str().cmp(name)) {
+            Ok(place) => Some(&preferences[place]),
+            Err(_) => None,
+        }
+    }
+
+    /// The preferences where a slug sets each of these that nobody holds, and holds it: its value of before, or that there was
+    /// none, is kept. One that is held stays. The one error is want of memory. Both lists are walked once.
+    pub fn join(
+        &self,
+        alloc: Global,
+        slug: &Slug,
+        values: &[(Text, Tree)],
+    ) -> Result<Prefs, AllocError>
+        requires { AreSettings values.now }
+        ensures { IfOk result (λ prefs. prefs ≡ joined slug.now values.now self.now) }
+    {
+        let preferences = joined(alloc, slug, self.as_slice(), values)?;
+        Prefs::of_preferences(alloc, preferences)
+    }
+
+    /// The preferences where each that the slug holds has its value of before again, or none where there was none. The one error
+    /// is want of memory. The list is walked once.
+    pub fn leave(&self, alloc: Global, slug: &Slug) -> Result<Prefs, AllocError>
+        ensures { IfOk result (λ prefs. prefs ≡ left slug.now self.now) }
+    {
+        let preferences = left(alloc, slug, self.as_slice())?;
+        Prefs::of_preferences(alloc, preferences)
+    }
+
+    /// The preferences where the user sets this one, or takes its value away. The one error is want of memory.
+    pub fn user_set(&self, name: &Text, value: Option<&Tree>) -> Result<Prefs, AllocError>
+        requires free { holder_of name.now self.now ≡ None }
+        requires name { IsTrue (is_name name.now) }
+        requires value { MatchOption value ⊤ (λ v. IsValue v.now) }
+        ensures { IfOk result (λ prefs. prefs ≡ set_by_user name.now (option_map (λ v. v.now) value.entry) self.now) }
+    {
+        match value {
+            Some(value) => self.with_value(name, value),
+            None => self.without_value(name),
+        }
+    }
+
+    // The preferences where the user sets this one.
+    fn with_value(&self, name: &Text, value: &Tree) -> Result<Prefs, AllocError>
+        requires name { IsTrue (is_name name.now) }
+        requires value { IsValue value.now }
+        ensures { IfOk result (λ prefs. prefs ≡ set_by_user name.now (Some value.now) self.now) }
+    {
+        let preference = users_preference(name, value)?;
+        let preferences = with_preference(&self.preferences, preference)?;
+        Ok(Prefs { preferences })
+    }
+
+    // The preferences where the user takes the value of this one away.
+    fn without_value(&self, name: &Text) -> Result<Prefs, AllocError>
+        ensures { IfOk result (λ prefs. prefs ≡ set_by_user name.now None self.now) }
+    {
+        let preferences = without_name(&self.preferences, name)?;
+        Ok(Prefs { preferences })
+    }
+
+    /// The preferences of a list.
+    pub(crate) fn of_preferences(
+        alloc: Global,
+        preferences: Sequence<Preference>,
+    ) -> Result<Prefs, AllocError>
+        requires { IsSound preferences }
+        ensures { IfOk result (λ prefs. prefs ≡ preferences) }
+    {
+        Ok(Prefs {
+            preferences: SharedList::from_sequence(alloc, preferences)?,
+        })
+    }
+}
+
+// The slug that holds the preference.
+fn holder_in(preference: &Preference) -> Option<&Slug>
+    ensures { option_map (λ slug. slug.now) result ≡ option_map (λ h. h.holder) preference.now.hold }
+{
+    match &preference.hold {
+        Some(hold) => Some(&hold.holder),
+        None => None,
+    }
+}
