@@ -2,7 +2,7 @@
 ghost use Rattle.std.specs.Prelude.{◌≤◌, IfOk};
 ghost use Rattle.enrol_states.specs.Consistent.{IsConsistent};
 
-use crate::inputs::{cut, halves, recipes, slug};
+use crate::inputs::{recipes, slug};
 use crate::shown::{parts_text, state_text, status_text};
 use anyhow::{Context, Result, bail, ensure};
 use enrol_states::{
@@ -10,6 +10,8 @@ use enrol_states::{
     reset,
 };
 use plain_text::{Slug, read_number};
+use recipe_reader::Recipes;
+use row_tables::{cut, displayed, halves, word};
 use std::alloc::Global;
 use uuid::Uuid;
 
@@ -22,6 +24,9 @@ const OTHER_ID: Uuid = Uuid::NAMESPACE_URL;
 const HOME: &str = "{\"featureId\":\"homescreen\",\"value\":{}}";
 
 const MESSAGING: &str = "{\"featureId\":\"messaging\",\"value\":{}}";
+
+const BOTH: &str =
+    "{\"featureId\":\"homescreen\",\"value\":{}},{\"featureId\":\"messaging\",\"value\":{}}";
 
 // A recipe's record, with what stands for its kind and its features.
 fn record(alloc: Global, slug: &str, kind: &str, features: &str) -> Result<String> {
@@ -41,16 +46,30 @@ pub(crate) fn with_recipes(alloc: Global, records: &str) -> Result<State>
     Ok(state)
 }
 
+// Adds a recipe's record, behind a comma where it isn't the first.
+fn add_record(
+    alloc: Global,
+    records: &mut String,
+    slug: &str,
+    kind: &str,
+    features: &str,
+) -> Result<()> {
+    let record = record(alloc, slug, kind, features)?;
+    if !records.is_empty() {
+        records.push(',')?;
+    }
+    Ok(records.push_str(record.as_str())?)
+}
+
 // Alpha with both features, beta and delta with one each, and a rollout with both.
 fn rivals(alloc: Global) -> Result<State>
     ensures { IfOk result IsConsistent }
 {
-    let both = format!(in alloc; "{HOME},{MESSAGING}")?;
-    let alpha = record(alloc, "alpha", "false", both.as_str())?;
-    let beta = record(alloc, "beta", "false", MESSAGING)?;
-    let delta = record(alloc, "delta", "false", HOME)?;
-    let roll = record(alloc, "aroll", "true", both.as_str())?;
-    let records = format!(in alloc; "{alpha},{beta},{delta},{roll}")?;
+    let mut records = String::new(alloc);
+    add_record(alloc, &mut records, "alpha", "false", BOTH)?;
+    add_record(alloc, &mut records, "beta", "false", MESSAGING)?;
+    add_record(alloc, &mut records, "delta", "false", HOME)?;
+    add_record(alloc, &mut records, "aroll", "true", BOTH)?;
     with_recipes(alloc, records.as_str())
 }
 
@@ -58,7 +77,8 @@ fn chosen(alloc: Global, state: &State, name: &str, branch: &str) -> Result<Stat
     requires { IsConsistent state.now }
     ensures { IfOk result IsConsistent }
 {
-    match opt_in(alloc, state, &slug(alloc, name)?, &slug(alloc, branch)?) {
+    let (name, branch) = (slug(alloc, name)?, slug(alloc, branch)?);
+    match opt_in(alloc, state, &name, &branch) {
         Ok(next) => Ok(next),
         Err(_) => bail!("the opt-in is refused"),
     }
@@ -68,7 +88,8 @@ fn without(alloc: Global, state: &State, name: &str) -> Result<State>
     requires { IsConsistent state.now }
     ensures { IfOk result IsConsistent }
 {
-    match opt_out(alloc, state, &slug(alloc, name)?) {
+    let name = slug(alloc, name)?;
+    match opt_out(alloc, state, &name) {
         Ok(next) => Ok(next),
         Err(_) => bail!("the opt-out is refused"),
     }
@@ -121,22 +142,47 @@ fn run(alloc: Global, state: State, lines: &str) -> Result<State>
 
 /// The opt-outs and rows to which lines lead over the one recipe alpha. Row: the lines.
 pub(crate) fn shown_after(alloc: Global, input: &str) -> Result<String> {
-    let state = with_recipes(alloc, record(alloc, "alpha", "false", HOME)?.as_str())?;
-    state_text(alloc, &run(alloc, state, input)?)
+    let state = alpha_alone(alloc)?;
+    let state = run(alloc, state, input)?;
+    state_text(alloc, &state)
+}
+
+fn alpha_alone(alloc: Global) -> Result<State>
+    ensures { IfOk result IsConsistent }
+{
+    let record = record(alloc, "alpha", "false", HOME)?;
+    with_recipes(alloc, record.as_str())
+}
+
+// The state after lines over four recipes.
+fn rivals_after(alloc: Global, lines: &str) -> Result<State>
+    ensures { IfOk result IsConsistent }
+{
+    let state = rivals(alloc)?;
+    run(alloc, state, lines)
 }
 
 /// What the client takes part in, the opt-outs and the rows to which lines lead over four recipes, of which aroll is a
 /// rollout. Row: the lines.
 pub(crate) fn parts_after(alloc: Global, input: &str) -> Result<String> {
-    parts_text(alloc, &run(alloc, rivals(alloc)?, input)?)
+    let state = rivals_after(alloc, input)?;
+    parts_text(alloc, &state)
 }
 
 /// The answer to an opt-in after lines over four recipes. Row: the lines, a slug and a branch.
 pub(crate) fn opt_in_after(alloc: Global, input: &str) -> Result<String> {
     let (lines, words) = halves(input)?;
+    let state = rivals_after(alloc, lines)?;
+    opt_in_answer(alloc, &state, words)
+}
+
+// The answer to an opt-in to a slug and a branch.
+fn opt_in_answer(alloc: Global, state: &State, words: &str) -> Result<String>
+    requires { IsConsistent state.now }
+{
     let (name, branch) = cut(words);
-    let state = run(alloc, rivals(alloc)?, lines)?;
-    answer_text(alloc, &state, &slug(alloc, name)?, &slug(alloc, branch)?)
+    let (name, branch) = (slug(alloc, name)?, slug(alloc, branch)?);
+    answer_text(alloc, state, &name, &branch)
 }
 
 // The answer to an opt-in, in words.
@@ -144,11 +190,17 @@ fn answer_text(alloc: Global, state: &State, slug: &Slug, branch: &Slug) -> Resu
     requires { IsConsistent state.now }
 {
     match opt_in(alloc, state, slug, branch) {
-        Ok(_) => Ok(String::from_str(alloc, "ok")?),
-        Err(OptInFault::FeatureTaken(holder, feature)) => {
+        Ok(_) => word(alloc, "ok"),
+        Err(fault) => fault_text(alloc, &fault),
+    }
+}
+
+fn fault_text(alloc: Global, fault: &OptInFault) -> Result<String> {
+    match fault {
+        OptInFault::FeatureTaken(holder, feature) => {
             Ok(format!(in alloc; "FeatureTaken {} {}", holder.text(), feature.as_str())?)
         }
-        Err(fault) => Ok(String::from_str(alloc, name_of(&fault))?),
+        fault => word(alloc, name_of(fault)),
     }
 }
 
@@ -165,18 +217,28 @@ fn name_of(fault: &OptInFault) -> &'static str {
 /// What a state says of a slug after lines over four recipes. Row: the lines, and the slug.
 pub(crate) fn status_after(alloc: Global, input: &str) -> Result<String> {
     let (lines, name) = halves(input)?;
-    let state = run(alloc, rivals(alloc)?, lines)?;
+    let state = rivals_after(alloc, lines)?;
     match state.status_of(name) {
         Some(status) => status_text(alloc, status),
-        None => Ok(String::from_str(alloc, "nothing")?),
+        None => word(alloc, "nothing"),
     }
 }
 
 /// What a reset leaves of the client after lines over four recipes: its id, the moments of install and update, whether
-/// it takes part in experiments and in rollouts, the number of live recipes, whether any are pending, and whether its copy is the same. Row: the lines.
+/// it takes part in experiments and in rollouts, the number of live recipes, whether any are pending, and whether its
+/// copy is the same. Row: the lines.
 pub(crate) fn reset_after(alloc: Global, input: &str) -> Result<String> {
-    let state = run(alloc, rivals(alloc)?, input)?;
-    let (has_other_id, is_same) = (state.id == OTHER_ID, state.clone()? == state);
+    let state = rivals_after(alloc, input)?;
+    let is_same = is_copied(&state)?;
+    client_text(alloc, &state, is_same)
+}
+
+fn is_copied(state: &State) -> Result<bool> {
+    Ok(state.clone()? == *state)
+}
+
+fn client_text(alloc: Global, state: &State, is_same: bool) -> Result<String> {
+    let has_other_id = state.id == OTHER_ID;
     let (count, is_pending) = (state.live.as_slice().len(), state.pending.is_some());
     Ok(format!(in alloc;
         "{has_other_id} {} {} {} {} {count} {is_pending} {is_same}",
@@ -199,7 +261,8 @@ pub(crate) fn opt_outs(alloc: Global, input: &str) -> Result<String> {
 fn is_at_limit(alloc: Global, state: &State) -> Result<bool>
     requires { IsConsistent state.now }
 {
-    let more = opt_out(alloc, state, &slug(alloc, "one-more")?);
+    let name = slug(alloc, "one-more")?;
+    let more = opt_out(alloc, state, &name);
     Ok(matches!(more, Err(OptOutFault::OptedOutLimit)))
 }
 
@@ -226,14 +289,19 @@ fn opted_out_of(alloc: Global, count: u64) -> Result<State>
 /// home screen, and in beta. Row: whether beta is a rollout, and its feature.
 pub(crate) fn leaves_alone(alloc: Global, input: &str) -> Result<String> {
     let (kind, feature) = cut(input);
-    let mut state = run(alloc, rivals(alloc)?, "beta control,delta control")?;
+    let mut state = rivals_after(alloc, "beta control,delta control")?;
+    state.live = beta_and_delta(alloc, kind, feature)?;
+    displayed(alloc, &is_exclusive(alloc, &state)?)
+}
+
+fn beta_and_delta(alloc: Global, kind: &str, feature: &str) -> Result<Recipes> {
     let feature = if feature == "homescreen" {
         HOME
     } else {
         MESSAGING
     };
-    let beta = record(alloc, "beta", kind, feature)?;
-    let delta = record(alloc, "delta", "false", HOME)?;
-    state.live = recipes(alloc, format!(in alloc; "{beta},{delta}")?.as_str())?;
-    Ok(format!(in alloc; "{}", is_exclusive(alloc, &state)?)?)
+    let mut records = String::new(alloc);
+    add_record(alloc, &mut records, "beta", kind, feature)?;
+    add_record(alloc, &mut records, "delta", "false", HOME)?;
+    recipes(alloc, records.as_str())
 }

@@ -1,7 +1,7 @@
 //! Rows on drills, whose draws were worked out from the generator's rule, and on the summary of a state.
 ghost use Rattle.std.specs.Prelude.{◌≤◌};
 
-use crate::inputs::{cut, slug};
+use crate::inputs::slug;
 use crate::shown::one_line;
 use anyhow::{Context, Result, bail, ensure};
 use enrol_states::{
@@ -9,6 +9,7 @@ use enrol_states::{
 };
 use plain_text::read_number;
 use recipe_drill::{Drill, MAX_RECIPES, summary};
+use row_tables::{cut, displayed};
 use std::alloc::Global;
 use std::str::from_utf8;
 use uuid::Uuid;
@@ -23,10 +24,15 @@ fn drill(alloc: Global, count: u32) -> Result<Drill> {
 pub(crate) fn recipes_of(alloc: Global, input: &str) -> Result<String> {
     let (count, length) = cut(input);
     let count = u32::try_from(number(count)?)?;
+    let length = number(length)?;
     let drill = drill(alloc, count)?;
-    let recipes = drill.recipes.as_slice();
-    let end = from_utf8(last(recipes, number(length)?))?;
-    Ok(format!(in alloc; "{} {end}", recipes.len())?)
+    end_text(alloc, drill.recipes.as_slice(), length)
+}
+
+// The number of bytes, and so many of the last ones.
+fn end_text(alloc: Global, bytes: &[u8], length: usize) -> Result<String> {
+    let end = from_utf8(last(bytes, length))?;
+    Ok(format!(in alloc; "{} {end}", bytes.len())?)
 }
 
 /// A part of the drill from 7 on with one recipe: of the manifest its length, its first bytes or its last ones. Row: the
@@ -44,7 +50,7 @@ pub(crate) fn part_of(alloc: Global, input: &str) -> Result<String> {
 
 fn part_of_manifest(alloc: Global, manifest: &[u8], part: &str, length: &str) -> Result<String> {
     match part {
-        "length" => Ok(format!(in alloc; "{}", manifest.len())?),
+        "length" => displayed(alloc, &manifest.len()),
         "first" => text_of(alloc, first(manifest, number(length)?)),
         "last" => text_of(alloc, last(manifest, number(length)?)),
         _ => bail!("no part: {part}"),
@@ -72,17 +78,22 @@ fn last(bytes: &[u8], length: usize) -> &[u8] {
 /// The summary of a state of 20 rows. Row: a letter for each row, which begins the name of its status; `F` is an error.
 pub(crate) fn summary_of(alloc: Global, input: &str) -> Result<String> {
     let state = state_of(alloc, input)?;
-    one_line(alloc, summary(alloc, u64::MAX, 20, &state)?.as_str())
+    let summary = summary(alloc, u64::MAX, 20, &state)?;
+    one_line(alloc, summary.as_str())
 }
 
 // A state whose rows have these statuses.
 fn state_of(alloc: Global, letters: &str) -> Result<State> {
     let mut state = State::new(alloc, Uuid::nil(), 0);
     for letter in letters.as_bytes() {
-        let (slug, status) = (slug(alloc, "drill-0000")?, status(alloc, *letter)?);
-        state.rows.push(Row { slug, status })?;
+        state.rows.push(row(alloc, *letter)?)?;
     }
     Ok(state)
+}
+
+fn row(alloc: Global, letter: u8) -> Result<Row> {
+    let (slug, status) = (slug(alloc, "drill-0000")?, status(alloc, letter)?);
+    Ok(Row { slug, status })
 }
 
 fn status(alloc: Global, letter: u8) -> Result<Status> {

@@ -1,10 +1,10 @@
-//! Slugs, recipes and lists of words, read from their texts.
+//! Slugs, trees and recipes, read from their texts.
 ghost use Rattle.std.specs.Prelude.{IfOk};
 ghost use Rattle.recipe_reader.specs.Payloads.{AreValid};
 ghost use Rattle.recipe_reader.specs.Records.{IsValid};
 
 use anyhow::{Result, bail};
-use json_tree::read;
+use json_tree::{Tree, read};
 use plain_text::{Slug, slug_of};
 use recipe_reader::{Recipe, Recipes, read_payload, read_record};
 use std::alloc::Global;
@@ -20,10 +20,8 @@ pub(crate) fn slug(alloc: Global, text: &str) -> Result<Slug> {
 pub(crate) fn recipe(alloc: Global, record: &str) -> Result<Recipe>
     ensures { IfOk result IsValid }
 {
-    let Ok(tree) = read(alloc, record.as_bytes()) else {
-        bail!("no JSON");
-    };
-    match read_record(alloc, &tree) {
+    let read = read_record(alloc, &tree(alloc, record)?);
+    match read {
         Ok(recipe) => Ok(recipe),
         Err(_) => bail!("no recipe"),
     }
@@ -33,25 +31,22 @@ pub(crate) fn recipe(alloc: Global, record: &str) -> Result<Recipe>
 pub(crate) fn recipes(alloc: Global, records: &str) -> Result<Recipes>
     ensures { IfOk result AreValid }
 {
-    let text = format!(in alloc; "{{\"data\":[{records}]}}")?;
-    let Ok(tree) = read(alloc, text.as_bytes()) else {
-        bail!("no JSON");
-    };
-    match read_payload(alloc, &tree) {
+    let read = read_payload(alloc, &payload_tree(alloc, records)?);
+    match read {
         Ok(payload) => Ok(payload.recipes),
         Err(_) => bail!("no payload"),
     }
 }
 
-/// A text before and behind ` | `.
-pub(crate) fn halves(text: &str) -> Result<(&str, &str)> {
-    match text.split_once(" | ") {
-        Some(halves) => Ok(halves),
-        None => bail!("no halves: {text}"),
-    }
+fn payload_tree(alloc: Global, records: &str) -> Result<Tree> {
+    let text = format!(in alloc; "{{\"data\":[{records}]}}")?;
+    tree(alloc, text.as_str())
 }
 
-/// A text before and behind its first space, or else the whole and an empty one.
-pub(crate) fn cut(text: &str) -> (&str, &str) {
-    text.split_once(' ').unwrap_or((text, ""))
+/// The tree of a JSON text.
+pub(crate) fn tree(alloc: Global, text: &str) -> Result<Tree> {
+    match read(alloc, text.as_bytes()) {
+        Ok(tree) => Ok(tree),
+        Err(_) => bail!("no JSON"),
+    }
 }

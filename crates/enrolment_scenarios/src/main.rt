@@ -48,16 +48,22 @@ fn found_of_states(alloc: Global, kind: &str, input: &str) -> Result<String> {
     }
 }
 
+// Reads a line, and judges what is found of the row that it makes whole.
+fn step(alloc: Global, tables: &mut Tables, line: &str) -> Result<()> {
+    let Some(row) = tables.read(line)? else {
+        return Ok(());
+    };
+    let input = from_utf8(&row.input)?;
+    let found = found(alloc, tables.kind(), tables.given(), input)?;
+    Ok(tables.judge(&row, found.as_str())?)
+}
+
 fn main(rt: HostRuntime) -> Result<()> {
     let alloc = rt.alloc();
     let input = io::read_to_string(alloc, rt.reader())?;
     let mut tables = Tables::new(alloc);
     for line in input.lines() {
-        if let Some(row) = tables.read(line)? {
-            let text = from_utf8(&row.input)?;
-            let found = found(alloc, tables.kind(), tables.given(), text)?;
-            tables.judge(&row, found.as_str())?;
-        }
+        step(alloc, &mut tables, line)?;
     }
     print!(rt; "{}", tables.report()?)?;
     Ok(())

@@ -1,9 +1,9 @@
 //! Rows on points, buckets and branches.
 ghost use Rattle.std.specs.Prelude.{◌<◌, ◌^◌, IfOk};
 
-use crate::inputs::cut;
 use anyhow::{Context, Result, ensure};
 use plain_text::read_number;
+use row_tables::{cut, displayed};
 use sampling::{choose_branch, in_bucket, point};
 use std::alloc::Global;
 
@@ -12,7 +12,7 @@ const END: u64 = 1 << 48;
 
 /// A text's point. Row: the text.
 pub(crate) fn point_of(alloc: Global, input: &str) -> Result<String> {
-    Ok(format!(in alloc; "{}", point(input.as_bytes()))?)
+    displayed(alloc, &point(input.as_bytes()))
 }
 
 /// Whether a point is in a range of buckets. Row: the point, the first bucket, how many there are in the range and in
@@ -29,7 +29,7 @@ pub(crate) fn is_in_bucket(alloc: Global, input: &str) -> Result<String> {
         small_number(count)?,
         total,
     );
-    Ok(format!(in alloc; "{is_in}")?)
+    displayed(alloc, &is_in)
 }
 
 /// The number of a point's branch. Row: the point, and the ratios.
@@ -47,7 +47,7 @@ pub(crate) fn branch_of(alloc: Global, input: &str) -> Result<String> {
         },
     ];
     ensure!(ratios[0] > 0 || ratios[1] > 0, "no branch");
-    Ok(format!(in alloc; "{}", choose_branch(point_at(at)?, &ratios))?)
+    displayed(alloc, &choose_branch(point_at(at)?, &ratios))
 }
 
 fn point_at(text: &str) -> Result<u64>

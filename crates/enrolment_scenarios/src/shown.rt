@@ -1,7 +1,7 @@
 //! Statuses and rows in words.
 use anyhow::Result;
 use enrol_states::{State, Status};
-use std::alloc::Global;
+use std::alloc::{AllocError, Global};
 
 pub(crate) fn status_text(alloc: Global, status: &Status) -> Result<String> {
     Ok(match status {
@@ -23,13 +23,11 @@ pub(crate) fn status_text(alloc: Global, status: &Status) -> Result<String> {
 pub(crate) fn state_text(alloc: Global, state: &State) -> Result<String> {
     let mut line = String::new(alloc);
     for slug in state.opted_out.as_slice() {
-        let text = format!(in alloc; "out {}", slug.text())?;
-        push(&mut line, text.as_str())?;
+        push(&mut line, "out", slug.text())?;
     }
     for row in state.rows.as_slice() {
         let status = status_text(alloc, &row.status)?;
-        let text = format!(in alloc; "{} {status}", row.slug.text())?;
-        push(&mut line, text.as_str())?;
+        push(&mut line, row.slug.text(), status.as_str())?;
     }
     if line.is_empty() {
         line.push_str("nothing")?;
@@ -37,12 +35,14 @@ pub(crate) fn state_text(alloc: Global, state: &State) -> Result<String> {
     Ok(line)
 }
 
-fn push(line: &mut String, text: &str) -> Result<()> {
+// Adds two texts with a space between them, behind a comma where they are not the first.
+fn push(line: &mut String, first: &str, second: &str) -> Result<(), AllocError> {
     if !line.is_empty() {
         line.push_str(", ")?;
     }
-    line.push_str(text)?;
-    Ok(())
+    line.push_str(first)?;
+    line.push_str(" ")?;
+    line.push_str(second)
 }
 
 /// What a client takes part in, and its opt-outs and rows.
@@ -53,11 +53,16 @@ pub(crate) fn parts_text(alloc: Global, state: &State) -> Result<String> {
         (false, true) => "rollouts",
         (false, false) => "none",
     };
-    Ok(format!(in alloc; "{part}, {}", state_text(alloc, state)?)?)
+    let rest = state_text(alloc, state)?;
+    Ok(format!(in alloc; "{part}, {rest}")?)
 }
 
 /// The lines of a text in one, with a bar between them.
 pub(crate) fn one_line(alloc: Global, text: &str) -> Result<String> {
+    Ok(joined(alloc, text)?)
+}
+
+fn joined(alloc: Global, text: &str) -> Result<String, AllocError> {
     let mut line = String::new(alloc);
     for part in text.lines() {
         if !line.is_empty() {

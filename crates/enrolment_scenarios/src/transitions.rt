@@ -1,5 +1,5 @@
 //! Rows on what follows from a verdict, and on what stays without a live recipe.
-use crate::inputs::{cut, halves, recipe, slug};
+use crate::inputs::{recipe, slug};
 use crate::shown::status_text;
 use anyhow::{Context, Result, bail};
 use enrol_states::{
@@ -8,6 +8,7 @@ use enrol_states::{
 };
 use plain_text::read_number;
 use recipe_reader::Recipe;
+use row_tables::{cut, halves, word};
 use std::alloc::Global;
 
 // An experiment with the branches `control` and `treatment`.
@@ -28,20 +29,15 @@ pub(crate) fn outcome_of(alloc: Global, given: &str, input: &str) -> Result<Stri
     };
     let (old, verdict) = halves(input)?;
     let old = old_status(alloc, old)?;
-    next(
-        alloc,
-        old.as_ref(),
-        &verdict_of(alloc, verdict)?,
-        &recipe(alloc, record)?,
-    )
+    let verdict = verdict_of(alloc, verdict)?;
+    let recipe = recipe(alloc, record)?;
+    next(alloc, old.as_ref(), &verdict, &recipe)
 }
 
 // What follows, but for a pause where the client is enrolled.
 fn next(alloc: Global, old: Option<&Status>, verdict: &Verdict, recipe: &Recipe) -> Result<String> {
     match (old, verdict) {
-        (Some(Status::Enrolled { .. }), Verdict::EnrollmentsPaused) => {
-            Ok(String::from_str(alloc, "never")?)
-        }
+        (Some(Status::Enrolled { .. }), Verdict::EnrollmentsPaused) => { word(alloc, "never") }
         _ => outcome_text(alloc, &candidate(alloc, old, verdict, recipe)?),
     }
 }
@@ -63,24 +59,32 @@ pub(crate) fn end_of(alloc: Global, input: &str) -> Result<String> {
     let old = old_status(alloc, status)?.context("no status")?;
     match ended(alloc, &old, now)? {
         Some(status) => status_text(alloc, &status),
-        None => Ok(String::from_str(alloc, "dropped")?),
+        None => word(alloc, "dropped"),
     }
 }
 
 fn verdict_of(alloc: Global, text: &str) -> Result<Verdict> {
-    Ok(match text {
-        "DifferentAppName" => Verdict::DifferentAppName,
-        "DifferentChannel" => Verdict::DifferentChannel,
-        "OptOut" => Verdict::OptOut,
-        "EnrollmentsPaused" => Verdict::EnrollmentsPaused,
-        "NotTargeted" => Verdict::NotTargeted,
-        "NotSelected" => Verdict::NotSelected,
-        "Unparsed" => Verdict::Failed(ErrorCause::Unparsed),
-        "Faulted" => Verdict::Failed(ErrorCause::Faulted),
-        "NotTruth" => Verdict::Failed(ErrorCause::NotTruth),
-        "NoUnit" => Verdict::Failed(ErrorCause::NoUnit),
-        branch => Verdict::Qualified(slug(alloc, branch)?),
-    })
+    match plain_verdict(text) {
+        Some(verdict) => Ok(verdict),
+        None => Ok(Verdict::Qualified(slug(alloc, text)?)),
+    }
+}
+
+// The verdict of this name, but for one with a branch.
+fn plain_verdict(text: &str) -> Option<Verdict> {
+    match text {
+        "DifferentAppName" => Some(Verdict::DifferentAppName),
+        "DifferentChannel" => Some(Verdict::DifferentChannel),
+        "OptOut" => Some(Verdict::OptOut),
+        "EnrollmentsPaused" => Some(Verdict::EnrollmentsPaused),
+        "NotTargeted" => Some(Verdict::NotTargeted),
+        "NotSelected" => Some(Verdict::NotSelected),
+        "Unparsed" => Some(Verdict::Failed(ErrorCause::Unparsed)),
+        "Faulted" => Some(Verdict::Failed(ErrorCause::Faulted)),
+        "NotTruth" => Some(Verdict::Failed(ErrorCause::NotTruth)),
+        "NoUnit" => Some(Verdict::Failed(ErrorCause::NoUnit)),
+        _ => None,
+    }
 }
 
 // A status of each kind. Why a client isn't enrolled, and what can't be judged, don't matter.

@@ -5,7 +5,7 @@ ghost use Rattle.jexl_transforms.specs.Table.{HasStandardNames};
 ghost use Rattle.recipe_reader.specs.Records.{IsValid};
 
 use crate::choices;
-use crate::inputs::{halves, recipe};
+use crate::inputs::{recipe, tree};
 use anyhow::{Result, bail};
 use app_context::{Context, read_context};
 use enrol_evolver::{evolve, verdict};
@@ -14,8 +14,8 @@ use jexl_transforms::{
     Transform, TransformTable, bucket_transform, date_transform, version_transform,
 };
 use jexl_value::{Attributes, Value};
-use json_tree::read;
 use recipe_reader::Recipe;
+use row_tables::{debugged, halves, word};
 use sequences::Sequence;
 use std::alloc::Global;
 
@@ -62,18 +62,16 @@ fn judged(alloc: Global, table: &TransformTable, given: &str, input: &str) -> Re
     requires { HasStandardNames table.now }
 {
     let (members, lines) = halves(input)?;
+    let recipe = recipe_with(alloc, given, members)?;
     let context = context(alloc)?;
     let state = client_after(alloc, table, &context, given, lines)?;
-    let recipe = recipe_with(alloc, given, members)?;
     let verdict = verdict(alloc, &recipe, &state, &context, table, NOW)?;
     verdict_text(alloc, &verdict)
 }
 
 fn context(alloc: Global) -> Result<Context> {
-    let Ok(tree) = read(alloc, CONTEXT.as_bytes()) else {
-        bail!("no JSON");
-    };
-    match read_context(alloc, &tree) {
+    let read = read_context(alloc, &tree(alloc, CONTEXT)?);
+    match read {
         Ok(context) => Ok(context),
         Err(_) => bail!("no context"),
     }
@@ -135,14 +133,14 @@ fn client_step(
 }
 
 fn verdict_text(alloc: Global, verdict: &Verdict) -> Result<String> {
-    Ok(match verdict {
-        Verdict::DifferentAppName => String::from_str(alloc, "DifferentAppName")?,
-        Verdict::DifferentChannel => String::from_str(alloc, "DifferentChannel")?,
-        Verdict::OptOut => String::from_str(alloc, "OptOut")?,
-        Verdict::EnrollmentsPaused => String::from_str(alloc, "EnrollmentsPaused")?,
-        Verdict::NotTargeted => String::from_str(alloc, "NotTargeted")?,
-        Verdict::NotSelected => String::from_str(alloc, "NotSelected")?,
-        Verdict::Failed(cause) => format!(in alloc; "{cause:?}")?,
-        Verdict::Qualified(branch) => String::from_str(alloc, branch.text())?,
-    })
+    match verdict {
+        Verdict::DifferentAppName => word(alloc, "DifferentAppName"),
+        Verdict::DifferentChannel => word(alloc, "DifferentChannel"),
+        Verdict::OptOut => word(alloc, "OptOut"),
+        Verdict::EnrollmentsPaused => word(alloc, "EnrollmentsPaused"),
+        Verdict::NotTargeted => word(alloc, "NotTargeted"),
+        Verdict::NotSelected => word(alloc, "NotSelected"),
+        Verdict::Failed(cause) => debugged(alloc, cause),
+        Verdict::Qualified(branch) => word(alloc, branch.text()),
+    }
 }

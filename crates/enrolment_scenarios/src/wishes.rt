@@ -1,21 +1,27 @@
 //! Rows on conflicts: which wishes are granted, where recipes of one kind share features.
-use crate::inputs::{cut, slug};
+use crate::inputs::slug;
 use anyhow::{Result, bail, ensure};
 use enrol_conflicts::{Candidate, settle, slugs_rise};
 use recipe_reader::Kind;
+use row_tables::cut;
 use sequences::{Sequence, Text};
-use std::alloc::Global;
+use std::alloc::{AllocError, Global};
 
 /// The slugs of the wishes that are granted, each with a comma before it, over the names of coenrolling features. Row:
 /// the wishes with `, ` between them, each a slug, `experiment` or `rollout`, the features with `+` between them, `in`
 /// or `out` as the client was enrolled or not, and the moment of publishing or `none`.
 pub(crate) fn granted(alloc: Global, coenrolling: &str, input: &str) -> Result<String> {
-    let coenrolling = texts(alloc, coenrolling)?;
     let wishes = wishes(alloc, input)?;
     ensure!(slugs_rise(&wishes), "slugs in disorder");
+    let coenrolling = texts(alloc, coenrolling)?;
     let granted = settle(alloc, &wishes, coenrolling.as_slice())?;
+    Ok(slugs_of(alloc, &wishes, granted.as_slice())?)
+}
+
+// The slugs of the wishes that are granted, each with a comma before it.
+fn slugs_of(alloc: Global, wishes: &[Candidate], granted: &[bool]) -> Result<String, AllocError> {
     let mut line = String::new(alloc);
-    for (wish, is_granted) in wishes.iter().zip(granted.as_slice()) {
+    for (wish, is_granted) in wishes.iter().zip(granted) {
         if *is_granted {
             line.push_str(", ")?;
             line.push_str(wish.slug.text())?;
@@ -37,12 +43,13 @@ fn wish(alloc: Global, text: &str) -> Result<Candidate> {
     let (kind, rest) = cut(rest);
     let (features, rest) = cut(rest);
     let (enrolled, published) = cut(rest);
+    let (kind, published) = (kind_of(kind)?, moment_of(published)?);
     Ok(Candidate {
         slug: slug(alloc, name)?,
-        kind: kind_of(kind)?,
+        kind,
         features: texts(alloc, features)?,
         was_enrolled: enrolled == "in",
-        published: moment_of(published)?,
+        published,
     })
 }
 

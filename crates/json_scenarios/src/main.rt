@@ -60,15 +60,21 @@ fn found_of_recipes(alloc: Global, kind: &str, given: &str, input: &str) -> Resu
     }
 }
 
+// Reads a line, and judges what is found of the row that it makes whole.
+fn step(alloc: Global, tables: &mut Tables, line: &str) -> Result<()> {
+    let Some(row) = tables.read(line)? else {
+        return Ok(());
+    };
+    let found = found(alloc, tables.kind(), tables.given(), &row.input)?;
+    Ok(tables.judge(&row, found.as_str())?)
+}
+
 fn main(rt: HostRuntime) -> Result<()> {
     let alloc = rt.alloc();
     let input = io::read_to_string(alloc, rt.reader())?;
     let mut tables = Tables::new(alloc);
     for line in input.lines() {
-        if let Some(row) = tables.read(line)? {
-            let found = found(alloc, tables.kind(), tables.given(), &row.input)?;
-            tables.judge(&row, found.as_str())?;
-        }
+        step(alloc, &mut tables, line)?;
     }
     print!(rt; "{}", tables.report()?)?;
     Ok(())

@@ -6,7 +6,8 @@ ghost use Rattle.json_tree.specs.Tree.{json_of};
 
 use anyhow::{Context, Result, bail, ensure};
 use json_tree::{Items, Members, Text, Tree, read, reread, write};
-use std::alloc::Global;
+use row_tables::{debugged, displayed, word};
+use std::alloc::{AllocError, Global};
 
 /// The tree of a JSON text.
 pub(crate) fn tree(alloc: Global, text: &str) -> Result<Tree> {
@@ -25,15 +26,15 @@ pub(crate) fn text_of(alloc: Global, tree: &Tree) -> Result<String> {
 pub(crate) fn rewritten(alloc: Global, input: &[u8]) -> Result<String> {
     match read(alloc, input) {
         Ok(tree) => text_of(alloc, &tree),
-        Err(fault) => Ok(format!(in alloc; "{fault:?}")?),
+        Err(fault) => debugged(alloc, &fault),
     }
 }
 
 /// The name of a text's fault, or `none`. Row: the bytes.
 pub(crate) fn fault_of(alloc: Global, input: &[u8]) -> Result<String> {
     match read(alloc, input) {
-        Ok(_) => Ok(String::from_str(alloc, "none")?),
-        Err(fault) => Ok(format!(in alloc; "{fault:?}")?),
+        Ok(_) => word(alloc, "none"),
+        Err(fault) => debugged(alloc, &fault),
     }
 }
 
@@ -41,28 +42,44 @@ pub(crate) fn fault_of(alloc: Global, input: &[u8]) -> Result<String> {
 pub(crate) fn are_same(alloc: Global, input: &str) -> Result<String> {
     let (first, second) = input.split_once(" | ").context("no two texts")?;
     let are_same = tree(alloc, first)? == tree(alloc, second)?;
-    Ok(format!(in alloc; "{are_same}")?)
+    displayed(alloc, &are_same)
 }
 
 /// The text of a member of an object with a list and a truth value that is built, copied and read again, or `none`; at
 /// `all` its own text. Row: the key.
 pub(crate) fn member_of(alloc: Global, input: &str) -> Result<String> {
     let tree = built(alloc)?;
-    ensure!(tree.clone()? == tree, "a copy differs");
-    let Ok(again) = reread(alloc, &tree) else {
-        bail!("out of memory");
-    };
-    ensure!(again == tree, "it reads back as another");
-    if input == "all" {
-        return text_of(alloc, &tree);
+    member_text(alloc, &tree, input)
+}
+
+fn member_text(alloc: Global, tree: &Tree, key: &str) -> Result<String>
+    requires { depth (json_of tree.now) ≤ max_depth }
+{
+    ensure!(is_copied(tree)?, "a copy differs");
+    ensure!(is_reread(alloc, tree)?, "it reads back as another");
+    if key == "all" {
+        return text_of(alloc, tree);
     }
-    match tree.get(input) {
+    match tree.get(key) {
         Some(member) => text_of(alloc, member),
-        None => Ok(String::from_str(alloc, "none")?),
+        None => word(alloc, "none"),
     }
 }
 
-fn built(alloc: Global) -> Result<Tree>
+fn is_copied(tree: &Tree) -> Result<bool, AllocError> {
+    Ok(tree.clone()? == *tree)
+}
+
+fn is_reread(alloc: Global, tree: &Tree) -> Result<bool>
+    requires { depth (json_of tree.now) ≤ max_depth }
+{
+    match reread(alloc, tree) {
+        Ok(again) => Ok(again == *tree),
+        Err(_) => bail!("out of memory"),
+    }
+}
+
+fn built(alloc: Global) -> Result<Tree, AllocError>
     ensures { IfOk result (λ t. depth (json_of t) ≤ max_depth) }
 {
     let mut items = Items::new(alloc);

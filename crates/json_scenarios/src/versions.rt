@@ -1,6 +1,7 @@
 //! Rows on the order of versions.
 use anyhow::{Context, Result};
-use std::alloc::Global;
+use row_tables::word;
+use std::alloc::{AllocError, Global};
 use version_compare::compare;
 
 /// How two versions compare, in both orders. Row: the versions with a bar between them.
@@ -21,17 +22,24 @@ struct Ranked<'a> {
 /// them, or ` = ` where the rank is the same.
 pub(crate) fn chain_rises(alloc: Global, input: &str) -> Result<String> {
     let chain = chain_of(alloc, input)?;
-    for first in &chain {
-        for second in &chain {
+    match first_unranked(&chain) {
+        Some((first, second)) => Ok(format!(in alloc; "{first} and {second}")?),
+        None => word(alloc, "as ranked"),
+    }
+}
+
+fn first_unranked<'a>(chain: &[Ranked<'a>]) -> Option<(&'a str, &'a str)> {
+    for first in chain {
+        for second in chain {
             if compare(first.version, second.version) != first.rank.cmp(&second.rank) {
-                return Ok(format!(in alloc; "{} and {}", first.version, second.version)?);
+                return Some((first.version, second.version));
             }
         }
     }
-    Ok(String::from_str(alloc, "as ranked")?)
+    None
 }
 
-fn chain_of<'a>(alloc: Global, input: &'a str) -> Result<Vec<Ranked<'a>>> {
+fn chain_of<'a>(alloc: Global, input: &'a str) -> Result<Vec<Ranked<'a>>, AllocError> {
     let mut chain = Vec::new(alloc);
     let mut rank = 0u32;
     for word in input.split(' ') {

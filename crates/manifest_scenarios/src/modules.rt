@@ -1,34 +1,37 @@
 //! Modules that JSON texts are, and the first fault of those that are none.
-use crate::tables::{tree_of, with_strokes};
-use anyhow::Context;
+use crate::tables::{add_names, tree_of, with_strokes};
+use anyhow::{Context, Result};
 use fml_reader::{Module, ModuleFault, ModuleRefusal, read_module};
-use fml_types::{ByName, FeatureDefinition};
+use fml_types::{ByName, FeatureDefinition, Text};
+use row_tables::word;
 use std::alloc::{AllocError, Global};
 
 /// `ok`, the path at which the text's module is refused, or `imports`.
-pub(crate) fn module_verdict(alloc: Global, text: &str) -> anyhow::Result<String> {
-    let tree = tree_of(alloc, text)?;
-    match read_module(alloc, &tree) {
-        Ok(_) => Ok(String::from_str(alloc, "ok")?),
-        Err(ModuleFault::Refused(ModuleRefusal::BadShape(path))) => {
-            let path = path.as_str();
-            Ok(format!(in alloc; "at \"{path}\"")?)
-        }
-        Err(ModuleFault::Refused(ModuleRefusal::ImportsUnbuilt)) => {
-            Ok(String::from_str(alloc, "imports")?)
-        }
-        Err(ModuleFault::OutOfMemory) => Ok(String::from_str(alloc, "OutOfMemory")?),
+pub(crate) fn module_verdict(alloc: Global, text: &str) -> Result<String> {
+    let read = read_module(alloc, &tree_of(alloc, text)?);
+    match read {
+        Ok(_) => word(alloc, "ok"),
+        Err(fault) => fault_text(alloc, &fault),
     }
 }
 
-fn module_of(alloc: Global, text: &str) -> anyhow::Result<Module> {
-    read_module(alloc, &tree_of(alloc, text)?)
-        .ok()
-        .context("no module is read")
+fn fault_text(alloc: Global, fault: &ModuleFault) -> Result<String> {
+    match fault {
+        ModuleFault::Refused(ModuleRefusal::BadShape(path)) => {
+            Ok(format!(in alloc; "at \"{}\"", path.as_str())?)
+        }
+        ModuleFault::Refused(ModuleRefusal::ImportsUnbuilt) => word(alloc, "imports"),
+        ModuleFault::OutOfMemory => word(alloc, "OutOfMemory"),
+    }
+}
+
+fn module_of(alloc: Global, text: &str) -> Result<Module> {
+    let read = read_module(alloc, &tree_of(alloc, text)?);
+    read.ok().context("no module is read")
 }
 
 /// The channels of a default of a feature, each with a stroke before it, or `any`.
-pub(crate) fn channels(alloc: Global, entry: &str) -> anyhow::Result<String> {
+pub(crate) fn channels(alloc: Global, entry: &str) -> Result<String> {
     let text = format!(in alloc; "{{\"features\":{{\"f\":{{\"defaults\":[{entry}]}}}}}}")?;
     let module = module_of(alloc, text.as_str())?;
     let feature = module.features.get("f").context("there is no feature")?;
@@ -47,31 +50,41 @@ fn first_channels(alloc: Global, feature: &FeatureDefinition) -> Result<String, 
 
 /// The names in each part of the module that a text is, each with a stroke before it. A feature that several experiments may
 /// have has a star behind it.
-pub(crate) fn parts(alloc: Global, text: &str) -> anyhow::Result<String> {
+pub(crate) fn parts(alloc: Global, text: &str) -> Result<String> {
     let module = module_of(alloc, text)?;
-    let channels = with_strokes(alloc, module.channels.as_slice())?;
-    let includes = with_strokes(alloc, module.includes.as_slice())?;
-    let enums = names_of(alloc, &module.enums)?;
-    let types_enums = names_of(alloc, &module.types_enums)?;
-    let objects = names_of(alloc, &module.objects)?;
-    let types_objects = names_of(alloc, &module.types_objects)?;
-    let features = features_of(alloc, &module.features)?;
-    Ok(format!(in alloc;
-        "channels{channels} includes{includes} enums{enums} types/enums{types_enums} objects{objects} types/objects{types_objects} features{features}"
-    )?)
+    Ok(parts_text(alloc, &module)?)
 }
 
-fn names_of<T>(alloc: Global, entries: &ByName<T>) -> Result<String, AllocError> {
+fn parts_text(alloc: Global, module: &Module) -> Result<String, AllocError> {
     let mut text = String::new(alloc);
+    add_part(&mut text, "channels", module.channels.as_slice())?;
+    add_part(&mut text, " includes", module.includes.as_slice())?;
+    add_keys(&mut text, " enums", &module.enums)?;
+    add_keys(&mut text, " types/enums", &module.types_enums)?;
+    add_keys(&mut text, " objects", &module.objects)?;
+    add_keys(&mut text, " types/objects", &module.types_objects)?;
+    add_features(&mut text, &module.features)?;
+    Ok(text)
+}
+
+// Adds the name of a part, and the texts that are in it.
+fn add_part(text: &mut String, part: &str, names: &[Text]) -> Result<(), AllocError> {
+    text.push_str(part)?;
+    add_names(text, names)
+}
+
+// Adds the name of a part, and the names of the entries that are in it.
+fn add_keys<T>(text: &mut String, part: &str, entries: &ByName<T>) -> Result<(), AllocError> {
+    text.push_str(part)?;
     for (name, _) in entries.as_slice() {
         text.push_str("|")?;
         text.push_str(name.as_str())?;
     }
-    Ok(text)
+    Ok(())
 }
 
-fn features_of(alloc: Global, features: &ByName<FeatureDefinition>) -> Result<String, AllocError> {
-    let mut text = String::new(alloc);
+fn add_features(text: &mut String, features: &ByName<FeatureDefinition>) -> Result<(), AllocError> {
+    text.push_str(" features")?;
     for (name, feature) in features.as_slice() {
         text.push_str("|")?;
         text.push_str(name.as_str())?;
@@ -79,5 +92,5 @@ fn features_of(alloc: Global, features: &ByName<FeatureDefinition>) -> Result<St
             text.push_str("*")?;
         }
     }
-    Ok(text)
+    Ok(())
 }

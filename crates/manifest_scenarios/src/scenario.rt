@@ -49,6 +49,7 @@ use fml_link::{LinkFault, link};
 use fml_types::{Manifest, without_spaces};
 use host_model::MemShelf;
 use plain_text::read_number;
+use row_tables::{cut, displayed, word};
 use std::alloc::Global;
 
 #[derive(Drop)]
@@ -145,19 +146,10 @@ impl Scenario {
         let (word, rest) = cut(row);
         match word {
             "type" => spelled_type(alloc, rest),
-            "spaces" => {
-                let text = without_spaces(rest.as_bytes());
-                Ok(format!(in alloc; "|{}|", text.escape_ascii())?)
-            }
+            "spaces" => spaces_text(alloc, rest),
             "grounded" => table_verdict(alloc, &self.text),
-            "height" => {
-                let (name, height) = cut(rest);
-                has_height(alloc, &self.text, name, number(height)?)
-            }
-            "weight" => {
-                let (name, weight) = cut(rest);
-                has_weight(alloc, &self.text, name, number(weight)?)
-            }
+            "height" => has_height(alloc, &self.text, rest),
+            "weight" => has_weight(alloc, &self.text, rest),
             "module" if rest.is_empty() => module_verdict(alloc, &self.text),
             "module" => module_verdict(alloc, rest),
             "channels" => channels(alloc, rest),
@@ -167,12 +159,10 @@ impl Scenario {
         }
     }
 
-    // What is found of a row on trees and values of the table.
-    fn find_value(&mut self, alloc: Global, word: &str, rest: &str) -> anyhow::Result<String> {
+    // What is found of a row on trees and values of the table, or else on the manifest that was linked last.
+    fn find_value(&self, alloc: Global, word: &str, rest: &str) -> anyhow::Result<String> {
         match word {
-            "tree" => takes_and_fits(alloc, &table_of(alloc, &self.text)?, rest),
-            "value" => kind_text(alloc, &table_of(alloc, &self.text)?, rest),
-            "lay" => laid_text(alloc, &table_of(alloc, &self.text)?, rest),
+            "tree" | "value" | "lay" => find_by_table(alloc, &self.text, word, rest),
             _ => {
                 let manifest = self.manifest.as_ref().context("nothing is linked")?;
                 find_linked(alloc, manifest, word, rest)
@@ -184,18 +174,30 @@ impl Scenario {
         let (name, channel) = cut(words);
         match link(alloc, &mut self.shelf, name, channel) {
             Ok(manifest) => {
-                let found = if manifest.channel.as_str() == channel {
-                    "ok"
-                } else {
-                    "another channel"
-                };
+                let is_for_it = manifest.channel.as_str() == channel;
                 self.manifest = Some(manifest);
-                Ok(String::from_str(alloc, found)?)
+                word(alloc, if is_for_it { "ok" } else { "another channel" })
             }
             Err(LinkFault::Refused(refusal)) => refusal_text(alloc, &refusal),
-            Err(LinkFault::ShelfFault) => Ok(String::from_str(alloc, "ShelfFault")?),
-            Err(LinkFault::OutOfMemory) => Ok(String::from_str(alloc, "OutOfMemory")?),
+            Err(LinkFault::ShelfFault) => word(alloc, "ShelfFault"),
+            Err(LinkFault::OutOfMemory) => word(alloc, "OutOfMemory"),
         }
+    }
+}
+
+// What stands between the spaces around a text, with a stroke on each side.
+fn spaces_text(alloc: Global, text: &str) -> anyhow::Result<String> {
+    let text = without_spaces(text.as_bytes());
+    Ok(format!(in alloc; "|{}|", text.escape_ascii())?)
+}
+
+// What is found of a row on trees and values of the table of these lines.
+fn find_by_table(alloc: Global, lines: &str, word: &str, rest: &str) -> anyhow::Result<String> {
+    let types = table_of(alloc, lines)?;
+    match word {
+        "tree" => takes_and_fits(alloc, &types, rest),
+        "value" => kind_text(alloc, &types, rest),
+        _ => laid_text(alloc, &types, rest),
     }
 }
 
@@ -203,29 +205,23 @@ impl Scenario {
 fn find_linked(
     alloc: Global,
     manifest: &Manifest,
-    word: &str,
+    kind: &str,
     rest: &str,
 ) -> anyhow::Result<String> {
-    match word {
+    match kind {
         "coenrolling" => linked_names(alloc, manifest),
-        "place" => {
-            let place = manifest.features.place(rest).context("no such feature")?;
-            Ok(format!(in alloc; "{place}")?)
-        }
-        "enum" => Ok(String::from_str(alloc, word_of(manifest.types.enums.get(rest).is_some()))?),
+        "place" => place_text(alloc, manifest, rest),
+        "enum" => word(alloc, word_of(manifest.types.enums.get(rest).is_some())),
         "default" => default_text(alloc, manifest, rest),
-        "laid" => {
-            let (name, patch) = cut(rest);
-            laid_feature(alloc, manifest, name, patch)
-        }
+        "laid" => laid_feature(alloc, manifest, rest),
         "defaults" => default_verdict(alloc, manifest),
-        _ => Ok(String::from_str(alloc, "no such row")?),
+        _ => word(alloc, "no such row"),
     }
 }
 
-/// A text before and behind its first space, or else the whole and an empty one.
-fn cut(text: &str) -> (&str, &str) {
-    text.split_once(' ').unwrap_or((text, ""))
+fn place_text(alloc: Global, manifest: &Manifest, name: &str) -> anyhow::Result<String> {
+    let place = manifest.features.place(name).context("no such feature")?;
+    displayed(alloc, &place)
 }
 
 pub(crate) fn number(text: &str) -> anyhow::Result<u64> {

@@ -6,6 +6,7 @@ use fml_types::{
     TypeTable, Ungrounded, coenrolling_features, grounded, read_type,
 };
 use json_tree::{Tree, read};
+use row_tables::{cut, word};
 use std::alloc::{AllocError, Global};
 
 pub(crate) fn type_of(alloc: Global, text: &str) -> anyhow::Result<FieldType> {
@@ -20,7 +21,7 @@ pub(crate) fn tree_of(alloc: Global, text: &str) -> anyhow::Result<Tree> {
 pub(crate) fn spelled_type(alloc: Global, text: &str) -> anyhow::Result<String> {
     match read_type(alloc, text) {
         Ok(of) => Ok(spelled(alloc, &of)?),
-        Err(_) => Ok(String::from_str(alloc, "no type")?),
+        Err(_) => word(alloc, "no type"),
     }
 }
 
@@ -74,52 +75,72 @@ fn sides(alloc: Global) -> Result<ByName<EnumDefinition>, AllocError> {
     Ok(enums)
 }
 
-// The fields of one object stand one after the other.
 fn objects_of(alloc: Global, rows: &str) -> anyhow::Result<ByName<ObjectDefinition>> {
-    let mut objects = ByName::new(alloc);
-    let mut name = String::new(alloc);
-    let mut fields = ByName::new(alloc);
+    let mut reading = Reading::new(alloc);
     for row in rows.lines() {
-        let (owner, rest) = row.split_once('/').context("no object is named")?;
-        if name.as_str() != owner {
-            add_object(alloc, &mut objects, &name, fields)?;
-            name = String::from_str(alloc, owner)?;
-            fields = ByName::new(alloc);
-        }
-        add_field(alloc, &mut fields, rest)?;
+        reading.read(alloc, row)?;
     }
-    add_object(alloc, &mut objects, &name, fields)?;
-    Ok(objects)
+    reading.close(alloc)?;
+    Ok(reading.objects)
 }
 
-fn add_object(
-    alloc: Global,
-    objects: &mut ByName<ObjectDefinition>,
-    name: &str,
+// Objects as far as they are read. The fields of one object stand one after the other.
+#[derive(Drop)]
+struct Reading {
+    objects: ByName<ObjectDefinition>,
+    // The object whose fields come now, and those that are read. Before the first it has no name.
+    name: String,
     fields: ByName<Field>,
-) -> Result<(), AllocError> {
-    if !name.is_empty() {
-        objects.insert(Text::new(alloc, name)?, ObjectDefinition { fields })?;
+}
+
+impl Reading {
+    fn new(alloc: Global) -> Reading {
+        Reading {
+            objects: ByName::new(alloc),
+            name: String::new(alloc),
+            fields: ByName::new(alloc),
+        }
     }
-    Ok(())
+
+    fn read(&mut self, alloc: Global, row: &str) -> anyhow::Result<()> {
+        let (owner, rest) = row.split_once('/').context("no object is named")?;
+        if self.name.as_str() != owner {
+            self.close(alloc)?;
+            self.name = String::from_str(alloc, owner)?;
+        }
+        add_field(alloc, &mut self.fields, rest)
+    }
+
+    // The object has the fields that are read, and there are none then.
+    fn close(&mut self, alloc: Global) -> Result<(), AllocError> {
+        let fields = std::mem::replace(&mut self.fields, ByName::new(alloc));
+        if self.name.is_empty() {
+            return Ok(());
+        }
+        let name = Text::new(alloc, self.name.as_str())?;
+        self.objects.insert(name, ObjectDefinition { fields })?;
+        Ok(())
+    }
 }
 
 // Adds the field that `FIELD/TYPE/DEFAULT` is.
 fn add_field(alloc: Global, fields: &mut ByName<Field>, row: &str) -> anyhow::Result<()> {
     let (name, rest) = row.split_once('/').context("no field is named")?;
     let (of, default) = rest.split_once('/').context("no type is named")?;
-    let default = if default.is_empty() {
-        None
-    } else {
-        Some(tree_of(alloc, default)?)
-    };
-    let field_type = type_of(alloc, of)?;
     let field = Field {
-        field_type,
-        default,
+        field_type: type_of(alloc, of)?,
+        default: default_of(alloc, default)?,
     };
     fields.insert(Text::new(alloc, name)?, field)?;
     Ok(())
+}
+
+// The default of a text, which is none where nothing stands there.
+fn default_of(alloc: Global, text: &str) -> anyhow::Result<Option<Tree>> {
+    if text.is_empty() {
+        return Ok(None);
+    }
+    Ok(Some(tree_of(alloc, text)?))
 }
 
 /// Adds the objects that `START END FIELD` says.
@@ -127,13 +148,22 @@ pub(crate) fn add_chain(alloc: Global, rows: &mut String, words: &str) -> anyhow
     let (start, rest) = words.split_once(' ').context("a chain has no end")?;
     let (end, field) = rest.split_once(' ').context("a chain has no field")?;
     for place in number(start)?..number(end)? {
-        let next = place.saturating_add(1);
-        let name = format!(in alloc; "o{place}/f/")?;
-        rows.push_str(name.as_str())?;
-        let name = format!(in alloc; "o{next}")?;
-        add_with_name(rows, field, name.as_str())?;
+        add_chained(alloc, rows, place, field)?;
     }
     Ok(())
+}
+
+// Adds the object of this number, whose field names the next one.
+fn add_chained(
+    alloc: Global,
+    rows: &mut String,
+    place: u64,
+    field: &str,
+) -> Result<(), AllocError> {
+    let owner = format!(in alloc; "o{place}/f/")?;
+    rows.push_str(owner.as_str())?;
+    let next = format!(in alloc; "o{}", place.saturating_add(1))?;
+    add_with_name(rows, field, next.as_str())
 }
 
 // Adds a text in which each `*` stands for the name, and a line feed.
@@ -152,17 +182,22 @@ fn add_with_name(rows: &mut String, text: &str, name: &str) -> Result<(), AllocE
 
 /// `ok`, or what the table of these lines is refused for.
 pub(crate) fn table_verdict(alloc: Global, rows: &str) -> anyhow::Result<String> {
-    match grounded(alloc, &table_of(alloc, rows)?) {
-        Ok(()) => Ok(String::from_str(alloc, "ok")?),
-        Err(GroundFault::Refused(Ungrounded::EndlessObject(name))) => {
-            let name = name.as_str();
-            Ok(format!(in alloc; "endless {name}")?)
+    let verdict = grounded(alloc, &table_of(alloc, rows)?);
+    match verdict {
+        Ok(()) => word(alloc, "ok"),
+        Err(fault) => Ok(fault_text(alloc, &fault)?),
+    }
+}
+
+fn fault_text(alloc: Global, fault: &GroundFault) -> Result<String, AllocError> {
+    match fault {
+        GroundFault::Refused(Ungrounded::EndlessObject(name)) => {
+            format!(in alloc; "endless {}", name.as_str())
         }
-        Err(GroundFault::Refused(Ungrounded::ObjectTooLarge(name))) => {
-            let name = name.as_str();
-            Ok(format!(in alloc; "large {name}")?)
+        GroundFault::Refused(Ungrounded::ObjectTooLarge(name)) => {
+            format!(in alloc; "large {}", name.as_str())
         }
-        Err(GroundFault::OutOfMemory) => Ok(String::from_str(alloc, "OutOfMemory")?),
+        GroundFault::OutOfMemory => String::from_str(alloc, "OutOfMemory"),
     }
 }
 
@@ -172,51 +207,56 @@ pub(crate) fn table_verdict(alloc: Global, rows: &str) -> anyhow::Result<String>
 fn yes_where(alloc: Global, rows: &str, wanted: &str) -> anyhow::Result<String> {
     let found = table_verdict(alloc, rows)?;
     if found.as_str() == wanted {
-        return Ok(String::from_str(alloc, "yes")?);
+        return word(alloc, "yes");
     }
     Ok(found)
 }
 
-/// Whether an object has this height, of which 33 stands for each that is too high.
+/// Whether an object has this height, of which 33 stands for each that is too high. Row: the name, and the height.
 ///
 /// A tower stands on such an object, 10, so 11 is one higher, and so on up to 42. The first that is too high, above 32, tells
 /// the height.
-pub(crate) fn has_height(
-    alloc: Global,
-    rows: &str,
-    name: &str,
-    height: u64,
-) -> anyhow::Result<String> {
-    let mut tower = String::new(alloc);
-    for row in rows.lines() {
-        if let Some(("", field)) = row.strip_prefix(name).and_then(|rest| rest.split_once('/')) {
-            let copy = format!(in alloc; "10/{field}\n")?;
-            tower.push_str(copy.as_str())?;
-        }
-    }
-    for place in 10..42u64 {
-        let next = place + 1;
-        let row = format!(in alloc; "{next}/f/{place}/\n")?;
-        tower.push_str(row.as_str())?;
-    }
-    tower.push_str(rows)?;
-    let first = 43u64.saturating_sub(height);
+pub(crate) fn has_height(alloc: Global, rows: &str, words: &str) -> anyhow::Result<String> {
+    let (name, height) = cut(words);
+    let first = 43u64.saturating_sub(number(height)?);
+    let tower = tower_on(alloc, rows, name)?;
     let wanted = format!(in alloc; "endless {first}")?;
     yes_where(alloc, tower.as_str(), wanted.as_str())
 }
 
-/// Whether an object has this weight.
+// The rows of a table, and before them those of a tower on a copy of an object.
+fn tower_on(alloc: Global, rows: &str, name: &str) -> Result<String, AllocError> {
+    let mut tower = String::new(alloc);
+    add_copy(&mut tower, rows, name)?;
+    for place in 10..42u64 {
+        let row = format!(in alloc; "{}/f/{place}/\n", place + 1)?;
+        tower.push_str(row.as_str())?;
+    }
+    tower.push_str(rows)?;
+    Ok(tower)
+}
+
+// Adds the rows of an object as those of the object 10.
+fn add_copy(tower: &mut String, rows: &str, name: &str) -> Result<(), AllocError> {
+    for row in rows.lines() {
+        if let Some(("", field)) = row.strip_prefix(name).and_then(|rest| rest.split_once('/')) {
+            tower.push_str("10/")?;
+            tower.push_str(field)?;
+            tower.push_str("\n")?;
+        }
+    }
+    Ok(())
+}
+
+/// Whether an object has this weight. Row: the name, and the weight.
 ///
 /// Beside it stand 1, which needs it and weighs 16,384 then, and 2, which weighs one more, and that is too much.
-pub(crate) fn has_weight(
-    alloc: Global,
-    rows: &str,
-    name: &str,
-    weight: u64,
-) -> anyhow::Result<String> {
+pub(crate) fn has_weight(alloc: Global, rows: &str, words: &str) -> anyhow::Result<String> {
+    let (name, weight) = cut(words);
+    let length = 16_292u64.saturating_sub(number(weight)?);
     let mut heavy = String::new(alloc);
-    add_named(&mut heavy, "1", 16_292u64.saturating_sub(weight), name)?;
-    add_named(&mut heavy, "2", 16_293u64.saturating_sub(weight), name)?;
+    add_named(&mut heavy, "1", length, name)?;
+    add_named(&mut heavy, "2", length.saturating_add(1), name)?;
     heavy.push_str(rows)?;
     yes_where(alloc, heavy.as_str(), "large 2")
 }
@@ -246,9 +286,15 @@ pub(crate) fn linked_names(alloc: Global, manifest: &Manifest) -> anyhow::Result
 /// The names, each with a stroke before it.
 pub(crate) fn with_strokes(alloc: Global, names: &[Text]) -> Result<String, AllocError> {
     let mut text = String::new(alloc);
+    add_names(&mut text, names)?;
+    Ok(text)
+}
+
+/// Adds the names, each with a stroke before it.
+pub(crate) fn add_names(text: &mut String, names: &[Text]) -> Result<(), AllocError> {
     for name in names {
         text.push_str("|")?;
         text.push_str(name.as_str())?;
     }
-    Ok(text)
+    Ok(())
 }

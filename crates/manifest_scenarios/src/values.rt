@@ -6,6 +6,7 @@ use fml_merge::{DefaultFault, check_defaults, default_of, overlay, overlay_featu
 use fml_types::{FieldType, Manifest, TypeTable};
 use fml_value::{Value, check, fits, takes, to_tree};
 use json_tree::{Tree, write};
+use row_tables::{cut, word};
 use std::alloc::{AllocError, Global};
 
 // The type and the text behind it in a row.
@@ -31,9 +32,18 @@ pub(crate) fn takes_and_fits(
 pub(crate) fn kind_text(alloc: Global, types: &TypeTable, row: &str) -> anyhow::Result<String> {
     let (of, text) = typed_row(alloc, row)?;
     let tree = tree_of(alloc, text)?;
-    match check(alloc, types, &of, &tree)? {
-        Some(value) => Ok(kind_of_copy(alloc, &value, &tree)?),
-        None => Ok(String::from_str(alloc, "none")?),
+    Ok(kind_by(alloc, types, &of, &tree)?)
+}
+
+fn kind_by(
+    alloc: Global,
+    types: &TypeTable,
+    of: &FieldType,
+    tree: &Tree,
+) -> Result<String, AllocError> {
+    match check(alloc, types, of, tree)? {
+        Some(value) => kind_of_copy(alloc, &value, tree),
+        None => String::from_str(alloc, "none"),
     }
 }
 
@@ -74,13 +84,19 @@ fn written(alloc: Global, value: &Value) -> Result<String, AllocError> {
 pub(crate) fn laid_text(alloc: Global, types: &TypeTable, row: &str) -> anyhow::Result<String> {
     let (of, rest) = typed_row(alloc, row)?;
     let (base, patch) = rest.split_once(": ").context("a row has no patch")?;
-    let base = if base == "zero" {
-        zero(alloc, types, &of)?
-    } else {
-        check(alloc, types, &of, &tree_of(alloc, base)?)?.context("no value has the base")?
-    };
-    let value = overlay(alloc, types, &of, base, &tree_of(alloc, patch)?)?;
+    let patch = tree_of(alloc, patch)?;
+    let base = base_of(alloc, types, &of, base)?;
+    let value = overlay(alloc, types, &of, base, &patch)?;
     Ok(written(alloc, &value)?)
+}
+
+// The value of a type whose tree this is, or the type's zero.
+fn base_of(alloc: Global, types: &TypeTable, of: &FieldType, text: &str) -> anyhow::Result<Value> {
+    if text == "zero" {
+        return Ok(zero(alloc, types, of)?);
+    }
+    let value = check(alloc, types, of, &tree_of(alloc, text)?)?;
+    value.context("no value has the base")
 }
 
 /// The tree of a feature's default.
@@ -94,16 +110,16 @@ pub(crate) fn default_text(
     Ok(written(alloc, &value)?)
 }
 
-/// The tree of a feature's default with a patch laid over it.
+/// The tree of a feature's default with a patch laid over it. Row: the name of the feature, and the patch.
 pub(crate) fn laid_feature(
     alloc: Global,
     manifest: &Manifest,
-    name: &str,
-    patch: &str,
+    row: &str,
 ) -> anyhow::Result<String> {
+    let (name, patch) = cut(row);
     let feature = manifest.features.get(name).context("no such feature")?;
-    let value = default_of(alloc, manifest, feature)?;
     let patch = tree_of(alloc, patch)?;
+    let value = default_of(alloc, manifest, feature)?;
     let value = overlay_feature(alloc, manifest, feature, value, &patch)?;
     Ok(written(alloc, &value)?)
 }
@@ -111,12 +127,10 @@ pub(crate) fn laid_feature(
 /// `ok`, or the owner and the place of the first default that doesn't fit.
 pub(crate) fn default_verdict(alloc: Global, manifest: &Manifest) -> anyhow::Result<String> {
     match check_defaults(alloc, manifest) {
-        Ok(()) => Ok(String::from_str(alloc, "ok")?),
+        Ok(()) => word(alloc, "ok"),
         Err(DefaultFault::BadDefault { owner, place }) => {
-            let owner = owner.as_str();
-            let place = place.as_str();
-            Ok(format!(in alloc; "{owner} {place}")?)
+            Ok(format!(in alloc; "{} {}", owner.as_str(), place.as_str())?)
         }
-        Err(DefaultFault::OutOfMemory) => Ok(String::from_str(alloc, "OutOfMemory")?),
+        Err(DefaultFault::OutOfMemory) => word(alloc, "OutOfMemory"),
     }
 }

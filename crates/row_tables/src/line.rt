@@ -1,4 +1,5 @@
 // What a line says.
+use crate::answers::cut;
 use plain_text::read_number;
 
 #[derive(Clone, Copy)]
@@ -51,11 +52,6 @@ fn row<'a>(line: &'a str) -> Line<'a> {
         Some((input, wanted)) => Line::Row(input, wanted),
         None => Line::Other,
     }
-}
-
-// A text before and behind its first space, or else the whole and an empty one.
-fn cut(text: &str) -> (&str, &str) {
-    text.split_once(' ').unwrap_or((text, ""))
 }
 
 fn count(text: &str) -> Option<usize> {

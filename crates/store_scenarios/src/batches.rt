@@ -1,5 +1,5 @@
 //! Batches and rows in words.
-use crate::text::{bytes_of, cut, payload_of};
+use crate::text::{Answer, bytes_of, cut, payload_of};
 use row_batches::{Batch, BatchFault, RowChange, StoreRow, batch_of};
 use sequences::Sequence;
 use std::alloc::{AllocError, Global};
@@ -44,7 +44,7 @@ fn add_change(alloc: Global, batch: &mut Batch, words: &str) -> Result<bool, All
 }
 
 /// Rows as text: each key, `=` and a value, with a space before each but the first.
-pub(crate) fn bytes_of_rows(alloc: Global, rows: &[StoreRow]) -> Result<Vec<u8>, AllocError> {
+pub(crate) fn bytes_of_rows(alloc: Global, rows: &[StoreRow]) -> Answer {
     let mut text = Vec::new(alloc);
     for (place, row) in rows.iter().enumerate() {
         if place > 0 {
@@ -57,9 +57,10 @@ pub(crate) fn bytes_of_rows(alloc: Global, rows: &[StoreRow]) -> Result<Vec<u8>,
     Ok(text)
 }
 
-/// The bytes of the batch that these bytes are.
-pub(crate) fn batch_again(alloc: Global, bytes: &[u8]) -> Result<Vec<u8>, AllocError> {
-    match batch_of(alloc, bytes) {
+/// The bytes of the batch that the bytes of a text are.
+pub(crate) fn batch_again(alloc: Global, text: &str) -> Answer {
+    let bytes = bytes_of(alloc, text)?;
+    match batch_of(alloc, &bytes) {
         Ok(batch) => batch.bytes(alloc),
         Err(BatchFault::NotABatch) => b"NotABatch".to_vec(alloc),
         Err(BatchFault::OutOfMemory) => b"OutOfMemory".to_vec(alloc),

@@ -75,13 +75,25 @@ pub(crate) enum Expectation<'a> {
     Leaves(Images, Images, &'a str),
     Said(&'a str),
     Opens(Side, Alteration, &'a str),
-    State(&'a str),
-    FormerState(&'a str),
-    NoState(&'a str),
+    Rows(Form, &'a str),
+    Damaged(Damage<'a>),
+    Fresh(&'a str, usize),
+}
+
+/// What the changed rows are: a state's, the old form of the state of the rows, or no state's.
+#[derive(Clone, Copy)]
+pub(crate) enum Form {
+    State,
+    Former,
+    NoState,
+}
+
+/// What becomes of the rows' batch: another byte at a place, its first so many bytes, or these bytes behind it.
+#[derive(Clone, Copy)]
+pub(crate) enum Damage<'a> {
     Altered(usize, u8),
     Shortened(usize),
     Lengthened(&'a str),
-    Fresh(&'a str, usize),
 }
 
 /// What becomes of a side, once for each number from the first to the last: it is cut to so many bytes, or this byte stands in
@@ -220,16 +232,20 @@ fn images_of(name: &str) -> Option<Images> {
 fn of_state<'a>(word: &str, rest: &'a str) -> Option<Expectation<'a>> {
     let (first, second) = cut(rest);
     match word {
-        "state" => Some(Expectation::State(rest)),
-        "former" => Some(Expectation::FormerState(rest)),
-        "none" => Some(Expectation::NoState(rest)),
-        "altered" => {
-            let byte = u8::try_from(number(second)?).ok()?;
-            Some(Expectation::Altered(count(first)?, byte))
-        }
-        "shortened" => Some(Expectation::Shortened(count(rest)?)),
-        "lengthened" => Some(Expectation::Lengthened(rest)),
+        "state" => Some(Expectation::Rows(Form::State, rest)),
+        "former" => Some(Expectation::Rows(Form::Former, rest)),
+        "none" => Some(Expectation::Rows(Form::NoState, rest)),
         "fresh" => Some(Expectation::Fresh(first, count(second)?)),
+        _ => Some(Expectation::Damaged(damage_in(word, rest)?)),
+    }
+}
+
+fn damage_in<'a>(word: &str, rest: &'a str) -> Option<Damage<'a>> {
+    let (place, byte) = cut(rest);
+    match word {
+        "altered" => Some(Damage::Altered(count(place)?, u8::try_from(number(byte)?).ok()?)),
+        "shortened" => Some(Damage::Shortened(count(rest)?)),
+        "lengthened" => Some(Damage::Lengthened(rest)),
         _ => None,
     }
 }

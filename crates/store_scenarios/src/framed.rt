@@ -1,6 +1,6 @@
 //! Calls with a payload on journals and pairs.
 use crate::hosts::{ScenarioHost, number_text};
-use crate::text::payload_of;
+use crate::text::{Answer, payload_of};
 use gate_journal::{AppendFault, Frame, FrameFault, Journal};
 use pair_store::{MAX_WHOLE, PairStore};
 use std::alloc::{AllocError, Global};
@@ -17,7 +17,7 @@ impl Reply {
         Reply::Word(if is_done { "Ok" } else { "Failed" })
     }
 
-    pub(crate) fn text(self, alloc: Global) -> Result<Vec<u8>, AllocError> {
+    pub(crate) fn text(self, alloc: Global) -> Answer {
         match self {
             Reply::Word(word) => word.as_bytes().to_vec(alloc),
             Reply::Number(number) => number_text(alloc, number),
@@ -79,13 +79,8 @@ pub(crate) fn on_pair(
                 Reply::of(pair.checkpoint(host, frame).is_ok())
             }
         }
-        PairFramed::Wants => {
-            if pair.wants_checkpoint(frame) {
-                Reply::Word("yes")
-            } else {
-                Reply::Word("no")
-            }
-        }
+        PairFramed::Wants if pair.wants_checkpoint(frame) => Reply::Word("yes"),
+        PairFramed::Wants => Reply::Word("no"),
     }
 }
 

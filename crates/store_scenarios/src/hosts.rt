@@ -1,7 +1,7 @@
 //! The host of a scenario, and calls on it, on sources and on shelves.
 ghost use Rattle.std.specs.Prelude.{[], ◌^◌, ◌-◌};
 
-use crate::text::{bytes_of, count, cut, number, side};
+use crate::text::{Answer, bytes_of, count, cut, number, side};
 use host_model::{Choice, DiskFailed, Host, MemHost, SayFailed, Side};
 use std::alloc::{AllocError, Global};
 
@@ -48,12 +48,7 @@ impl ScenarioHost {
     }
 
     /// What a crash may leave on a side.
-    pub(crate) fn image(
-        &self,
-        alloc: Global,
-        side: Side,
-        choice: Choice,
-    ) -> Result<Vec<u8>, AllocError> {
+    pub(crate) fn image(&self, alloc: Global, side: Side, choice: Choice) -> Answer {
         self.memory.image(alloc, side, choice)
     }
 
@@ -159,11 +154,7 @@ impl<'a> HostCall<'a> {
     }
 
     /// Makes the call, and gives its answer.
-    pub(crate) fn answer(
-        self,
-        alloc: Global,
-        host: &mut ScenarioHost,
-    ) -> Result<Vec<u8>, AllocError> {
+    pub(crate) fn answer(self, alloc: Global, host: &mut ScenarioHost) -> Answer {
         match self {
             HostCall::Length(side) => match host.len(side) {
                 Ok(length) => number_text(alloc, length),
@@ -188,7 +179,7 @@ impl<'a> HostCall<'a> {
 }
 
 /// Whether a call answers `Ok`.
-pub(crate) fn done_text(alloc: Global, is_done: bool) -> Result<Vec<u8>, AllocError> {
+pub(crate) fn done_text(alloc: Global, is_done: bool) -> Answer {
     if is_done {
         b"Ok".to_vec(alloc)
     } else {
@@ -197,11 +188,7 @@ pub(crate) fn done_text(alloc: Global, is_done: bool) -> Result<Vec<u8>, AllocEr
 }
 
 /// How many bytes a read has placed, and the whole piece.
-pub(crate) fn read_text(
-    alloc: Global,
-    placed: Option<usize>,
-    piece: &[u8],
-) -> Result<Vec<u8>, AllocError> {
+pub(crate) fn read_text(alloc: Global, placed: Option<usize>, piece: &[u8]) -> Answer {
     let mut text = match placed {
         Some(count) => number_text(alloc, count as u64)?,
         None => b"Failed".to_vec(alloc)?,
@@ -212,6 +199,6 @@ pub(crate) fn read_text(
 }
 
 /// A number in decimal digits.
-pub(crate) fn number_text(alloc: Global, number: u64) -> Result<Vec<u8>, AllocError> {
+pub(crate) fn number_text(alloc: Global, number: u64) -> Answer {
     Ok(format!(in alloc; "{number}")?.into_bytes())
 }

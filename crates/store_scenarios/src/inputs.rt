@@ -1,6 +1,6 @@
 //! Calls on sources and on shelves.
 use crate::hosts::{done_text, read_text};
-use crate::text::{bytes_of, count, cut, number};
+use crate::text::{Answer, bytes_of, count, cut, number};
 use host_model::{MemShelf, MemSource, Shelf, ShelfAnswer, Source};
 use std::alloc::{AllocError, Global};
 
@@ -47,11 +47,7 @@ impl Inputs {
     }
 
     /// Makes the call, and gives its answer.
-    pub(crate) fn answer(
-        &mut self,
-        alloc: Global,
-        call: InputCall<'_>,
-    ) -> Result<Vec<u8>, AllocError> {
+    pub(crate) fn answer(&mut self, alloc: Global, call: InputCall<'_>) -> Answer {
         match call {
             InputCall::Source(piece, failing, bytes) => {
                 let bytes = bytes_of(alloc, bytes)?;
@@ -77,7 +73,7 @@ impl Inputs {
     }
 }
 
-fn taken(alloc: Global, answer: ShelfAnswer) -> Result<Vec<u8>, AllocError> {
+fn taken(alloc: Global, answer: ShelfAnswer) -> Answer {
     match answer {
         ShelfAnswer::Bytes(file) => file.as_slice().to_vec(alloc),
         ShelfAnswer::Absent => b"Absent".to_vec(alloc),

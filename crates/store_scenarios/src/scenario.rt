@@ -1,6 +1,6 @@
 //! A scenario as far as it is done.
 use crate::batches::batch_again;
-use crate::directive::{Alteration, Directive, Expectation, Images};
+use crate::directive::{Alteration, Damage, Directive, Expectation, Form, Images};
 use crate::hosts::ScenarioHost;
 use crate::inputs::Inputs;
 use crate::states::{change, changed, fresh, made, migrated, spelled, spelling};
@@ -13,6 +13,9 @@ use std::alloc::{AllocError, Global};
 const ROOM: usize = 4096;
 
 const CHOICES: [Choice; 3] = [Choice::Old, Choice::New, Choice::Torn];
+
+/// What is found, where it isn't what is wanted.
+pub(crate) type Difference = Result<Option<Vec<u8>>, AllocError>;
 
 #[derive(Drop)]
 pub(crate) struct Scenario {
@@ -59,11 +62,7 @@ impl Scenario {
     }
 
     /// Does what a line says, and gives what is found where something else is wanted.
-    pub(crate) fn does(
-        &mut self,
-        alloc: Global,
-        directive: Directive<'_>,
-    ) -> Result<Option<Vec<u8>>, AllocError> {
+    pub(crate) fn does(&mut self, alloc: Global, directive: Directive<'_>) -> Difference {
         match directive {
             Directive::Nothing => {}
             Directive::Begin(name) => self.begin(alloc, name)?,
@@ -75,18 +74,9 @@ impl Scenario {
             Directive::Stop(number, call) => self.stop(alloc, number, call)?,
             Directive::Call(call) => self.call(alloc, call)?,
             Directive::Input(call) => self.answer = self.inputs.answer(alloc, call)?,
-            Directive::Batch(bytes) => {
-                let bytes = bytes_of(alloc, bytes)?;
-                self.answer = batch_again(alloc, &bytes)?;
-            }
-            Directive::Change(changes) => {
-                let others = changed(alloc, &self.rows, changes)?;
-                self.answer = change(alloc, &self.rows, &others)?;
-            }
-            Directive::Migration(changes) => {
-                let lines = changed(alloc, &self.rows, changes)?;
-                self.answer = migrated(alloc, &lines)?;
-            }
+            Directive::Batch(bytes) => self.answer = batch_again(alloc, bytes)?,
+            Directive::Change(changes) => self.answer = change(alloc, &self.rows, changes)?,
+            Directive::Migration(changes) => self.answer = migrated(alloc, &self.rows, changes)?,
             Directive::Row(line) => self.rows.push(String::from_str(alloc, line)?)?,
             Directive::NoRows => self.rows.truncate(0),
             Directive::Expect(wanted) => return self.judge(alloc, wanted),
@@ -170,71 +160,55 @@ impl Scenario {
     }
 
     // What is found where it isn't what is wanted.
-    fn judge(
-        &mut self,
-        alloc: Global,
-        wanted: Expectation<'_>,
-    ) -> Result<Option<Vec<u8>>, AllocError> {
-        let found = match wanted {
-            Expectation::Gives(answer) => differs(alloc, &self.answer, answer)?,
-            Expectation::Wrote(count) => other_number(alloc, self.last_host().writes().0, count)?,
-            Expectation::Ends(place) => other_number(alloc, self.last_host().writes().1, place)?,
-            Expectation::Image(choice, side, bytes) => {
-                let image = self.last_host().image(alloc, side, choice)?;
-                differs(alloc, &image, bytes)?
-            }
-            Expectation::Leaves(left, right, answer) => self.judge_images(
-                alloc, left, right, answer,
-            )?,
-            Expectation::Said(text) => differs(alloc, self.last_host().said(), text)?,
-            Expectation::Opens(side, alteration, answer) => self.judge_altered(
-                alloc, side, alteration, answer,
-            )?,
-            Expectation::State(changes) => {
-                let lines = changed(alloc, &self.rows, changes)?;
-                judge_rows(alloc, &lines, &lines, "state")?
-            }
-            Expectation::FormerState(changes) => {
-                let lines = changed(alloc, &self.rows, changes)?;
-                judge_rows(alloc, &lines, &self.rows, "state")?
-            }
-            Expectation::NoState(changes) => {
-                let lines = changed(alloc, &self.rows, changes)?;
-                judge_rows(alloc, &lines, &lines, "NotAState")?
-            }
-            Expectation::Altered(place, byte) => {
-                let mut bytes = spelling(alloc, &self.rows)?;
-                if let Some(there) = bytes.get_mut(place) {
-                    *there = byte;
-                }
-                no_state(alloc, &bytes)?
-            }
-            Expectation::Shortened(count) => {
-                let mut bytes = spelling(alloc, &self.rows)?;
-                bytes.truncate(count);
-                no_state(alloc, &bytes)?
-            }
-            Expectation::Lengthened(more) => {
-                let mut bytes = spelling(alloc, &self.rows)?;
-                bytes.extend_from_slice(&bytes_of(alloc, more)?)?;
-                no_state(alloc, &bytes)?
-            }
-            Expectation::Fresh(id, count) => self.judge_fresh(alloc, id, count)?,
-        };
+    fn judge(&mut self, alloc: Global, wanted: Expectation<'_>) -> Difference {
+        let found = self.difference(alloc, wanted)?;
         if found.is_some() {
             self.passes = false;
         }
         Ok(found)
     }
 
+    fn difference(&self, alloc: Global, wanted: Expectation<'_>) -> Difference {
+        match wanted {
+            Expectation::Gives(answer) => differs(alloc, &self.answer, answer),
+            Expectation::Wrote(count) => other_number(alloc, self.last_host().writes().0, count),
+            Expectation::Ends(place) => other_number(alloc, self.last_host().writes().1, place),
+            Expectation::Image(choice, side, bytes) => {
+                let image = self.last_host().image(alloc, side, choice)?;
+                differs(alloc, &image, bytes)
+            }
+            Expectation::Leaves(left, right, answer) => {
+                self.judge_images(alloc, left, right, answer)
+            }
+            Expectation::Said(text) => differs(alloc, self.last_host().said(), text),
+            Expectation::Opens(side, alteration, answer) => {
+                self.judge_altered(alloc, side, alteration, answer)
+            }
+            Expectation::Rows(form, changes) => self.judge_changed(alloc, form, changes),
+            Expectation::Damaged(damage) => {
+                let bytes = damaged(alloc, spelling(alloc, &self.rows)?, damage)?;
+                differs(
+                    alloc,
+                    spelled(alloc, &bytes, &bytes)?.as_bytes(),
+                    "NotAState",
+                )
+            }
+            Expectation::Fresh(id, count) => self.judge_fresh(alloc, id, count),
+        }
+    }
+
+    // What the changed rows are.
+    fn judge_changed(&self, alloc: Global, form: Form, changes: &str) -> Difference {
+        let lines = changed(alloc, &self.rows, changes)?;
+        match form {
+            Form::State => judge_rows(alloc, &lines, &lines, "state"),
+            Form::Former => judge_rows(alloc, &lines, &self.rows, "state"),
+            Form::NoState => judge_rows(alloc, &lines, &lines, "NotAState"),
+        }
+    }
+
     // Opens each pair of images, and gives the first other answer.
-    fn judge_images(
-        &self,
-        alloc: Global,
-        left: Images,
-        right: Images,
-        wanted: &str,
-    ) -> Result<Option<Vec<u8>>, AllocError> {
+    fn judge_images(&self, alloc: Global, left: Images, right: Images, wanted: &str) -> Difference {
         for of_left in CHOICES {
             for of_right in CHOICES {
                 if left.has(of_left) && right.has(of_right) {
@@ -262,7 +236,7 @@ impl Scenario {
         side: Side,
         alteration: Alteration,
         wanted: &str,
-    ) -> Result<Option<Vec<u8>>, AllocError> {
+    ) -> Difference {
         let (first, last) = alteration.range();
         for number in first..=last {
             let mut left = self.last_host().image(alloc, Side::Left, Choice::New)?;
@@ -281,12 +255,7 @@ impl Scenario {
         Ok(None)
     }
 
-    fn judge_fresh(
-        &self,
-        alloc: Global,
-        id: &str,
-        count: usize,
-    ) -> Result<Option<Vec<u8>>, AllocError> {
+    fn judge_fresh(&self, alloc: Global, id: &str, count: usize) -> Difference {
         let bytes = spelling(alloc, &self.rows)?;
         let found = fresh(alloc, id)?;
         if found == bytes && found.len() == count {
@@ -311,7 +280,7 @@ fn copy_of(
 }
 
 // What is found, where it isn't what the text spells.
-fn differs(alloc: Global, found: &[u8], wanted: &str) -> Result<Option<Vec<u8>>, AllocError> {
+fn differs(alloc: Global, found: &[u8], wanted: &str) -> Difference {
     let wanted = bytes_of(alloc, wanted)?;
     if found == wanted.as_slice() {
         Ok(None)
@@ -320,7 +289,7 @@ fn differs(alloc: Global, found: &[u8], wanted: &str) -> Result<Option<Vec<u8>>,
     }
 }
 
-fn other_number(alloc: Global, found: u64, wanted: u64) -> Result<Option<Vec<u8>>, AllocError> {
+fn other_number(alloc: Global, found: u64, wanted: u64) -> Difference {
     if found == wanted {
         Ok(None)
     } else {
@@ -328,18 +297,21 @@ fn other_number(alloc: Global, found: u64, wanted: u64) -> Result<Option<Vec<u8>
     }
 }
 
-// What bytes are, where they are a state's.
-fn no_state(alloc: Global, bytes: &[u8]) -> Result<Option<Vec<u8>>, AllocError> {
-    differs(alloc, spelled(alloc, bytes, bytes)?.as_bytes(), "NotAState")
+// The bytes of a batch to which this was done.
+fn damaged(alloc: Global, bytes: Vec<u8>, damage: Damage<'_>) -> Result<Vec<u8>, AllocError> {
+    let mut bytes = bytes;
+    match damage {
+        Damage::Altered(place, byte) => Alteration::Byte(place, place, byte).alter(
+            &mut bytes, place,
+        ),
+        Damage::Shortened(count) => bytes.truncate(count),
+        Damage::Lengthened(more) => bytes.extend_from_slice(&bytes_of(alloc, more)?)?,
+    }
+    Ok(bytes)
 }
 
 // Reads the rows of lines through their batch and by themselves: a state that they make has the other rows.
-fn judge_rows(
-    alloc: Global,
-    lines: &[String],
-    rows: &[String],
-    wanted: &str,
-) -> Result<Option<Vec<u8>>, AllocError> {
+fn judge_rows(alloc: Global, lines: &[String], rows: &[String], wanted: &str) -> Difference {
     let bytes = spelling(alloc, lines)?;
     let found = spelled(alloc, &bytes, &spelling(alloc, rows)?)?;
     if found != wanted {

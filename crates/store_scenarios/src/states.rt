@@ -2,7 +2,7 @@
 ghost use Rattle.std.specs.Prelude.{IfOk, IfSome};
 ghost use Rattle.state_codec.specs.Sound.{IsSound};
 
-use crate::text::bytes_of;
+use crate::text::{Answer, bytes_of};
 use enrol_states::State;
 use sequences::Sequence;
 use state_codec::{
@@ -132,7 +132,7 @@ pub(crate) fn made(
     lines: &[String],
     rows: &[String],
 ) -> Result<&'static str, AllocError> {
-    let Some(state) = state_in(alloc, &rows_in(alloc, lines)?)? else {
+    let Some(state) = state_of_lines(alloc, lines)? else {
         return Ok("NotAState");
     };
     let again = rows_of(alloc, &state)?;
@@ -143,24 +143,31 @@ pub(crate) fn made(
     }
 }
 
-/// The bytes of the batch from the state of these lines to that of the others, where they are states.
-pub(crate) fn change(
-    alloc: Global,
-    lines: &[String],
-    others: &[String],
-) -> Result<Vec<u8>, AllocError> {
-    let Some(old) = state_in(alloc, &rows_in(alloc, lines)?)? else {
+// The state that has the rows of lines, if there is one.
+fn state_of_lines(alloc: Global, lines: &[String]) -> Result<Option<State>, AllocError>
+    ensures { IfOk result (λ found. IfSome found IsSound) }
+{
+    let rows = rows_in(alloc, lines)?;
+    state_in(alloc, &rows)
+}
+
+/// The bytes of the batch from the state of these lines to that of the changed ones, where they are states.
+pub(crate) fn change(alloc: Global, lines: &[String], changes: &str) -> Answer {
+    let others = changed(alloc, lines, changes)?;
+    let Some(old) = state_of_lines(alloc, lines)? else {
         return b"NotAState".to_vec(alloc);
     };
-    let Some(new) = state_in(alloc, &rows_in(alloc, others)?)? else {
+    let Some(new) = state_of_lines(alloc, &others)? else {
         return b"NotAState".to_vec(alloc);
     };
     change_between(alloc, &old, &new)?.bytes(alloc)
 }
 
-/// The bytes of the batch that gives the rows of lines their present form: `none`, where they have it, or `NotAState`.
-pub(crate) fn migrated(alloc: Global, lines: &[String]) -> Result<Vec<u8>, AllocError> {
-    let rows = rows_in(alloc, lines)?;
+/// The bytes of the batch that gives the changed rows of lines their present form: `none`, where they have it, or
+/// `NotAState`.
+pub(crate) fn migrated(alloc: Global, lines: &[String], changes: &str) -> Answer {
+    let lines = changed(alloc, lines, changes)?;
+    let rows = rows_in(alloc, &lines)?;
     match state_in(alloc, &rows)? {
         Some(state) if needs_migration(&rows) => migration(alloc, &state)?.bytes(alloc),
         Some(_) => b"none".to_vec(alloc),

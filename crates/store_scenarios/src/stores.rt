@@ -8,7 +8,7 @@ ghost use Rattle.row_store.specs.Ready.{IsReadyFor};
 use crate::batches::{bytes_of_rows, read_batch};
 use crate::framed::{JournalFramed, PairFramed, frame_of, on_journal, on_pair};
 use crate::hosts::{HostCall, ScenarioHost, done_text, number_text};
-use crate::text::{bytes_of, cut, number, side};
+use crate::text::{Answer, bytes_of, cut, number, side};
 use gate_journal::{Frame, Journal, MAX_PAYLOAD};
 use host_model::Side;
 use pair_store::{MAX_WHOLE, PairStore};
@@ -148,7 +148,7 @@ impl Stores {
         alloc: Global,
         host: &mut ScenarioHost,
         call: Call<'_>,
-    ) -> Result<Vec<u8>, AllocError> {
+    ) -> Answer {
         match call {
             Call::Host(call) => call.answer(alloc, host),
             Call::JournalMake(side, generation, first) => {
@@ -172,12 +172,7 @@ impl Stores {
     }
 
     /// Opens what stands on the sides, and gives the answer.
-    pub(crate) fn open(
-        &mut self,
-        alloc: Global,
-        host: &mut ScenarioHost,
-        layer: Layer,
-    ) -> Result<Vec<u8>, AllocError> {
+    pub(crate) fn open(&mut self, alloc: Global, host: &mut ScenarioHost, layer: Layer) -> Answer {
         match layer {
             Layer::Journal => self.open_journal(alloc, host, Side::Left),
             Layer::Pair => self.open_pair(alloc, host),
@@ -193,7 +188,7 @@ impl Stores {
         side: Side,
         generation: u8,
         first: &str,
-    ) -> Result<Vec<u8>, AllocError> {
+    ) -> Answer {
         let Some(first) = frame_of(alloc, first)? else {
             return b"TooLong".to_vec(alloc);
         };
@@ -204,12 +199,7 @@ impl Stores {
         done_text(alloc, self.journal.is_some())
     }
 
-    fn open_journal(
-        &mut self,
-        alloc: Global,
-        host: &mut ScenarioHost,
-        side: Side,
-    ) -> Result<Vec<u8>, AllocError> {
+    fn open_journal(&mut self, alloc: Global, host: &mut ScenarioHost, side: Side) -> Answer {
         match Journal::open(alloc, host, side) {
             Ok((journal, payloads)) => {
                 let mut text = number_text(alloc, u64::from(journal.generation()))?;
@@ -227,7 +217,7 @@ impl Stores {
         host: &mut ScenarioHost,
         call: JournalFramed,
         payload: &str,
-    ) -> Result<Vec<u8>, AllocError> {
+    ) -> Answer {
         match (&mut self.journal, frame_of(alloc, payload)?) {
             (Some(journal), Some(frame)) => on_journal(host, journal, call, &frame).text(alloc),
             (None, _) => b"no journal".to_vec(alloc),
@@ -235,19 +225,14 @@ impl Stores {
         }
     }
 
-    fn generation(&self, alloc: Global) -> Result<Vec<u8>, AllocError> {
+    fn generation(&self, alloc: Global) -> Answer {
         match &self.journal {
             Some(journal) => number_text(alloc, u64::from(journal.generation())),
             None => b"no journal".to_vec(alloc),
         }
     }
 
-    fn make_pair(
-        &mut self,
-        alloc: Global,
-        host: &mut ScenarioHost,
-        first: &str,
-    ) -> Result<Vec<u8>, AllocError> {
+    fn make_pair(&mut self, alloc: Global, host: &mut ScenarioHost, first: &str) -> Answer {
         let Some(first) = frame_of(alloc, first)? else {
             return b"TooLong".to_vec(alloc);
         };
@@ -258,7 +243,7 @@ impl Stores {
         done_text(alloc, self.pair.is_some())
     }
 
-    fn open_pair(&mut self, alloc: Global, host: &mut ScenarioHost) -> Result<Vec<u8>, AllocError> {
+    fn open_pair(&mut self, alloc: Global, host: &mut ScenarioHost) -> Answer {
         match PairStore::open(alloc, host) {
             Ok((pair, payloads)) => {
                 self.pair = Some(pair);
@@ -276,7 +261,7 @@ impl Stores {
         host: &mut ScenarioHost,
         call: PairFramed,
         payload: &str,
-    ) -> Result<Vec<u8>, AllocError> {
+    ) -> Answer {
         match (&mut self.pair, frame_of(alloc, payload)?) {
             (Some(pair), Some(frame)) => on_pair(host, pair, call, &frame).text(alloc),
             (None, _) => b"no pair".to_vec(alloc),
@@ -284,7 +269,7 @@ impl Stores {
         }
     }
 
-    fn open_rows(&mut self, alloc: Global, host: &mut ScenarioHost) -> Result<Vec<u8>, AllocError> {
+    fn open_rows(&mut self, alloc: Global, host: &mut ScenarioHost) -> Answer {
         match RowStore::open(alloc, host) {
             Ok(rows) => {
                 self.rows = Some(rows);
@@ -295,11 +280,7 @@ impl Stores {
     }
 
     // Opens the rows, and tells whether they are a state's.
-    fn open_state(
-        &mut self,
-        alloc: Global,
-        host: &mut ScenarioHost,
-    ) -> Result<Vec<u8>, AllocError> {
+    fn open_state(&mut self, alloc: Global, host: &mut ScenarioHost) -> Answer {
         match RowStore::open(alloc, host) {
             Ok(rows) => {
                 let answer = match state_of(alloc, rows.rows()) {
@@ -314,14 +295,14 @@ impl Stores {
         }
     }
 
-    fn all_rows(&self, alloc: Global) -> Result<Vec<u8>, AllocError> {
+    fn all_rows(&self, alloc: Global) -> Answer {
         match &self.rows {
             Some(rows) => bytes_of_rows(alloc, rows.rows()),
             None => b"no rows".to_vec(alloc),
         }
     }
 
-    fn get(&self, alloc: Global, key: &str) -> Result<Vec<u8>, AllocError> {
+    fn get(&self, alloc: Global, key: &str) -> Answer {
         let key = bytes_of(alloc, key)?;
         match &self.rows {
             Some(rows) => match rows.get(&key) {
@@ -333,7 +314,7 @@ impl Stores {
     }
 
     // Makes a batch ready, and lets it go.
-    fn prepare(&mut self, alloc: Global, changes: &str) -> Result<Vec<u8>, AllocError> {
+    fn prepare(&mut self, alloc: Global, changes: &str) -> Answer {
         let Some(rows) = &mut self.rows else {
             return b"no rows".to_vec(alloc);
         };
@@ -344,12 +325,7 @@ impl Stores {
     }
 
     // Makes a batch ready, and commits it.
-    fn commit(
-        &mut self,
-        alloc: Global,
-        host: &mut ScenarioHost,
-        changes: &str,
-    ) -> Result<Vec<u8>, AllocError> {
+    fn commit(&mut self, alloc: Global, host: &mut ScenarioHost, changes: &str) -> Answer {
         let Some(rows) = &mut self.rows else {
             return b"no rows".to_vec(alloc);
         };
@@ -378,7 +354,7 @@ impl From<AllocError> for Unready {
 }
 
 impl Unready {
-    fn text(self, alloc: Global) -> Result<Vec<u8>, AllocError> {
+    fn text(self, alloc: Global) -> Answer {
         match self {
             Unready::NoBatch => b"no batch".to_vec(alloc),
             Unready::TooLong => b"TooLong".to_vec(alloc),
@@ -405,7 +381,7 @@ fn ready_in(alloc: Global, rows: &mut RowStore, changes: &str) -> Result<Ready, 
 }
 
 // Makes a row store of the puts behind a clear.
-fn make_rows(alloc: Global, host: &mut ScenarioHost, changes: &str) -> Result<Vec<u8>, AllocError> {
+fn make_rows(alloc: Global, host: &mut ScenarioHost, changes: &str) -> Answer {
     let Some(whole) = read_batch(alloc, changes)? else {
         return b"no batch".to_vec(alloc);
     };

@@ -1,12 +1,11 @@
 //! Words, numbers and bytes of a line.
 use host_model::Side;
 use plain_text::read_number;
+pub(crate) use row_tables::cut;
 use std::alloc::{AllocError, Global};
 
-/// A text before and behind its first space, or else the whole and an empty one.
-pub(crate) fn cut(text: &str) -> (&str, &str) {
-    text.split_once(' ').unwrap_or((text, ""))
-}
+/// The text of an answer, in bytes.
+pub(crate) type Answer = Result<Vec<u8>, AllocError>;
 
 /// The number that a word spells.
 pub(crate) fn number(word: &str) -> Option<u64> {

@@ -1,9 +1,9 @@
 //! Rows on contexts of JSON texts, and on the attributes of a client.
-ghost use Rattle.std.specs.Prelude.{IsTrue, IfOk};
+ghost use Rattle.std.specs.Prelude.{IsTrue, ◌≤◌};
 ghost use Rattle.enrol_states.specs.Order.{Rise};
-ghost use Rattle.enrol_states.specs.State.{slugs_of};
+ghost use Rattle.enrol_states.specs.State.{last_moment, slugs_of};
 
-use crate::json_texts::{halves, json_text};
+use crate::json_texts::json_text;
 use anyhow::{Context as _, Result, bail, ensure};
 use app_context::{
     Context, ContextFault, ContextKey, NamedTexts, attributes, read_context, set_already_enrolled,
@@ -14,25 +14,30 @@ use enrol_states::{
     Status,
 };
 use jexl_value::{Attributes, Value};
-use json_tree::read;
+use json_tree::{Tree, read};
 use plain_text::{Slug, read_number, slug_of};
+use row_tables::{displayed, halves, word};
 use sequences::{SharedList, Text};
-use std::alloc::Global;
+use std::alloc::{AllocError, Global};
 use uuid::Uuid;
 
 const INSTALLED: u64 = 1_700_000_000;
 
+fn tree(alloc: Global, text: &str) -> Result<Tree> {
+    read(alloc, text.as_bytes()).ok().context("no JSON")
+}
+
 fn context(alloc: Global, text: &str) -> Result<Context> {
-    let tree = read(alloc, text.as_bytes()).ok().context("no JSON")?;
-    read_context(alloc, &tree).ok().context("no context")
+    let read = read_context(alloc, &tree(alloc, text)?);
+    read.ok().context("no context")
 }
 
 /// The first key that keeps a tree from being a context, or `none`. Row: a JSON text.
 pub(crate) fn refused_key(alloc: Global, input: &str) -> Result<String> {
-    let tree = read(alloc, input.as_bytes()).ok().context("no JSON")?;
-    match read_context(alloc, &tree) {
-        Ok(_) => Ok(String::from_str(alloc, "none")?),
-        Err(ContextFault::BadContext(key)) => Ok(String::from_str(alloc, key.name())?),
+    let read = read_context(alloc, &tree(alloc, input)?);
+    match read {
+        Ok(_) => word(alloc, "none"),
+        Err(ContextFault::BadContext(key)) => word(alloc, key.name()),
         Err(ContextFault::OutOfMemory) => bail!("out of memory"),
     }
 }
@@ -40,11 +45,15 @@ pub(crate) fn refused_key(alloc: Global, input: &str) -> Result<String> {
 /// The text that a context, or its copy, has under a key, or the unit of this name, in quotes, or `none`; and the
 /// numbers of its units and custom attributes at `units` and `custom`. Row: the key.
 pub(crate) fn text_of(alloc: Global, given: &str, input: &str) -> Result<String> {
-    let context = context(alloc, given)?.clone()?;
+    let context = copied(&context(alloc, given)?)?;
     match count_of(&context, input) {
-        Some(count) => number(alloc, count),
+        Some(count) => displayed(alloc, &count),
         None => quoted(alloc, text_at(&context, input)),
     }
+}
+
+fn copied(context: &Context) -> Result<Context> {
+    Ok(context.clone()?)
 }
 
 // How many texts, units or custom attributes the context has, where the key asks for these.
@@ -75,7 +84,7 @@ fn text_at<'a>(context: &'a Context, key: &str) -> Option<&'a Text> {
 fn quoted(alloc: Global, text: Option<&Text>) -> Result<String> {
     match text {
         Some(text) => Ok(format!(in alloc; "'{}'", text.as_str())?),
-        None => Ok(String::from_str(alloc, "none")?),
+        None => word(alloc, "none"),
     }
 }
 
@@ -84,14 +93,14 @@ fn quoted(alloc: Global, text: Option<&Text>) -> Result<String> {
 pub(crate) fn text_under(alloc: Global, input: &str) -> Result<String> {
     let (pair, wanted) = halves(input)?;
     let (name, text) = pair.split_once(' ').context("no name and text")?;
-    let mut named = NamedTexts::new(alloc);
-    named.push(Text::new(alloc, name)?, Text::new(alloc, text)?)?;
-    let copy = named.clone()?;
+    let copy = copy_of_one(alloc, name, text)?;
     quoted(alloc, copy.get(wanted))
 }
 
-fn number(alloc: Global, number: usize) -> Result<String> {
-    Ok(format!(in alloc; "{number}")?)
+fn copy_of_one(alloc: Global, name: &str, text: &str) -> Result<NamedTexts, AllocError> {
+    let mut named = NamedTexts::new(alloc);
+    named.push(Text::new(alloc, name)?, Text::new(alloc, text)?)?;
+    named.clone()
 }
 
 fn slug(alloc: Global, text: &str) -> Result<Slug> {
@@ -108,26 +117,61 @@ pub(crate) fn attributes_of(alloc: Global, given: &str, input: &str) -> Result<S
     let (client, rest) = halves(input)?;
     let (about, later) = halves(rest)?;
     let now = moment(later)?;
-    let (context, recipe) = (context(alloc, given)?, slug(alloc, about)?);
+    let context = context(alloc, given)?;
+    at_moment(alloc, &context, client, about, now)
+}
+
+fn at_moment(
+    alloc: Global,
+    context: &Context,
+    client: &str,
+    about: &str,
+    now: u64,
+) -> Result<String> {
     let state = client_of(alloc, client)?;
+    let recipe = slug(alloc, about)?;
     ensure!(
         now <= LAST_MOMENT && rise(state.rows.as_slice()),
         "no moment"
     );
-    let found = attributes(alloc, &context, &state, &recipe, now)?;
-    let mut shared = shared_attributes(alloc, &context, &state, now)?;
+    of_recipe(alloc, context, &state, &recipe, now)
+}
+
+fn of_recipe(
+    alloc: Global,
+    context: &Context,
+    state: &State,
+    recipe: &Slug,
+    now: u64,
+) -> Result<String>
+    requires rows { Rise (slugs_of state.now.rows) }
+    requires moment { now ≤ last_moment }
+{
+    let found = written(alloc, attributes(alloc, context, state, recipe, now)?)?;
+    let shared = written(alloc, after_another(alloc, context, state, recipe, now)?)?;
+    ensure!(shared.as_str() == found.as_str(), "others are shared");
+    Ok(found)
+}
+
+// The attributes for a recipe where those of another one were there before.
+fn after_another(
+    alloc: Global,
+    context: &Context,
+    state: &State,
+    recipe: &Slug,
+    now: u64,
+) -> Result<Attributes>
+    requires rows { Rise (slugs_of state.now.rows) }
+    requires moment { now ≤ last_moment }
+{
+    let mut shared = shared_attributes(alloc, context, state, now)?;
     ensure!(
         shared.get("is_already_enrolled").is_none(),
         "it is there already"
     );
-    set_already_enrolled(alloc, &mut shared, &state, &slug(alloc, "another")?)?;
-    set_already_enrolled(alloc, &mut shared, &state, &recipe)?;
-    let found = written(alloc, found)?;
-    ensure!(
-        written(alloc, shared)?.as_str() == found.as_str(),
-        "others are shared"
-    );
-    Ok(found)
+    set_already_enrolled(alloc, &mut shared, state, &slug(alloc, "another")?)?;
+    set_already_enrolled(alloc, &mut shared, state, recipe)?;
+    Ok(shared)
 }
 
 fn written(alloc: Global, attributes: Attributes) -> Result<String> {
@@ -144,15 +188,19 @@ fn moment(later: &str) -> Result<u64> {
 }
 
 fn client_of(alloc: Global, name: &str) -> Result<State> {
-    let Ok(id) = Uuid::parse_str("5a8f0b1e-7c3d-4e2a-9b6c-0123456789ab") else {
-        bail!("no id");
-    };
-    let mut state = State::new(alloc, id, INSTALLED);
+    let mut state = State::new(alloc, client_id()?, INSTALLED);
     if name == "old" {
         state.rows = rows(alloc)?;
         state.updated = INSTALLED - 86_400;
     }
     Ok(state)
+}
+
+fn client_id() -> Result<Uuid> {
+    match Uuid::parse_str("5a8f0b1e-7c3d-4e2a-9b6c-0123456789ab") {
+        Ok(id) => Ok(id),
+        Err(_) => bail!("no id"),
+    }
 }
 
 // Whether the slugs of the rows rise.
@@ -172,27 +220,32 @@ fn add(alloc: Global, rows: &mut SharedList<Row>, text: &str, status: Status) ->
     Ok(())
 }
 
-fn enrolled(alloc: Global, reason: EnrolledReason, branch: &str) -> Result<Status> {
+// Puts the row of a client that is enrolled at the end.
+fn add_enrolled(
+    alloc: Global,
+    rows: &mut SharedList<Row>,
+    text: &str,
+    reason: EnrolledReason,
+    branch: &str,
+) -> Result<()> {
     let branch = slug(alloc, branch)?;
-    Ok(Status::Enrolled { reason, branch })
+    add(alloc, rows, text, Status::Enrolled { reason, branch })
 }
 
 // A row of each status, and two of those that are enrolled.
 fn rows(alloc: Global) -> Result<SharedList<Row>> {
     let mut rows = SharedList::new(alloc);
-    let opted_in = enrolled(alloc, EnrolledReason::OptIn, "treatment")?;
-    add(alloc, &mut rows, "a", opted_in)?;
     let opted_out = Status::NotEnrolled {
         reason: NotEnrolledReason::OptOut,
     };
-    add(alloc, &mut rows, "b", opted_out)?;
-    add_ended(alloc, &mut rows)?;
     let faulty = Status::Error {
         cause: ErrorCause::NoUnit,
     };
+    add_enrolled(alloc, &mut rows, "a", EnrolledReason::OptIn, "treatment")?;
+    add(alloc, &mut rows, "b", opted_out)?;
+    add_ended(alloc, &mut rows)?;
     add(alloc, &mut rows, "e", faulty)?;
-    let qualified = enrolled(alloc, EnrolledReason::Qualified, "red")?;
-    add(alloc, &mut rows, "f", qualified)?;
+    add_enrolled(alloc, &mut rows, "f", EnrolledReason::Qualified, "red")?;
     Ok(rows)
 }
 

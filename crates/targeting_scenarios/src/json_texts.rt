@@ -20,11 +20,3 @@ pub(crate) fn json_text(alloc: Global, value: &Value) -> Result<String> {
         Err(_) => bail!("out of memory"),
     }
 }
-
-/// A text before and behind ` | `.
-pub(crate) fn halves(text: &str) -> Result<(&str, &str)> {
-    match text.split_once(" | ") {
-        Some(halves) => Ok(halves),
-        None => bail!("no halves: {text}"),
-    }
-}

@@ -1,11 +1,15 @@
 //! Rows on what the transforms answer, alone and out of a table.
-use crate::json_texts::{halves, json_text, value};
+ghost use Rattle.std.specs.Prelude.{IsTrue};
+
+use crate::json_texts::{json_text, value};
+use crate::meanings::put;
 use anyhow::{Result, bail};
 use jexl_transforms::{
     PushFault, Transform, TransformAnswer, TransformTable, bucket_transform, date_transform,
     version_transform,
 };
 use jexl_value::{Attributes, NamedValues, Value};
+use row_tables::{debugged, halves, word};
 use std::alloc::Global;
 
 fn arguments(alloc: Global, text: &str) -> Result<Vec<Value>> {
@@ -13,6 +17,12 @@ fn arguments(alloc: Global, text: &str) -> Result<Vec<Value>> {
         Value::List(values) => Ok(values.into_vec()),
         _ => bail!("no list of arguments: {text}"),
     }
+}
+
+// A subject and its arguments. Row: a value and a list of values, as JSON texts.
+fn call_of(alloc: Global, input: &str) -> Result<(Value, Vec<Value>)> {
+    let (subject, list) = halves(input)?;
+    Ok((value(alloc, subject)?, arguments(alloc, list)?))
 }
 
 fn no_attributes(alloc: Global) -> Attributes {
@@ -25,16 +35,15 @@ fn no_attributes(alloc: Global) -> Attributes {
 fn shown(alloc: Global, answer: &TransformAnswer) -> Result<String> {
     match answer {
         TransformAnswer::Gives(value) => json_text(alloc, value),
-        TransformAnswer::Refused => Ok(String::from_str(alloc, "refused")?),
-        TransformAnswer::OutOfMemory => Ok(String::from_str(alloc, "out of memory")?),
+        TransformAnswer::Refused => word(alloc, "refused"),
+        TransformAnswer::OutOfMemory => word(alloc, "out of memory"),
     }
 }
 
 /// The answer of a transform, of the kind `version`, `date` or `bucket`. Row: a subject and a list of arguments, as JSON
 /// texts.
 pub(crate) fn answer_of(alloc: Global, kind: &str, input: &str) -> Result<String> {
-    let (subject, list) = halves(input)?;
-    let (subject, list) = (value(alloc, subject)?, arguments(alloc, list)?);
+    let (subject, list) = call_of(alloc, input)?;
     let attributes = no_attributes(alloc);
     let answer = match kind {
         "version" => version_transform(&attributes, &subject, &list),
@@ -48,37 +57,60 @@ pub(crate) fn answer_of(alloc: Global, kind: &str, input: &str) -> Result<String
 /// arguments.
 pub(crate) fn called(alloc: Global, table: &TransformTable, input: &str) -> Result<String> {
     let (name, rest) = halves(input)?;
-    let (subject, list) = halves(rest)?;
-    let (subject, list) = (value(alloc, subject)?, arguments(alloc, list)?);
-    match table.call(name, &no_attributes(alloc), &subject, &list) {
+    called_by(alloc, table, name, rest)
+}
+
+fn called_by(alloc: Global, table: &TransformTable, name: &str, input: &str) -> Result<String> {
+    let (subject, list) = call_of(alloc, input)?;
+    let answer = table.call(name, &no_attributes(alloc), &subject, &list);
+    match answer {
         Ok(value) => json_text(alloc, &value),
-        Err(fault) => Ok(format!(in alloc; "{fault:?}")?),
+        Err(fault) => debugged(alloc, &fault),
     }
 }
 
 /// What becomes of a transform of dates that is pushed behind one of its name, which finds no memory: the number of
 /// names, the answer of the table, and that of the closure which was given back. Row: a subject and a list of arguments.
 pub(crate) fn pushed_again(alloc: Global, input: &str) -> Result<String> {
+    let mut table = TransformTable::new(alloc);
     let wanting: Transform = Box::new(alloc, |_: &Attributes, _: &Value, _: &[Value]| {
         TransformAnswer::OutOfMemory
     })?;
-    let mut table = TransformTable::new(alloc);
-    let Ok(()) = table.push(alloc, "date", wanting) else {
-        bail!("the table has no room");
-    };
+    put(alloc, &mut table, "date", wanting)?;
     let again: Transform = Box::new(
         alloc,
         |attributes: &Attributes, subject: &Value, arguments: &[Value]| {
             date_transform(attributes, subject, arguments)
         },
     )?;
-    let Err(PushFault::DuplicateName(given_back)) = table.push(alloc, "date", again) else {
-        bail!("a name was pushed twice");
-    };
-    let (subject, list) = halves(input)?;
-    let (subject, list) = (value(alloc, subject)?, arguments(alloc, list)?);
-    let answer = given_back(&no_attributes(alloc), &subject, &list);
-    let name = format!(in alloc; "date | {input}")?;
-    let stored = called(alloc, &table, name.as_str())?;
-    Ok(format!(in alloc; "{} {stored} {}", table.names(), shown(alloc, &answer)?)?)
+    match table.push(alloc, "date", again) {
+        Err(PushFault::DuplicateName(given_back)) => both_answers(
+            alloc,
+            &table,
+            &given_back,
+            input,
+        ),
+        _ => bail!("a name was pushed twice"),
+    }
+}
+
+fn both_answers(
+    alloc: Global,
+    table: &TransformTable,
+    given_back: &Transform,
+    input: &str,
+) -> Result<String>
+    requires { Transform.IsAlwaysCallable given_back.now }
+{
+    let stored = called_by(alloc, table, "date", input)?;
+    let answer = answer_by(alloc, given_back, input)?;
+    Ok(format!(in alloc; "{} {stored} {answer}", table.names())?)
+}
+
+fn answer_by(alloc: Global, transform: &Transform, input: &str) -> Result<String>
+    requires { Transform.IsAlwaysCallable transform.now }
+{
+    let (subject, list) = call_of(alloc, input)?;
+    let answer = transform(&no_attributes(alloc), &subject, &list);
+    shown(alloc, &answer)
 }
