@@ -1,54 +1,61 @@
 -- Which files a shelf has been asked for, as the loop over them goes on.
-use Rattle.std.proofs.Common.{◌≡◌, ℕ, zero, suc, ◌+◌, ◌<◌, List, [], ◌∷◌, ◌++◌, length, take, Some, Ok, refl, sym, ap, ◌∙◌, subst, arith}
+use Rattle.std.proofs.Common.{◌≡◌, ℕ, zero, suc, ◌+◌, ◌<◌, List, [], ◌∷◌, ◌++◌, map, length, take, Some, Ok, refl, sym, ap, ◌∙◌, subst}
 use Rattle.std.specs.Prelude.{slice_get}
-use Rattle.std.proofs.lemmas.List.{take_more, take-append-le}
+use Rattle.std.proofs.lemmas.List.{take_more}
 use Rattle.std.proofs.lemmas.Option.{slice_get_within, get_or_from_slice_get}
 use Rattle.host_model.specs.Shelf.{IsReached}
 use Rattle.host_model.specs.ShelfLaws.{reached_once, reached_then}
 use Rattle.fml_link.specs.Asked.{BeginWith, IsAskedFrom}
-use Rattle.fml_link.specs.Files.{with_includes}
-use Rattle.fml_link.proofs.Listing.{includes_begin}
+use Rattle.fml_link.specs.Files.{with_named}
+use Rattle.fml_link.proofs.Listing.{Listed, named_begin, one_more}
+
+-- the names of files
+abbrev pub names : Listed → List (List ℕ)
+names list = map (λ (f : List ℕ × List ℕ). f.0) list
+
+names_push : (list : Listed) (f : List ℕ × List ℕ) → names (list ++ f ∷ []) ≡ names list ++ f.0 ∷ []
+names_push [] f = refl
+names_push (g ∷ gs) f = ap (λ l. g.0 ∷ l) (names_push gs f)
 
 -- ---- the root stays the first
 
-begun_first : (names more : List (List ℕ)) (root : List ℕ) → slice_get names 0 ≡ Some root → slice_get (names ++ more) 0 ≡ Some root
+begun_first : (list more : Listed) (root : List ℕ × List ℕ) → slice_get list 0 ≡ Some root → slice_get (list ++ more) 0 ≡ Some root
 begun_first [] more root h = absurd cc
-begun_first (n ∷ ns) more root h = h
+begun_first (f ∷ fs) more root h = h
 
-pub root_stays_first : (includes names longer : List (List ℕ)) (root : List ℕ) → with_includes names includes ≡ Ok longer → slice_get names 0 ≡ Some root → slice_get longer 0 ≡ Some root
-root_stays_first includes names longer root more first =
-    let begins = includes_begin includes names longer more in subst (λ l. slice_get l 0 ≡ Some root) (sym begins.1) (begun_first names begins.0 root first)
+pub root_stays_first : (fs list longer : Listed) (root : List ℕ × List ℕ) → with_named list fs ≡ Ok longer → slice_get list 0 ≡ Some root → slice_get longer 0 ≡ Some root
+root_stays_first fs list longer root more first = let begins = named_begin fs list longer more in subst (λ l. slice_get l 0 ≡ Some root) (sym begins.1) (begun_first list begins.0 root first)
 
-first_begins : (names : List (List ℕ)) (root : List ℕ) (n : ℕ) → slice_get names 0 ≡ Some root → BeginWith root (take n names)
-first_begins names root zero h = tt
-first_begins [] root (suc n) h = absurd cc
-first_begins (m ∷ ms) root (suc n) h = let same : m ≡ root = cc in same
+first_begins : (list : Listed) (root channel : List ℕ) (n : ℕ) → slice_get list 0 ≡ Some (root, channel) → BeginWith root (names (take n list))
+first_begins list root channel zero h = tt
+first_begins [] root channel (suc n) h = absurd cc
+first_begins (f ∷ fs) root channel (suc n) h = let same : f ≡ (root, channel) = cc in ap (λ (g : List ℕ × List ℕ). g.0) same
 
 -- ---- the shelf is asked for one more
 
 module _ {S : Type 0} (asks : S → List ℕ → S → Type 0) where
-  pub asked_turn : (shelf middle left : S) (names : List (List ℕ)) (place : ℕ) (name : List ℕ) → Some name ≡ slice_get names place → IsReached asks shelf (take place names) middle → asks middle name left → IsReached asks shelf (take (place + 1) names) left
-  asked_turn shelf middle left names place name is before step =
-      let within : place < length names = slice_get_within names place name (sym is) in
-      let one_more : take (place + 1) names ≡ take place names ++ name ∷ [] = take_more names place name within ∙ ap (λ n. take place names ++ n ∷ []) (get_or_from_slice_get names place name name (sym is)) in
-      subst (λ ns. IsReached asks shelf ns left) (sym one_more) (reached_then asks shelf (take place names) middle (name ∷ []) left before (reached_once asks middle name left step))
+  asked_then : (shelf middle left : S) (list longer : Listed) (place : ℕ) (f : List ℕ × List ℕ) → longer ≡ take place list ++ f ∷ [] → IsReached asks shelf (names (take place list)) middle → asks middle f.0 left → IsReached asks shelf (names longer) left
+  asked_then shelf middle left list longer place f is before step =
+      subst (λ ns. IsReached asks shelf ns left) (sym (ap names is ∙ names_push (take place list) f)) (reached_then asks shelf (names (take place list)) middle (f.0 ∷ []) left before (reached_once asks middle f.0 left step))
 
-  pub asked_longer : (shelf middle left : S) (includes names longer : List (List ℕ)) (place : ℕ) (name : List ℕ) → Some name ≡ slice_get names place → with_includes names includes ≡ Ok longer
-      → IsReached asks shelf (take place names) middle → asks middle name left → IsReached asks shelf (take (place + 1) longer) left
-  asked_longer shelf middle left includes names longer place name is more before step =
-      let within : place < length names = slice_get_within names place name (sym is) in
-      let begins = includes_begin includes names longer more in
-      let same : take (place + 1) longer ≡ take (place + 1) names = ap (take (place + 1)) begins.1 ∙ take-append-le (place + 1) names begins.0 (omega arith) in
-      subst (λ ns. IsReached asks shelf ns left) (sym same) (asked_turn shelf middle left names place name is before step)
+  asked_turn : (shelf middle left : S) (list : Listed) (place : ℕ) (f : List ℕ × List ℕ) → Some f ≡ slice_get list place → IsReached asks shelf (names (take place list)) middle → asks middle f.0 left → IsReached asks shelf (names (take (place + 1) list)) left
+  asked_turn shelf middle left list place f is before step =
+      let within : place < length list = slice_get_within list place f (sym is) in
+      let one : take (place + 1) list ≡ take place list ++ f ∷ [] = take_more list place f within ∙ ap (λ n. take place list ++ n ∷ []) (get_or_from_slice_get list place f f (sym is)) in
+      asked_then shelf middle left list (take (place + 1) list) place f one before step
+
+  pub asked_longer : (shelf middle left : S) (fs list longer : Listed) (place : ℕ) (f : List ℕ × List ℕ) → Some f ≡ slice_get list place → with_named list fs ≡ Ok longer
+      → IsReached asks shelf (names (take place list)) middle → asks middle f.0 left → IsReached asks shelf (names (take (place + 1) longer)) left
+  asked_longer shelf middle left fs list longer place f is more before step = asked_then shelf middle left list (take (place + 1) longer) place f (one_more place list longer fs f is more) before step
 
   -- ---- where the walk ends
 
   pub asked_none : (root : List ℕ) (shelf : S) → IsAskedFrom asks root shelf shelf
   asked_none root shelf = ([], tt, refl)
 
-  pub asked_all : (root : List ℕ) (shelf left : S) (names : List (List ℕ)) (place : ℕ) → slice_get names 0 ≡ Some root → IsReached asks shelf (take place names) left → IsAskedFrom asks root shelf left
-  asked_all root shelf left names place first reached = (take place names, first_begins names root place first, reached)
+  pub asked_all : (root channel : List ℕ) (shelf left : S) (list : Listed) (place : ℕ) → slice_get list 0 ≡ Some (root, channel) → IsReached asks shelf (names (take place list)) left → IsAskedFrom asks root shelf left
+  asked_all root channel shelf left list place first reached = (names (take place list), first_begins list root channel place first, reached)
 
-  pub asked_one_more : (root : List ℕ) (shelf middle left : S) (names : List (List ℕ)) (place : ℕ) (name : List ℕ) → slice_get names 0 ≡ Some root → Some name ≡ slice_get names place → IsReached asks shelf (take place names) middle → asks middle name left
-      → IsAskedFrom asks root shelf left
-  asked_one_more root shelf middle left names place name first is before step = asked_all root shelf left names (place + 1) first (asked_turn shelf middle left names place name is before step)
+  pub asked_one_more : (root channel : List ℕ) (shelf middle left : S) (list : Listed) (place : ℕ) (f : List ℕ × List ℕ) → slice_get list 0 ≡ Some (root, channel) → Some f ≡ slice_get list place → IsReached asks shelf (names (take place list)) middle
+      → asks middle f.0 left → IsAskedFrom asks root shelf left
+  asked_one_more root channel shelf middle left list place f first is before step = asked_all root channel shelf left list (place + 1) first (asked_turn shelf middle left list place f is before step)

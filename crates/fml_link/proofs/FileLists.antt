@@ -1,39 +1,40 @@
 -- The list of files starts with its root, and has no name twice.
 use Rattle.std.proofs.Common.{◌≡◌, ℕ, zero, suc, Bool, true, false, List, [], ◌∷◌, ◌++◌, Option, Some, None, Ok, refl, sym, ap, ◌∙◌, subst}
 use Rattle.std.specs.Prelude.{◌&&◌, ◌||◌, not, bytes_eq, slice_get}
-use Rattle.fml_link.specs.Files.{file_module, is_among, with_includes, with_file, names_after}
+use Rattle.fml_types.specs.Named.{has_name}
+use Rattle.fml_imports.proofs.Maps.{turned, left_false, right_false}
+use Rattle.fml_link.specs.Files.{file_module, named_by, with_named, after_file, list_after}
 use Rattle.fml_link.specs.Laws.{are_distinct, StartWithRoot, AreDistinct}
-use Rattle.fml_link.proofs.Listing.{bind_ok, IsAdded, includes_keep}
-use Rattle.fml_link.proofs.Maps.{turned, left_false, right_false}
-use Rattle.fml_link.proofs.MetNames.{among_push}
+use Rattle.fml_link.proofs.Linked.{bind_ok}
+use Rattle.fml_link.proofs.Listing.{Listed, IsAdded, named_keep}
 
--- what each include keeps is kept by a file
-pub file_keeps : (P : List (List ℕ) → Type 0) → ((names : List (List ℕ)) (include : List ℕ) (longer : List (List ℕ)) → P names → IsAdded names include longer → P longer)
-    → (file : List ℕ → Option (List ℕ)) (names : List (List ℕ)) (name : Option (List ℕ)) (longer : List (List ℕ)) → P names → with_file file names name ≡ Ok longer → P longer
-file_keeps P step file names None longer kept h = let same : names ≡ longer = cc in subst P same kept
-file_keeps P step file names (Some name) longer kept h =
-    let m = bind_ok (file_module name (file name)) (λ m. with_includes names m.includes) longer h in
-    includes_keep P step m.0.includes names longer kept m.2
+-- what each file that is added keeps is kept by a file's turn
+pub turn_keeps : (P : Listed → Type 0) → ((list : Listed) (f : List ℕ × List ℕ) (longer : Listed) → P list → IsAdded list f longer → P longer)
+    → (file : List ℕ → Option (List ℕ)) (list : Listed) (at : Option (List ℕ × List ℕ)) (longer : Listed) → P list → after_file file list at ≡ Ok longer → P longer
+turn_keeps P step file list None longer kept h = let same : list ≡ longer = cc in subst P same kept
+turn_keeps P step file list (Some f) longer kept h =
+    let m = bind_ok (file_module f.0 (file f.0)) (λ m. with_named list (named_by f.1 m)) longer h in
+    named_keep P step (named_by f.1 m.0) list longer kept m.2
 
--- what each include keeps holds of the whole list
-pub names_keep : (P : List (List ℕ) → Type 0) → ((names : List (List ℕ)) (include : List ℕ) (longer : List (List ℕ)) → P names → IsAdded names include longer → P longer)
-    → (file : List ℕ → Option (List ℕ)) (root : List ℕ) → P (root ∷ []) → (n : ℕ) (names : List (List ℕ)) → names_after file root n ≡ Ok names → P names
-unfolding names_after
-names_keep P step file root kept zero names h = let same : root ∷ [] ≡ names = cc in subst P same kept
-names_keep P step file root kept (suc n) names h =
-    let before = bind_ok (names_after file root n) (λ ns. with_file file ns (slice_get ns n)) names h in
-    file_keeps P step file before.0 (slice_get before.0 n) names (names_keep P step file root kept n before.0 before.1) before.2
+-- what each file that is added keeps holds of the whole list
+pub list_keeps : (P : Listed → Type 0) → ((list : Listed) (f : List ℕ × List ℕ) (longer : Listed) → P list → IsAdded list f longer → P longer)
+    → (file : List ℕ → Option (List ℕ)) (root channel : List ℕ) → P ((root, channel) ∷ []) → (n : ℕ) (list : Listed) → list_after file root channel n ≡ Ok list → P list
+unfolding list_after
+list_keeps P step file root channel kept zero list h = let same : (root, channel) ∷ [] ≡ list = cc in subst P same kept
+list_keeps P step file root channel kept (suc n) list h =
+    let before = bind_ok (list_after file root channel n) (λ l. after_file file l (slice_get l n)) list h in
+    turn_keeps P step file before.0 (slice_get before.0 n) list (list_keeps P step file root channel kept n before.0 before.1) before.2
 
 -- ---- the root is first
 
-push_first : (names : List (List ℕ)) (name root : List ℕ) → slice_get names 0 ≡ Some root → slice_get (names ++ name ∷ []) 0 ≡ Some root
-push_first [] name root h = absurd cc
-push_first (n ∷ ns) name root h = h
+push_first : (list : Listed) (f root : List ℕ × List ℕ) → slice_get list 0 ≡ Some root → slice_get (list ++ f ∷ []) 0 ≡ Some root
+push_first [] f root h = absurd cc
+push_first (g ∷ gs) f root h = h
 
 pub root_is_first : StartWithRoot
-root_is_first file root names h =
-    names_keep (λ l. slice_get l 0 ≡ Some root) (λ (one : List (List ℕ)) (include : List ℕ) (more : List (List ℕ)) (kept : slice_get one 0 ≡ Some root) (added : IsAdded one include more).
-    subst (λ l. slice_get l 0 ≡ Some root) (sym added.2) (push_first one include root kept)) file root refl 64 names h
+root_is_first file root channel list h =
+    list_keeps (λ (l : Listed). slice_get l 0 ≡ Some (root, channel)) (λ (one : Listed) (f : List ℕ × List ℕ) (more : Listed) (kept : slice_get one 0 ≡ Some (root, channel)) (added : IsAdded one f more).
+    subst (λ (l : Listed). slice_get l 0 ≡ Some (root, channel)) (sym added.2) (push_first one f (root, channel) kept)) file root channel refl 64 list h
 
 -- ---- no name stands twice
 
@@ -45,15 +46,29 @@ split_true : (a b : Bool) → (not a && b) ≡ true → (a ≡ false) × (b ≡ 
 split_true true b h = absurd cc
 split_true false b h = (refl, h)
 
-push_distinct : (names : List (List ℕ)) (name : List ℕ) → are_distinct names ≡ true → is_among name names ≡ false → are_distinct (names ++ name ∷ []) ≡ true
-push_distinct [] name distinct new = refl
-push_distinct (n ∷ ns) name distinct new =
-    let apart = split_true (is_among n ns) (are_distinct ns) distinct in
-    let other : bytes_eq name n ≡ false = turned name n ∙ left_false (bytes_eq n name) (is_among name ns) new in
-    both_true (is_among n (ns ++ name ∷ [])) (are_distinct (ns ++ name ∷ [])) (among_push n name ns ∙ ap (λ b. b || bytes_eq name n) apart.0 ∙ other)
-    (push_distinct ns name apart.1 (right_false (bytes_eq n name) (is_among name ns) new))
+or_turned : (a b : Bool) → (a || b) ≡ (b || a)
+or_turned true true = refl
+or_turned true false = refl
+or_turned false true = refl
+or_turned false false = refl
 
-pub names_are_distinct : AreDistinct
-names_are_distinct file root names h =
-    names_keep (λ l. are_distinct l ≡ true) (λ (one : List (List ℕ)) (include : List ℕ) (more : List (List ℕ)) (kept : are_distinct one ≡ true) (added : IsAdded one include more).
-    subst (λ l. are_distinct l ≡ true) (sym added.2) (push_distinct one include kept added.0)) file root refl 64 names h
+or_grouped : (a b c : Bool) → (a || (b || c)) ≡ ((a || b) || c)
+or_grouped true b c = refl
+or_grouped false b c = refl
+
+pub has_push : (q : List ℕ) (f : List ℕ × List ℕ) (list : Listed) → has_name q (list ++ f ∷ []) ≡ (has_name q list || bytes_eq f.0 q)
+has_push q f [] = or_turned (bytes_eq f.0 q) false
+has_push q f (g ∷ gs) = ap (λ b. bytes_eq g.0 q || b) (has_push q f gs) ∙ or_grouped (bytes_eq g.0 q) (has_name q gs) (bytes_eq f.0 q)
+
+push_distinct : (list : Listed) (f : List ℕ × List ℕ) → are_distinct list ≡ true → has_name f.0 list ≡ false → are_distinct (list ++ f ∷ []) ≡ true
+push_distinct [] f distinct new = refl
+push_distinct (g ∷ gs) f distinct new =
+    let apart = split_true (has_name g.0 gs) (are_distinct gs) distinct in
+    let other : bytes_eq f.0 g.0 ≡ false = turned f.0 g.0 ∙ left_false (bytes_eq g.0 f.0) (has_name f.0 gs) new in
+    both_true (has_name g.0 (gs ++ f ∷ [])) (are_distinct (gs ++ f ∷ [])) (has_push g.0 f gs ∙ ap (λ b. b || bytes_eq f.0 g.0) apart.0 ∙ other)
+    (push_distinct gs f apart.1 (right_false (bytes_eq g.0 f.0) (has_name f.0 gs) new))
+
+pub list_is_distinct : AreDistinct
+list_is_distinct file root channel list h =
+    list_keeps (λ l. are_distinct l ≡ true) (λ (one : Listed) (f : List ℕ × List ℕ) (more : Listed) (kept : are_distinct one ≡ true) (added : IsAdded one f more).
+    subst (λ l. are_distinct l ≡ true) (sym added.2) (push_distinct one f kept added.0)) file root channel refl 64 list h

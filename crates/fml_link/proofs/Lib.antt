@@ -1,12 +1,9 @@
-pub mod Alls
-pub mod Singles
-pub mod SoundValues
-pub mod ReadModules
 pub mod Linked
-pub mod Maps
-pub mod MetNames
+pub mod MetFiles
 pub mod Listing
 pub mod FileLists
-pub mod SoundManifests
 pub mod Asking
-pub mod Includes
+pub mod Closed
+pub mod IncludedFiles
+pub mod LinkedManifests
+pub mod SingleFiles

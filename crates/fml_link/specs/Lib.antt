@@ -2,7 +2,7 @@ pub mod Outcome
 pub mod Files
 pub mod Asked
 pub mod Names
-pub mod Sound
-pub mod Tables
 pub mod Linking
+pub mod IncludedTables
+pub mod Included
 pub mod Laws

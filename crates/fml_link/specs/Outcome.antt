@@ -3,6 +3,8 @@ use Rattle.std.specs.Prelude.{◌≡◌, List, [], ◌∷◌, Result, Ok, Err}
 use Rattle.json_tree.specs.Json.{Json}
 use Rattle.json_tree.specs.Tree.{json_of}
 use Rattle.json_tree.specs.declared.tree.Tree.{Tree}
+use Rattle.fml_imports.specs.declared.joining.Linked.{Linked}
+use Rattle.fml_reader.specs.declared.module.Module.{Module}
 use Rattle.fml_link.specs.declared.fault.LinkFault.{LinkFault}
 use Rattle.fml_link.specs.declared.fault.LinkFault.TheVariants as faults
 use Rattle.fml_link.specs.declared.fault.LinkRefusal.{LinkRefusal}
@@ -34,6 +36,11 @@ Gives (Err e) linked = Fails e linked
 abbrev pub GivesTree : Result Tree LinkFault → Result Json LinkRefusal → Type 0
 GivesTree (Ok t) linked = linked ≡ Ok (json_of t)
 GivesTree (Err e) linked = Fails e linked
+
+-- the same of a call that returned a file with the module
+abbrev pub GivesModule : Result Linked LinkFault → Result Module LinkRefusal → Type 0
+GivesModule (Ok file) linked = linked ≡ Ok file.module
+GivesModule (Err e) linked = Fails e linked
 
 -- the same of a call that changes what the linking is about: this is what it leaves
 abbrev pub Leaves : {A B : Type 0} → B → Result A LinkFault → Result B LinkRefusal → Type 0

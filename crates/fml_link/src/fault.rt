@@ -5,7 +5,8 @@ ghost use Rattle.fml_link.specs.declared.fault.LinkFault.TheVariants.{OutOfMemor
 use sequences::Text;
 use std::alloc::{AllocError, AllocFailed};
 
-/// Why files are no manifest for a channel. A file is named as the root or an include names it.
+/// Why files are no manifest for a channel. A file is named as the root, an include or an import
+/// names it.
 #[derive(Drop)]
 pub enum LinkRefusal {
     /// There is no file of that name.
@@ -17,10 +18,11 @@ pub enum LinkRefusal {
     /// In the file of that name, the first place that doesn't have its shape: the keys and the
     /// indexes from the root of its tree, each after a `/`.
     BadShape(Text, Text),
-    /// The file of that name imports other manifests.
-    ImportsUnbuilt(Text),
     /// The files have more than 64 names.
     TooManyFiles,
+    /// The first name that a file includes or imports for another channel than the one that the
+    /// file of that name is read for.
+    ImportClash(Text),
     /// The first name that is met twice among enums and objects, or twice among features.
     DuplicateName(Text),
     /// The first name in a type that is neither an enum's nor an object's, or that is a map's key
@@ -32,6 +34,10 @@ pub enum LinkRefusal {
     ObjectTooLarge(Text),
     /// The root doesn't have the channel.
     UnknownChannel,
+    /// The path of the first import whose channel the imported file doesn't have.
+    UnknownImport(Text),
+    /// The first name under which entries are laid over a feature, and that no feature has.
+    UnknownOverride(Text),
 }
 
 /// Why `link` gives no manifest.

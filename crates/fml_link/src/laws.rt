@@ -1,10 +1,23 @@
-// Laws of the list of files.
-ghost use Rattle.fml_link.specs.Laws.{StartWithRoot, AreDistinct, AreClosed};
+// Laws of the list of files and of the manifest.
+ghost use Rattle.fml_link.specs.Laws.{StartWithRoot, AreDistinct, AreClosed, LinkAsIncluded, SingleLinksBack};
 
-/// The files that `link` reads start with the root, no name stands twice among them, and each include
-/// of one of them is one of them. It takes no memory.
+/// The files that `link` reads start with the root, for the asked channel. No name stands twice among
+/// them, and each file that one of them includes or imports is one of them, and is read for that
+/// channel. It takes no memory.
 pub fn list_of_files()
     ensures root { StartWithRoot }
     ensures distinct { AreDistinct }
     ensures closed { AreClosed }
+{}
+
+/// Where no file imports another, `link` gives the manifest of the files that the root includes. It
+/// takes no memory.
+pub fn included_files()
+    ensures { LinkAsIncluded }
+{}
+
+/// A shelf on which the file of a name is the text of the single file of a well formed manifest, of at
+/// most 4,194,304 bytes, links it to that manifest, for the manifest's channel. It takes no memory.
+pub fn single_links_back()
+    ensures { SingleLinksBack }
 {}

@@ -6,19 +6,10 @@ use Rattle.std.proofs.lemmas.List.Quantifiers.{position-Some}
 use Rattle.std.proofs.lemmas.Str.{IsUtf8-nil, IsUtf8-take, IsUtf8-drop, IsCharBoundary-before_ascii, IsCharBoundary-after_ascii}
 use Rattle.std.specs.List.{slice_split}
 use Rattle.std.specs.Prelude.{◌==◌, position, if◌then◌else◌}
-use Rattle.json_tree.specs.Json.{list, items_of}
-use Rattle.json_tree.specs.Tree.{json_of}
-use Rattle.json_tree.specs.declared.tree.Tree.{Tree}
 use Rattle.plain_text.proofs.Splitting.{cut_at, uncut, slice_from}
 use Rattle.fml_types.proofs.Spaces.{last_space, last_other}
 use Rattle.fml_types.specs.TypeTexts.{without_front, without_end}
 use Rattle.fml_reader.specs.Features.{is_comma, kept_name, kept_names}
-use Rattle.fml_reader.specs.Values.{imports_of}
-use Rattle.fml_reader.specs.declared.fault.ModuleRefusal.TheVariants as refusals
-
-pub imported : (ts : List Tree) → 0 < length ts → imports_of (list (items_of (map json_of ts))) ≡ Err refusals.ImportsUnbuilt
-imported [] h = absurd (omega arith)
-imported (t ∷ ts) h = refl
 
 pub kept : (s : List ℕ) → (length s ≢ 0) → kept_name s ≡ s ∷ []
 kept [] h = absurd (h refl)

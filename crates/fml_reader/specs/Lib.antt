@@ -4,4 +4,5 @@ pub mod Values
 pub mod Walks
 pub mod Fields
 pub mod Features
+pub mod Imports
 pub mod Modules

@@ -3,7 +3,7 @@ use Rattle.std.specs.Prelude.{◌≡◌, ℕ, List, [], ◌∷◌, ◌++◌, Opt
 use Rattle.fml_reader.specs.declared.fault.ModuleFault.{ModuleFault}
 use Rattle.fml_reader.specs.declared.fault.ModuleFault.TheVariants as faults
 use Rattle.fml_reader.specs.declared.fault.ModuleRefusal.{ModuleRefusal}
-use Rattle.fml_reader.specs.declared.fault.ModuleRefusal.TheVariants.{BadShape, ImportsUnbuilt}
+use Rattle.fml_reader.specs.declared.fault.ModuleRefusal.TheVariants.{BadShape}
 
 infixl 10 ◌>>=◌
 abbrev pub ◌>>=◌ : {A B : Type 0} → Result A ModuleRefusal → (A → Result B ModuleRefusal) → Result B ModuleRefusal
@@ -25,7 +25,6 @@ checked false = bad
 -- a refusal of a place is one of the path through this key; `/` has code 47
 abbrev pub refusal_under : List ℕ → ModuleRefusal → ModuleRefusal
 refusal_under k (BadShape path) = BadShape (47 ∷ k ++ path)
-refusal_under k ImportsUnbuilt = ImportsUnbuilt
 
 -- what is read of the value of this key
 abbrev pub under : {A : Type 0} → List ℕ → Result A ModuleRefusal → Result A ModuleRefusal

@@ -1,13 +1,11 @@
 -- What single values of a module say.
-use Rattle.std.specs.Prelude.{ℕ, ◌&&◌, nat_le, Bool, List as Seq, length, Result, Ok, Err, if◌then◌else◌}
-use Rattle.json_tree.specs.Json.{Json, truth, text, list, object, no_items, item}
+use Rattle.std.specs.Prelude.{ℕ, ◌&&◌, nat_le, Bool, List as Seq, length, Result, Ok, if◌then◌else◌}
+use Rattle.json_tree.specs.Json.{Json, truth, text, object}
 use Rattle.json_tree.specs.Bytes.{text_of}
 use Rattle.json_tree.specs.declared.tree.Tree.{Tree}
 use Rattle.fml_reader.specs.Trees.{tree_from}
 use Rattle.fml_reader.specs.Outcome.{bad}
 use Rattle.fml_reader.specs.declared.fault.ModuleRefusal.{ModuleRefusal}
-use Rattle.fml_reader.specs.declared.fault.ModuleRefusal.TheVariants as refusals
-use Rattle.fml_reader.specs.declared.values.NoImports.{NoImports}
 
 abbrev pub text_in : Json → Result (Seq ℕ) ModuleRefusal
 text_in (text s) = Ok s
@@ -20,12 +18,6 @@ truth_in x = bad
 abbrev pub object_in : Json → Result (Unit {0}) ModuleRefusal
 object_in (object ms) = Ok tt
 object_in x = bad
-
--- a list, by which nothing may be imported
-abbrev pub imports_of : Json → Result NoImports ModuleRefusal
-imports_of (list no_items) = Ok (record {})
-imports_of (list (item x xs)) = Err refusals.ImportsUnbuilt
-imports_of x = bad
 
 -- a default, whose text has at most 65,536 bytes
 abbrev pub value_in : Json → Result Tree ModuleRefusal

@@ -15,8 +15,6 @@ pub enum ModuleRefusal {
     /// root to it, each after a `/`. The root has the empty path, a bad key that of its member, and
     /// a missing part the path that it would have.
     BadShape(Text),
-    /// The module imports other manifests.
-    ImportsUnbuilt,
 }
 
 /// Why `read_module` gives no module.
@@ -64,9 +62,6 @@ pub(crate) fn under<T: Drop>(
         Err(ModuleFault::Refused(ModuleRefusal::BadShape(path))) => {
             let path = longer(alloc, key, path.as_str())?;
             Err(ModuleFault::Refused(ModuleRefusal::BadShape(path)))
-        }
-        Err(ModuleFault::Refused(ModuleRefusal::ImportsUnbuilt)) => {
-            Err(ModuleFault::Refused(ModuleRefusal::ImportsUnbuilt))
         }
         Err(ModuleFault::OutOfMemory) => Err(ModuleFault::OutOfMemory),
     }

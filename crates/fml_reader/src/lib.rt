@@ -7,11 +7,13 @@
 mod fault;
 mod features;
 mod fields;
+mod imports;
 mod module;
 mod names;
 mod values;
 mod walks;
 
 pub use fault::{ModuleFault, ModuleRefusal};
+pub use imports::Import;
 pub use module::{Module, read_module};
 pub use sequences::Text;

@@ -6,7 +6,8 @@ ghost use Rattle.fml_reader.specs.Outcome.{Gives, under};
 ghost use Rattle.fml_reader.specs.Values.{object_in};
 
 use crate::fault::{ModuleFault, under};
-use crate::values::{NoImports, object_in};
+use crate::imports::Import;
+use crate::values::object_in;
 use crate::walks::{either, in_types, optional};
 use fml_types::{ByName, EnumDefinition, FeatureDefinition, ObjectDefinition};
 use json_tree::Tree;
@@ -19,6 +20,8 @@ pub struct Module {
     pub channels: Sequence<Text>,
     /// The names of the files that it includes (`includes`, or else `include`), in order.
     pub includes: Sequence<Text>,
+    /// The modules that it imports (`imports`, or else `import`), in order.
+    pub imports: Sequence<Import>,
     pub enums: ByName<EnumDefinition>,
     /// The enums under `types`.
     pub types_enums: ByName<EnumDefinition>,
@@ -31,9 +34,12 @@ pub struct Module {
 /// The module that a tree is, or the first place that doesn't have its shape.
 ///
 /// A module is an object. Its keys are read in this order: `channels`, a list of texts; `includes`,
-/// or `include` where that isn't there, the same; `imports`, or `import`, a list, which has to be
-/// empty; `enums`, then `enums` in the object `types`; `objects`, then `objects` in `types`;
-/// `features`. Each may be absent, and is empty then. Members are read in the order of their keys.
+/// or `include` where that isn't there, the same; `imports`, or `import`, a list of imports;
+/// `enums`, then `enums` in the object `types`; `objects`, then `objects` in `types`; `features`.
+/// Each may be absent, and is empty then. Members are read in the order of their keys.
+///
+/// An import is an object with the texts `path` and `channel`, and may have `features`, lists of
+/// entries under names of features.
 ///
 /// Enums, objects and features stand under names. An enum is an object with at least one member in
 /// `variants`, an object has `fields`, and a feature may have `variables`, `defaults` and
@@ -48,19 +54,20 @@ pub fn read_module(alloc: Global, tree: &Tree) -> Result<Module, ModuleFault>
     object_in(alloc, tree)?;
     let channels = optional(alloc, tree, "channels", Sequence::new(alloc))?;
     let includes = either(alloc, tree, "includes", "include", Sequence::new(alloc))?;
-    let NoImports = either(alloc, tree, "imports", "import", NoImports)?;
-    definitions(alloc, tree, channels, includes)
+    let imports = either(alloc, tree, "imports", "import", Sequence::new(alloc))?;
+    definitions(alloc, tree, channels, includes, imports)
 }
 
-/// The enums, objects and features of a file with these channels and includes.
+/// The enums, objects and features of a file with these channels, includes and imports.
 #[tactic(auto, unfolding(crate::specs::Modules::definitions_of))]
 fn definitions(
     alloc: Global,
     tree: &Tree,
     channels: Sequence<Text>,
     includes: Sequence<Text>,
+    imports: Sequence<Import>,
 ) -> Result<Module, ModuleFault>
-    ensures { Gives (λ m. m) result (definitions_of channels includes (json_of tree.now)) }
+    ensures { Gives (λ m. m) result (definitions_of channels includes imports (json_of tree.now)) }
 {
     let enums = optional(alloc, tree, "enums", ByName::new(alloc))?;
     let types = types_in(alloc, tree.get("types"))?;
@@ -71,6 +78,7 @@ fn definitions(
     Ok(Module {
         channels,
         includes,
+        imports,
         enums,
         types_enums,
         objects,

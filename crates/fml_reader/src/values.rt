@@ -1,12 +1,11 @@
 // Single values of a module.
-ghost use Rattle.std.specs.Prelude.{◌≡◌, nat_le, length, map};
+ghost use Rattle.std.specs.Prelude.{◌≡◌, nat_le, length};
 ghost use Rattle.json_tree.specs.Bytes.{text_of};
-ghost use Rattle.json_tree.specs.Json.{list, items_of};
 ghost use Rattle.json_tree.specs.Tree.{json_of};
 ghost use Rattle.fml_reader.specs.Outcome.{Gives};
-ghost use Rattle.fml_reader.specs.Values.{text_in, truth_in, object_in, imports_of, value_in, is_key};
+ghost use Rattle.fml_reader.specs.Values.{text_in, truth_in, object_in, value_in, is_key};
 
-use crate::fault::{ModuleFault, ModuleRefusal, bad};
+use crate::fault::{ModuleFault, bad};
 use crate::walks::Part;
 use json_length::length_within;
 use json_tree::Tree;
@@ -58,30 +57,6 @@ fn is_short(tree: &Tree) -> bool
     ensures { result ≡ nat_le (length (text_of (json_of tree.now))) 65536 }
 {
     length_within(tree, MAX_VALUE_LEN).is_some()
-}
-
-/// The imports of a module, of which there may be none.
-#[derive(Drop)]
-pub(crate) struct NoImports;
-
-impl Part for NoImports {
-    ghost said = { imports_of };
-
-    fn read(alloc: Global, tree: &Tree) -> Result<NoImports, ModuleFault> {
-        match tree {
-            Tree::List(items) => no_imports(items.as_slice()),
-            _ => Err(bad(alloc)),
-        }
-    }
-}
-
-fn no_imports(trees: &[Tree]) -> Result<NoImports, ModuleFault>
-    ensures { Gives (λ x. x) result (imports_of (list (items_of (map json_of trees.now)))) }
-{
-    match trees {
-        [] => Ok(NoImports),
-        [..] => Err(ModuleFault::Refused(ModuleRefusal::ImportsUnbuilt)),
-    }
 }
 
 pub(crate) fn object_in(alloc: Global, tree: &Tree) -> Result<(), ModuleFault>

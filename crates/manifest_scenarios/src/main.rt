@@ -6,6 +6,7 @@
 mod modules;
 mod refusals;
 mod scenario;
+mod single_files;
 mod tables;
 mod values;
 

@@ -1,12 +1,12 @@
 //! Modules that JSON texts are, and the first fault of those that are none.
 use crate::tables::{add_names, tree_of, with_strokes};
 use anyhow::{Context, Result};
-use fml_reader::{Module, ModuleFault, ModuleRefusal, read_module};
+use fml_reader::{Import, Module, ModuleFault, ModuleRefusal, read_module};
 use fml_types::{ByName, FeatureDefinition, Text};
 use row_tables::word;
 use std::alloc::{AllocError, Global};
 
-/// `ok`, the path at which the text's module is refused, or `imports`.
+/// `ok`, or the path at which the text's module is refused.
 pub(crate) fn module_verdict(alloc: Global, text: &str) -> Result<String> {
     let read = read_module(alloc, &tree_of(alloc, text)?);
     match read {
@@ -20,7 +20,6 @@ fn fault_text(alloc: Global, fault: &ModuleFault) -> Result<String> {
         ModuleFault::Refused(ModuleRefusal::BadShape(path)) => {
             Ok(format!(in alloc; "at \"{}\"", path.as_str())?)
         }
-        ModuleFault::Refused(ModuleRefusal::ImportsUnbuilt) => word(alloc, "imports"),
         ModuleFault::OutOfMemory => word(alloc, "OutOfMemory"),
     }
 }
@@ -59,6 +58,7 @@ fn parts_text(alloc: Global, module: &Module) -> Result<String, AllocError> {
     let mut text = String::new(alloc);
     add_part(&mut text, "channels", module.channels.as_slice())?;
     add_part(&mut text, " includes", module.includes.as_slice())?;
+    add_imports(alloc, &mut text, module.imports.as_slice())?;
     add_keys(&mut text, " enums", &module.enums)?;
     add_keys(&mut text, " types/enums", &module.types_enums)?;
     add_keys(&mut text, " objects", &module.objects)?;
@@ -71,6 +71,24 @@ fn parts_text(alloc: Global, module: &Module) -> Result<String, AllocError> {
 fn add_part(text: &mut String, part: &str, names: &[Text]) -> Result<(), AllocError> {
     text.push_str(part)?;
     add_names(text, names)
+}
+
+// Adds each import's path and channel, and the features that it has entries for, each with their number.
+fn add_imports(alloc: Global, text: &mut String, imports: &[Import]) -> Result<(), AllocError> {
+    text.push_str(" imports")?;
+    for import in imports {
+        let path = import.path.as_str();
+        let channel = import.channel.as_str();
+        let named = format!(in alloc; "|{path} {channel}")?;
+        text.push_str(named.as_str())?;
+        for (feature, entries) in import.features.as_slice() {
+            let feature = feature.as_str();
+            let count = entries.len();
+            let counted = format!(in alloc; " {feature} {count}")?;
+            text.push_str(counted.as_str())?;
+        }
+    }
+    Ok(())
 }
 
 // Adds the name of a part, and the names of the entries that are in it.

@@ -11,6 +11,8 @@ pub(crate) fn refusal_text(alloc: Global, refusal: &LinkRefusal) -> anyhow::Resu
         LinkRefusal::EndlessObject(name) => named(alloc, "EndlessObject", name)?,
         LinkRefusal::ObjectTooLarge(name) => named(alloc, "ObjectTooLarge", name)?,
         LinkRefusal::UnknownChannel => String::from_str(alloc, "UnknownChannel")?,
+        LinkRefusal::UnknownImport(path) => named(alloc, "UnknownImport", path)?,
+        LinkRefusal::UnknownOverride(name) => named(alloc, "UnknownOverride", name)?,
         refusal => file_refusal(alloc, refusal)?,
     })
 }
@@ -29,7 +31,7 @@ fn file_refusal(alloc: Global, refusal: &LinkRefusal) -> Result<String, AllocErr
             let path = path.as_str();
             format!(in alloc; "BadShape {name} {path}")
         }
-        LinkRefusal::ImportsUnbuilt(name) => named(alloc, "ImportsUnbuilt", name),
+        LinkRefusal::ImportClash(name) => named(alloc, "ImportClash", name),
         _ => String::from_str(alloc, "TooManyFiles"),
     }
 }

@@ -36,8 +36,11 @@
 //! | `default FEATURE` | the tree of the feature's default in it |
 //! | `laid FEATURE PATCH` | the tree of the default with the patch laid over it |
 //! | `defaults` | `ok`, or the first of its defaults that doesn't fit |
+//! | `single` | the text of its single file |
+//! | `reread` | `same` where that file alone gives a manifest of the same single file |
 use crate::modules::{channels, module_verdict, parts};
 use crate::refusals::refusal_text;
+use crate::single_files::{reread_text, single_text};
 use crate::tables::{
     add_chain, has_height, has_weight, linked_names, spelled_type, table_of, table_verdict,
 };
@@ -215,6 +218,8 @@ fn find_linked(
         "default" => default_text(alloc, manifest, rest),
         "laid" => laid_feature(alloc, manifest, rest),
         "defaults" => default_verdict(alloc, manifest),
+        "single" => Ok(single_text(alloc, manifest)?),
+        "reread" => reread_text(alloc, manifest),
         _ => word(alloc, "no such row"),
     }
 }

@@ -1,0 +1,12 @@
+pub mod Outcome
+pub mod Channels
+pub mod Sound
+pub mod Tables
+pub mod Overrides
+pub mod Imports
+pub mod Joining
+pub mod Held
+pub mod Standings
+pub mod Single
+pub mod WellFormed
+pub mod Laws

@@ -1,0 +1,212 @@
+// A manifest as one file.
+ghost use Rattle.std.specs.Prelude.{◌≡◌, ◌≤◌, ℕ, List, option_map, IfOk};
+ghost use Rattle.json_tree.specs.Bytes.{max_depth};
+ghost use Rattle.json_tree.specs.Json.{depth, text};
+ghost use Rattle.json_tree.specs.Tree.{json_of};
+ghost use Rattle.fml_imports.specs.Laws.{IsFileOf};
+ghost use Rattle.fml_imports.specs.Single.{by_name_json, definition_json, entry_json, enum_json, feature_json, field_json, given, list_json, single, variant_json};
+ghost use Rattle.fml_imports.specs.WellFormed.{IsWellFormed};
+
+use crate::type_texts::type_text;
+use fml_types::{
+    ByName, DefaultEntry, EnumDefinition, FeatureDefinition, Field, Manifest, ObjectDefinition,
+};
+use json_tree::{Items, Members, Tree};
+use sequences::{Sequence, Text};
+use std::alloc::{AllocError, Global};
+
+/// A part of a manifest that is written as a JSON value.
+trait Written: Sized {
+    ghost use Rattle.std.specs.Prelude.{◌≡◌, IfOk};
+    ghost use Rattle.json_tree.specs.Json.{Json};
+    ghost use Rattle.json_tree.specs.Tree.{json_of};
+
+    /// The value.
+    ghost written: { Self → Json };
+
+    /// The tree of the value. The one error is want of memory.
+    fn tree(&self, alloc: Global) -> Result<Tree, AllocError>
+        ensures { IfOk result (λ t. json_of t ≡ written self.now) };
+}
+
+/// The manifest as the tree of one file, which includes and imports no other.
+///
+/// It is an object with `channels`, the manifest's channel alone, `enums`, `features` and
+/// `objects`. An enum has `variants`, each of them an empty object, and an object has `fields`. A
+/// feature has `allow-coenrollment`, `defaults` and `variables`; an entry of `defaults` has a
+/// `value`, and `channels` where it has them. A field or variable has a `type`, and a `default`
+/// where there is one. A type has no spaces but one after the comma of a map.
+///
+/// Where the manifest is well formed, the file alone, read for the manifest's channel, gives the
+/// manifest, and the tree is no deeper than a tree that is read may be. The one error is want of
+/// memory.
+pub fn single(alloc: Global, manifest: &Manifest) -> Result<Tree, AllocError>
+    ensures file { IfOk result (λ t. json_of t ≡ single manifest.now) }
+    ensures reads_back { IfOk result (λ t. IsWellFormed manifest.now → (name : List ℕ) → IsFileOf name (json_of t) manifest.now) }
+    ensures shallow { IfOk result (λ t. IsWellFormed manifest.now → depth (json_of t) ≤ max_depth) }
+{
+    whole_file(alloc, manifest)
+}
+
+fn whole_file(alloc: Global, manifest: &Manifest) -> Result<Tree, AllocError>
+    ensures { IfOk result (λ t. json_of t ≡ single manifest.now) }
+{
+    let mut channels = Items::new(alloc);
+    channels.push(Tree::Text(manifest.channel.clone()?))?;
+    let mut members = Members::new(alloc);
+    members.push(Text::new(alloc, "channels")?, Tree::List(channels))?;
+    members.push(
+        Text::new(alloc, "enums")?,
+        by_name(alloc, &manifest.types.enums)?,
+    )?;
+    members.push(
+        Text::new(alloc, "features")?,
+        by_name(alloc, &manifest.features)?,
+    )?;
+    members.push(
+        Text::new(alloc, "objects")?,
+        by_name(alloc, &manifest.types.objects)?,
+    )?;
+    Ok(Tree::Object(members))
+}
+
+impl Written for () {
+    ghost written = { variant_json };
+
+    fn tree(&self, alloc: Global) -> Result<Tree, AllocError> {
+        Ok(Tree::Object(Members::new(alloc)))
+    }
+}
+
+impl Written for EnumDefinition {
+    ghost written = { enum_json };
+
+    fn tree(&self, alloc: Global) -> Result<Tree, AllocError> {
+        let mut members = Members::new(alloc);
+        members.push(
+            Text::new(alloc, "variants")?,
+            by_name(alloc, &self.variants)?,
+        )?;
+        Ok(Tree::Object(members))
+    }
+}
+
+impl Written for ObjectDefinition {
+    ghost written = { definition_json };
+
+    fn tree(&self, alloc: Global) -> Result<Tree, AllocError> {
+        let mut members = Members::new(alloc);
+        members.push(Text::new(alloc, "fields")?, by_name(alloc, &self.fields)?)?;
+        Ok(Tree::Object(members))
+    }
+}
+
+impl Written for Field {
+    ghost written = { field_json };
+
+    #[tactic(auto, using(crate::proofs::Written::above_given))]
+    fn tree(&self, alloc: Global) -> Result<Tree, AllocError> {
+        let mut members = given(alloc, "default", copied(&self.default)?)?;
+        members.push(
+            Text::new(alloc, "type")?,
+            Tree::Text(type_text(alloc, &self.field_type)?),
+        )?;
+        Ok(Tree::Object(members))
+    }
+}
+
+impl Written for DefaultEntry {
+    ghost written = { entry_json };
+
+    #[tactic(auto, using(crate::proofs::Written::above_given))]
+    fn tree(&self, alloc: Global) -> Result<Tree, AllocError> {
+        let mut members = given(alloc, "channels", channels(alloc, &self.channels)?)?;
+        members.push(Text::new(alloc, "value")?, self.value.clone()?)?;
+        Ok(Tree::Object(members))
+    }
+}
+
+impl Written for FeatureDefinition {
+    ghost written = { feature_json };
+
+    fn tree(&self, alloc: Global) -> Result<Tree, AllocError> {
+        let mut members = Members::new(alloc);
+        members.push(
+            Text::new(alloc, "allow-coenrollment")?,
+            Tree::Truth(self.allows_coenrollment),
+        )?;
+        members.push(
+            Text::new(alloc, "defaults")?,
+            entries(alloc, &self.defaults)?,
+        )?;
+        members.push(
+            Text::new(alloc, "variables")?,
+            by_name(alloc, &self.variables)?,
+        )?;
+        Ok(Tree::Object(members))
+    }
+}
+
+/// An object with a member for each name.
+fn by_name<T: Written>(alloc: Global, table: &ByName<T>) -> Result<Tree, AllocError>
+    ensures { IfOk result (λ t. json_of t ≡ by_name_json T.written table.now) }
+{
+    let pairs = table.as_slice();
+    let mut members = Members::new(alloc);
+    for (name, part) in pairs {
+        members.push(name.clone()?, part.tree(alloc)?)?;
+    }
+    Ok(Tree::Object(members))
+}
+
+fn entries(alloc: Global, entries: &Sequence<DefaultEntry>) -> Result<Tree, AllocError>
+    ensures { IfOk result (λ t. json_of t ≡ list_json entry_json entries.now) }
+{
+    let entries = entries.as_slice();
+    let mut items = Items::new(alloc);
+    for entry in entries {
+        items.push(entry.tree(alloc)?)?;
+    }
+    Ok(Tree::List(items))
+}
+
+/// The channels of an entry, where it has them.
+fn channels(alloc: Global, channels: &Option<Sequence<Text>>) -> Result<Option<Tree>, AllocError>
+    ensures { IfOk result (λ o. option_map json_of o ≡ option_map (list_json text) channels.now) }
+{
+    match channels {
+        Some(names) => Ok(Some(texts(alloc, names)?)),
+        None => Ok(None),
+    }
+}
+
+fn texts(alloc: Global, names: &Sequence<Text>) -> Result<Tree, AllocError>
+    ensures { IfOk result (λ t. json_of t ≡ list_json text names.now) }
+{
+    let names = names.as_slice();
+    let mut items = Items::new(alloc);
+    for name in names {
+        items.push(Tree::Text(name.clone()?))?;
+    }
+    Ok(Tree::List(items))
+}
+
+fn copied(tree: &Option<Tree>) -> Result<Option<Tree>, AllocError>
+    ensures { IfOk result (λ copy. copy ≡ tree.now) }
+{
+    match tree {
+        Some(tree) => Ok(Some(tree.clone()?)),
+        None => Ok(None),
+    }
+}
+
+/// A member, where there is one.
+fn given(alloc: Global, key: &str, value: Option<Tree>) -> Result<Members, AllocError>
+    ensures { IfOk result (λ ms. ms ≡ given key.now (option_map json_of value)) }
+{
+    let mut members = Members::new(alloc);
+    if let Some(value) = value {
+        members.push(Text::new(alloc, key)?, value)?;
+    }
+    Ok(members)
+}

@@ -1,0 +1,236 @@
+// What the files of a manifest define.
+ghost use Rattle.std.specs.Prelude.{◌≡◌, ◌++◌, [], false, map, option_map, IfOk, OnOk};
+ghost use Rattle.fml_types.specs.Named.{AreRising, has_name, with_name};
+ghost use Rattle.fml_imports.specs.Outcome.{Leaves, each};
+ghost use Rattle.fml_imports.specs.Held.{GivesHeld, held};
+ghost use Rattle.fml_imports.specs.Overrides.{file_overrides, overrides_of, overridden};
+ghost use Rattle.fml_imports.specs.Joining.{manifest_with, unknown_override};
+ghost use Rattle.fml_imports.specs.Tables.{no_tables, with_enum, with_object, with_feature, with_module, tables_of, feature_for, module_for};
+
+use crate::fault::{JoinFault, JoinRefusal};
+use crate::joining::Linked;
+use crate::overrides::{definition_for, lay, push_overrides};
+use fml_types::{
+    ByName, DefaultEntry, EnumDefinition, FeatureDefinition, Manifest, ObjectDefinition, TypeTable,
+};
+use sequences::{Sequence, Text};
+use std::alloc::{AllocError, Global};
+use std::collections::BTreeMap;
+
+/// What is defined, in order by name.
+#[derive(Drop)]
+pub(crate) struct TableMaps {
+    enums: BTreeMap<Text, EnumDefinition>,
+    objects: BTreeMap<Text, ObjectDefinition>,
+    features: BTreeMap<Text, FeatureDefinition>,
+}
+
+impl TableMaps {
+    fn new(alloc: Global) -> TableMaps
+        ensures { held result ≡ no_tables }
+    {
+        TableMaps {
+            enums: BTreeMap::new(alloc),
+            objects: BTreeMap::new(alloc),
+            features: BTreeMap::new(alloc),
+        }
+    }
+
+    /// Adds an enum, unless its name is met already.
+    fn add_enum(&mut self, name: Text, definition: EnumDefinition) -> Result<(), JoinFault>
+        ensures { Leaves (held self.new) result (with_enum (held self.old) (name, definition)) }
+    {
+        if has_name(&self.enums, &name) || has_name(&self.objects, &name) {
+            return Err(JoinFault::Refused(JoinRefusal::DuplicateName(name)));
+        }
+        insert(&mut self.enums, name, definition)?;
+        Ok(())
+    }
+
+    /// Adds an object, unless its name is met already.
+    fn add_object(&mut self, name: Text, definition: ObjectDefinition) -> Result<(), JoinFault>
+        ensures { Leaves (held self.new) result (with_object (held self.old) (name, definition)) }
+    {
+        if has_name(&self.enums, &name) || has_name(&self.objects, &name) {
+            return Err(JoinFault::Refused(JoinRefusal::DuplicateName(name)));
+        }
+        insert(&mut self.objects, name, definition)?;
+        Ok(())
+    }
+
+    /// Adds a feature, unless its name is met already.
+    fn add_feature(&mut self, name: Text, definition: FeatureDefinition) -> Result<(), JoinFault>
+        ensures { Leaves (held self.new) result (with_feature (held self.old) (name, definition)) }
+    {
+        if has_name(&self.features, &name) {
+            return Err(JoinFault::Refused(JoinRefusal::DuplicateName(name)));
+        }
+        insert(&mut self.features, name, definition)?;
+        Ok(())
+    }
+
+    #[tactic(auto, using(crate::proofs::Steps::each_fails, crate::proofs::Steps::each_turn))]
+    fn add_enums(&mut self, enums: ByName<EnumDefinition>) -> Result<(), JoinFault>
+        ensures { Leaves (held self.new) result (each with_enum (held self.old) enums) }
+    {
+        for (name, definition) in enums.into_vec() {
+            self.add_enum(name, definition)?;
+        }
+        Ok(())
+    }
+
+    #[tactic(auto, using(crate::proofs::Steps::each_fails, crate::proofs::Steps::each_turn))]
+    fn add_objects(&mut self, objects: ByName<ObjectDefinition>) -> Result<(), JoinFault>
+        ensures { Leaves (held self.new) result (each with_object (held self.old) objects) }
+    {
+        for (name, definition) in objects.into_vec() {
+            self.add_object(name, definition)?;
+        }
+        Ok(())
+    }
+
+    /// Adds the features of a file of this channel, with those of their entries that count for the
+    /// asked one.
+    #[tactic(auto, using(crate::proofs::Steps::each_fails, crate::proofs::Steps::each_turn))]
+    fn add_features(
+        &mut self,
+        alloc: Global,
+        asked: &Text,
+        channel: &Text,
+        features: ByName<FeatureDefinition>,
+    ) -> Result<(), JoinFault>
+        ensures { Leaves (held self.new) result (each with_feature (held self.old) (map (feature_for asked.now channel.now) features)) }
+    {
+        for (name, definition) in features.into_vec() {
+            let definition = definition_for(alloc, asked, channel, definition)?;
+            self.add_feature(name, definition)?;
+        }
+        Ok(())
+    }
+}
+
+#[tactic(auto, using(crate::proofs::Maps::held_name))]
+fn has_name<T>(map: &BTreeMap<Text, T>, name: &Text) -> bool
+    ensures { result ≡ has_name name.now map.now.entries }
+{
+    map.contains_key(name)
+}
+
+/// Puts a name at its place.
+#[tactic(auto, using(crate::proofs::Maps::put))]
+fn insert<T: Drop>(map: &mut BTreeMap<Text, T>, name: Text, value: T) -> Result<(), AllocError>
+    requires { has_name name map.old.entries ≡ false }
+    ensures { OnOk result (map.new.entries ≡ with_name (name, value) map.old.entries) }
+{
+    map.insert(name, value)?;
+    Ok(())
+}
+
+fn by_name<T: Drop>(alloc: Global, map: BTreeMap<Text, T>) -> Result<ByName<T>, AllocError>
+    ensures { IfOk result (λ names. names ≡ map.entries) }
+{
+    let pairs = pairs_of(alloc, map)?;
+    Ok(ByName::from_vec(pairs))
+}
+
+fn pairs_of<T: Drop>(alloc: Global, map: BTreeMap<Text, T>) -> Result<Vec<(Text, T)>, AllocError>
+    ensures items { IfOk result (λ pairs. pairs.items ≡ map.entries) }
+    ensures rising { IfOk result (λ pairs. AreRising pairs.items) }
+{
+    let pairs: Vec<(Text, T)> = map.into_iter().collect(alloc)?;
+    Ok(pairs)
+}
+
+/// What files define, and what their imports lay over features.
+#[derive(Drop)]
+pub(crate) struct Definitions {
+    tables: TableMaps,
+    overrides: Sequence<(Text, Sequence<DefaultEntry>)>,
+}
+
+impl Definitions {
+    /// Adds what a file says, as it counts for the asked channel.
+    #[tactic(auto, using(crate::proofs::Steps::fails_bind), unfolding(crate::specs::Tables::with_module))]
+    fn add_file(&mut self, alloc: Global, asked: &Text, file: Linked) -> Result<(), JoinFault>
+        ensures tables { Leaves (held self.new.tables) result (with_module (held self.old.tables) (module_for asked.now file)) }
+        ensures overrides { OnOk result (self.new.overrides ≡ self.old.overrides ++ file_overrides asked.now file) }
+    {
+        let channel = file.channel;
+        let module = file.module;
+        self.tables.add_enums(module.enums)?;
+        self.tables.add_enums(module.types_enums)?;
+        self.tables.add_objects(module.objects)?;
+        self.tables.add_objects(module.types_objects)?;
+        self.tables
+            .add_features(alloc, asked, &channel, module.features)?;
+        push_overrides(alloc, &mut self.overrides, asked, &channel, module.imports)?;
+        Ok(())
+    }
+
+    /// The first name of an override that no feature has.
+    #[tactic(auto, using(crate::proofs::Steps::found_here, crate::proofs::Steps::found_turn, crate::proofs::Steps::found_end))]
+    pub(crate) fn unknown_override(&self) -> Option<&Text>
+        ensures { option_map (λ name. name.now) result ≡ unknown_override self.now.overrides (held self.now.tables) }
+    {
+        for (name, _) in self.overrides.as_slice() {
+            if !has_name(&self.tables.features, name) {
+                return Some(name);
+            }
+        }
+        None
+    }
+
+    /// The manifest of all this, with no type looked at.
+    pub(crate) fn into_manifest(self, alloc: Global, channel: Text) -> Result<Manifest, AllocError>
+        ensures { IfOk result (λ m. m ≡ manifest_with (held self.tables) self.overrides channel) }
+    {
+        let tables = self.tables;
+        let overrides = self.overrides;
+        let types = TypeTable {
+            enums: by_name(alloc, tables.enums)?,
+            objects: by_name(alloc, tables.objects)?,
+        };
+        let features = overridden(tables.features, overrides)?;
+        let features = by_name(alloc, features)?;
+        Ok(Manifest {
+            types,
+            features,
+            channel,
+        })
+    }
+}
+
+/// The features with the overrides laid over them.
+fn overridden(
+    features: BTreeMap<Text, FeatureDefinition>,
+    overrides: Sequence<(Text, Sequence<DefaultEntry>)>,
+) -> Result<BTreeMap<Text, FeatureDefinition>, AllocError>
+    ensures { IfOk result (λ all. all.entries ≡ map (overridden overrides) features.entries) }
+{
+    let mut features = features;
+    for (name, entries) in overrides.into_vec() {
+        lay(&mut features, &name, entries)?;
+    }
+    Ok(features)
+}
+
+/// What the files define and lay over features, as it counts for the asked channel, where no name
+/// is met twice in its space.
+#[tactic(auto, using(crate::proofs::Steps::each_fails, crate::proofs::Steps::each_turn))]
+pub(crate) fn defined(
+    alloc: Global,
+    files: Sequence<Linked>,
+    asked: &Text,
+) -> Result<Definitions, JoinFault>
+    ensures tables { GivesHeld result (tables_of (map (module_for asked.now) files)) }
+    ensures overrides { IfOk result (λ d. d.overrides ≡ overrides_of asked.now files) }
+{
+    let mut definitions = Definitions {
+        tables: TableMaps::new(alloc),
+        overrides: Sequence::new(alloc),
+    };
+    for file in files.into_vec() {
+        definitions.add_file(alloc, asked, file)?;
+    }
+    Ok(definitions)
+}

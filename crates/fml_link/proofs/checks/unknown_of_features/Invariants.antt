@@ -1,8 +1,0 @@
-use Rattle.std.proofs.Common.{◌≡◌, ℕ, List, drop}
-use Rattle.fml_types.specs.declared.manifest.FeatureDefinition.{FeatureDefinition}
-use Rattle.fml_link.specs.Linking.{first_found, unknown_in}
-use Rattle.fml_link.proofs.checks.unknown_of_features.Given as goal
-
-abbrev pub invariant-loop-feature : goal.invariant-loop-feature
-invariant-loop-feature l =
-    first_found (λ (p : List ℕ × FeatureDefinition). unknown_in l.types p.1.variables) (drop l.feature-index l.feature-items) ≡ first_found (λ (p : List ℕ × FeatureDefinition). unknown_in l.types p.1.variables) l.features

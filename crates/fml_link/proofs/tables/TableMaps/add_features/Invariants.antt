@@ -1,7 +1,0 @@
-use Rattle.std.proofs.Common.{◌≡◌}
-use Rattle.fml_link.specs.Outcome.{each}
-use Rattle.fml_link.specs.Tables.{held, with_feature}
-use Rattle.fml_link.proofs.tables.TableMaps.add_features.Given as goal
-
-abbrev pub invariant-loop-name : goal.invariant-loop-name
-invariant-loop-name l = each with_feature (held l.self) l.name-iterator.rest.items ≡ each with_feature (held l.fn.self) l.fn.features
