@@ -15,6 +15,7 @@ use Rattle.enrol_states.proofs.Ordered.{bytes_turned}
 use Rattle.app_context.specs.declared.context.Context.{Context}
 use Rattle.app_context.specs.Keys.{name_of, text_keys}
 use Rattle.app_context.specs.Attributes.{text_entries, locale_entries, client_entries, enrolment_entries, shared_entries, enrolled_name, other_names, is_table_name, custom_attributes, entered, shared_attributes, attributes}
+use Rattle.app_context.specs.Events.{counts_name, with_events, HaveCounts}
 use Rattle.app_context.specs.Laws.{table, value_in, AreByTable}
 use Rattle.app_context.proofs.Entries.{entered-append}
 
@@ -152,4 +153,21 @@ by_table c s slug now name =
     ∙ (elim (is_table_name name) as (λ b. is_table_name name ≡ b → get_member name (members_of (entered t custom)) ≡ value_in t name other) [
       | true ↦ λ e. has_entered t name custom (table_distinct c s slug now) (custom_gone name e c.custom) ∙ has_value t name None other (is ∙ e)
       | false ↦ λ e. lacks_entered t name custom (is ∙ e) ∙ custom_kept name e c.custom ∙ sym (lacks_value t name other (is ∙ e))
+    ] refl)
+
+-- ---- the counts of events
+
+no_table_name : (name : List ℕ) → bytes_eq counts_name name ≡ true → is_table_name name ≡ false
+no_table_name name same = subst (λ n. is_table_name n ≡ false) ((bytes_decides counts_name name).0 same) refl
+
+pub have_counts : HaveCounts
+unfolding text_entries locale_entries client_entries enrolment_entries
+have_counts c x s slug now name =
+    let t = table c s slug now in
+    by_table (with_events c x) s slug now name
+    ∙ ap (λ o. value_in t name (option_map without_odd o)) (get_member-with counts_name x c.custom name)
+    ∙ (elim (bytes_eq counts_name name) as (λ b. bytes_eq counts_name name ≡ b
+    → value_in t name (option_map without_odd (if b then Some x else get_member name (members_of c.custom))) ≡ (if b then Some (without_odd x) else get_member name (members_of (attributes c s slug now)))) [
+      | true ↦ λ e. lacks_value t name (Some (without_odd x)) (table_has c s slug now name ∙ no_table_name name e)
+      | false ↦ λ e. sym (by_table c s slug now name)
     ] refl)

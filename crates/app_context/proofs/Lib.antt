@@ -6,3 +6,5 @@ pub mod Loops
 pub mod Rows
 pub mod Wanted
 pub mod ByTable
+pub mod Besides
+pub mod Turns

@@ -5,3 +5,5 @@ pub mod Locales
 pub mod Enrolments
 pub mod Attributes
 pub mod Laws
+pub mod Events
+pub mod Sides

@@ -5,6 +5,7 @@ mod context;
 mod custom;
 mod enrolments;
 mod entering;
+mod events;
 mod key;
 mod laws;
 mod locale;
@@ -14,8 +15,9 @@ mod reading;
 mod targeting;
 
 pub use context::Context;
+pub use events::with_events;
 pub use key::ContextKey;
-pub use laws::attributes_are_by_table;
+pub use laws::{attributes_are_by_table, counts_are_attributes};
 pub use named::NamedTexts;
 pub use reading::{ContextFault, read_context};
 pub use targeting::{attributes, set_already_enrolled, shared_attributes};

@@ -11,7 +11,8 @@ use app_context::{Context, read_context};
 use enrol_evolver::{evolve, verdict};
 use enrol_states::{State, Verdict};
 use jexl_transforms::{
-    Transform, TransformTable, bucket_transform, date_transform, version_transform,
+    Transform, TransformTable, bucket_transform, date_transform, event_nonzero_transform,
+    event_seen_transform, event_sum_transform, version_transform,
 };
 use jexl_value::{Attributes, Value};
 use recipe_reader::Recipe;
@@ -47,11 +48,32 @@ pub(crate) fn verdict_on(alloc: Global, given: &str, input: &str) -> Result<Stri
             bucket_transform(alloc, attributes, subject, arguments)
         },
     )?;
+    let sum: Transform = Box::new(
+        alloc,
+        |attributes: &Attributes, subject: &Value, arguments: &[Value]| {
+            event_sum_transform(attributes, subject, arguments)
+        },
+    )?;
+    let nonzero: Transform = Box::new(
+        alloc,
+        |attributes: &Attributes, subject: &Value, arguments: &[Value]| {
+            event_nonzero_transform(attributes, subject, arguments)
+        },
+    )?;
+    let seen: Transform = Box::new(
+        alloc,
+        |attributes: &Attributes, subject: &Value, arguments: &[Value]| {
+            event_seen_transform(attributes, subject, arguments)
+        },
+    )?;
     let mut table = TransformTable::new(alloc);
-    let (Ok(()), Ok(()), Ok(())) = (
+    let (Ok(()), Ok(()), Ok(()), Ok(()), Ok(()), Ok(())) = (
         table.push(alloc, "versionCompare", version),
         table.push(alloc, "date", date),
         table.push(alloc, "bucketSample", bucket),
+        table.push(alloc, "eventSum", sum),
+        table.push(alloc, "eventCountNonZero", nonzero),
+        table.push(alloc, "eventLastSeen", seen),
     ) else {
         bail!("no table");
     };

@@ -38,7 +38,7 @@ module _ (has : List ℕ → Bool) (attributes : Members) (current : Json) where
   filter_on b x = filter_items x >>= λ xs. filter_kept b xs
 
   abbrev transform_on : List ℕ → Trees → Json → Result Json Fault
-  transform_on name ts x = meanings has attributes current ts >>= λ xs. transformed has name x xs
+  transform_on name ts x = meanings has attributes current ts >>= λ xs. transformed has name attributes x xs
 
   abbrev index_on : Tree → Json → Result Json Fault
   index_on b x = m b >>= λ key. Ok (index x key)
@@ -99,11 +99,11 @@ module _ (has : List ℕ → Bool) (attributes : Members) (current : Json) where
   transform_fail a name ts f h = fails_then f (m a) (transform_on name ts) h
 
   pub arguments_fail : (a : Tree) (name : List ℕ) (ts : Trees) (x : Json) (f : EvalFault) → m a ≡ Ok x → Fails f (meanings has attributes current ts) → Fails f (m (Transform a name ts))
-  arguments_fail a name ts x f e h = goes (Fails f) (m a) x (transform_on name ts) e (fails_then f (meanings has attributes current ts) (λ xs. transformed has name x xs) h)
+  arguments_fail a name ts x f e h = goes (Fails f) (m a) x (transform_on name ts) e (fails_then f (meanings has attributes current ts) (λ xs. transformed has name attributes x xs) h)
 
   pub transform_goes : (a : Tree) (name : List ℕ) (ts : Trees) (x : Json) (xs : List Json) (r : Result Found EvalFault) → m a ≡ Ok x → meanings has attributes current ts ≡ Ok xs
-      → Gives found_as_json r (transformed has name x xs) → Gives found_as_json r (m (Transform a name ts))
-  transform_goes a name ts x xs r e d h = goes (Gives found_as_json r) (m a) x (transform_on name ts) e (goes (Gives found_as_json r) (meanings has attributes current ts) xs (λ xs. transformed has name x xs) d h)
+      → Gives found_as_json r (transformed has name attributes x xs) → Gives found_as_json r (m (Transform a name ts))
+  transform_goes a name ts x xs r e d h = goes (Gives found_as_json r) (m a) x (transform_on name ts) e (goes (Gives found_as_json r) (meanings has attributes current ts) xs (λ xs. transformed has name attributes x xs) d h)
 
   pub not_fail : (a : Tree) (f : EvalFault) → Fails f (m a) → Fails f (m (Not a))
   not_fail a f h = fails_then f (m a) (λ x. Ok (truth (not (is_truthy x)))) h

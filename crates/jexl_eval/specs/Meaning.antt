@@ -20,10 +20,10 @@ abbrev pub answered : Option Json → Result Json Fault
 answered (Some x) = Ok x
 answered None = Err BadArguments
 
--- the answer of a transform, where `has` says which ones the table has
-abbrev pub transformed : (List ℕ → Bool) → List ℕ → Json → List Json → Result Json Fault
-transformed has name subject arguments =
-    if has name then answered (transforms.meaning name subject arguments) else Err UnknownTransform
+-- the answer of a transform beside these attributes, where `has` says which ones the table has
+abbrev pub transformed : (List ℕ → Bool) → List ℕ → Members → Json → List Json → Result Json Fault
+transformed has name attributes subject arguments =
+    if has name then answered (transforms.meaning name attributes subject arguments) else Err UnknownTransform
 
 -- the truth that is decided, else what comes of the right side
 abbrev pub unless_decided : Option Bool → Result Json Fault → Result Json Fault
@@ -53,7 +53,7 @@ abbrev mutual
   meaning has attributes current (Filter a b) =
       meaning has attributes current a >>= λ x. filter_items x >>= λ xs. kept (λ y. meaning has attributes y b) xs >>= λ ys. Ok (list (items_of ys))
   meaning has attributes current (Transform a name ts) =
-      meaning has attributes current a >>= λ x. meanings has attributes current ts >>= λ xs. transformed has name x xs
+      meaning has attributes current a >>= λ x. meanings has attributes current ts >>= λ xs. transformed has name attributes x xs
   meaning has attributes current (Not a) = meaning has attributes current a >>= λ x. Ok (truth (not (is_truthy x)))
   meaning has attributes current (Binary o a b) =
       meaning has attributes current a >>= λ x. unless_decided (decided o x) (meaning has attributes current b >>= λ y. operate o x y)

@@ -1,5 +1,6 @@
 // Calls of the transforms of a table.
 ghost use Rattle.std.specs.Prelude.{map};
+ghost use Rattle.json_tree.specs.Json.{members_of};
 ghost use Rattle.jexl_value.specs.Value.{as_json};
 ghost use Rattle.jexl_transforms.specs.Table.{has_transform};
 ghost use Rattle.jexl_eval.specs.Gives.{Gives};
@@ -11,8 +12,9 @@ use crate::found::Found;
 use jexl_transforms::{CallFault, TransformTable};
 use jexl_value::{Attributes, Value};
 
-/// The value of the table's transform of this name. UnknownTransform exactly where there is none, and
-/// BadArguments exactly where the transform refuses the subject and the arguments.
+/// The value of the table's transform of this name beside these attributes. UnknownTransform exactly
+/// where there is none, and BadArguments exactly where the transform refuses the subject and the
+/// arguments.
 pub(crate) fn transformed<'a>(
     table: &TransformTable,
     name: &str,
@@ -20,7 +22,7 @@ pub(crate) fn transformed<'a>(
     subject: &Value,
     arguments: &[Value],
 ) -> Result<Found<'a>, EvalFault>
-    ensures { Gives found_as_json result (transformed (has_transform table.now) name.now (as_json subject.now) (map as_json arguments.now)) }
+    ensures { Gives found_as_json result (transformed (has_transform table.now) name.now (members_of attributes.now.pairs) (as_json subject.now) (map as_json arguments.now)) }
 {
     match table.call(name, attributes, subject, arguments) {
         Ok(value) => Ok(Found::Owned(value)),

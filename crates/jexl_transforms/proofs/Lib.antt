@@ -1,3 +1,5 @@
 mod Named
 mod Kept
 pub mod Refusing
+pub mod SeenCounts
+pub mod Names

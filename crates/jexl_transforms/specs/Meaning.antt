@@ -1,12 +1,14 @@
 -- What a transform of each standard name gives for a subject and arguments.
-use Rattle.std.specs.Prelude.{ℕ, ℤ, pos, negsuc, neg_ℤ, Bool, nat_le, ◌&&◌, List, [], ◌∷◌, codes, Option, Some, None, option_map, option_and_then, bytes_eq, if◌then◌else◌}
+use Rattle.std.specs.Prelude.{ℕ, ℤ, pos, neg_ℤ, Bool, List, [], ◌∷◌, codes, Option, Some, None, option_map, option_and_then, bytes_eq, if◌then◌else◌}
 use Rattle.std.specs.List.{list_any}
 use Rattle.std.specs.declared.cmp.Ordering.{Ordering}
 use Rattle.std.specs.declared.cmp.Ordering.TheVariants.{Less, Equal, Greater}
-use Rattle.json_tree.specs.Json.{Json, truth, whole, text}
+use Rattle.json_tree.specs.Json.{Json, Members, truth, whole, text}
 use Rattle.json_tree.specs.Bytes.{text_of}
 use Rattle.plain_text.specs.Moments.{moment}
 use Rattle.jexl_transforms.specs.declared.range.Range.{Range}
+use Rattle.jexl_transforms.specs.Events.{event_sum_value, event_nonzero_value, event_seen_value}
+use Rattle.jexl_transforms.specs.Numbers.{bound_of}
 use Rattle.sampling.specs.Sampling.{point_of, is_in_range}
 use Rattle.version_compare.specs.Versions.{version_order}
 
@@ -26,15 +28,6 @@ abbrev pub date_value : Json → List Json → Option Json
 date_value (text written) [] = option_map whole (moment written)
 date_value subject arguments = None
 
--- the number, where it is from `low` to 2 ^ 32 - 1
-abbrev pub bound_within : ℕ → ℤ → Option ℕ
-bound_within low (pos n) = if nat_le low n && nat_le n 4294967295 then Some n else None
-bound_within low (negsuc n) = None
-
-abbrev pub bound_of : ℕ → Json → Option ℕ
-bound_of low (whole n) = bound_within low n
-bound_of low x = None
-
 abbrev pub range : ℕ → ℕ → ℕ → Range
 range start count total = record { start = start; count = count; total = total }
 
@@ -52,16 +45,23 @@ holds_point r point = is_in_range point r.start r.count r.total
 abbrev pub bucket_value : Json → List Json → Option Json
 bucket_value subject arguments = option_map (λ r. truth (holds_point r (point_of (text_of subject)))) (range_of arguments)
 
--- the value that the transform of this name has, or none where it refuses the subject and the arguments
-abbrev pub meaning : List ℕ → Json → List Json → Option Json
-meaning name subject arguments =
+-- the value that the transform of this name has beside these attributes, or none where it refuses the subject and the arguments
+abbrev pub meaning : List ℕ → Members → Json → List Json → Option Json
+meaning name attributes subject arguments =
     if bytes_eq name (codes "versionCompare") then version_value subject arguments
     else (if bytes_eq name (codes "date") then date_value subject arguments
-    else (if bytes_eq name (codes "bucketSample") then bucket_value subject arguments else None))
+    else (if bytes_eq name (codes "bucketSample") then bucket_value subject arguments
+    else (if bytes_eq name (codes "eventSum") then event_sum_value attributes subject arguments
+    else (if bytes_eq name (codes "eventCountNonZero") then event_nonzero_value attributes subject arguments
+    else (if bytes_eq name (codes "eventLastSeen") then event_seen_value attributes subject arguments else None)))))
+
+-- the names whose meaning doesn't depend on the attributes
+abbrev pub names_by_subject : List (List ℕ)
+names_by_subject = codes "versionCompare" ∷ codes "date" ∷ codes "bucketSample" ∷ []
 
 -- the names that have a meaning
 abbrev pub standard_names : List (List ℕ)
-standard_names = codes "versionCompare" ∷ codes "date" ∷ codes "bucketSample" ∷ []
+standard_names = codes "versionCompare" ∷ codes "date" ∷ codes "bucketSample" ∷ codes "eventSum" ∷ codes "eventCountNonZero" ∷ codes "eventLastSeen" ∷ []
 
 -- the name is one of these
 abbrev pub has_name : List ℕ → List (List ℕ) → Bool

@@ -3,10 +3,11 @@ ghost use Rattle.std.specs.Prelude.{◌≡◌, ◌<◌, ◌^◌, map, IfOk, IfSo
 ghost use Rattle.json_tree.specs.Bytes.{text_of};
 ghost use Rattle.sampling.specs.Sampling.{point_of};
 ghost use Rattle.jexl_value.specs.Value.{as_json};
-ghost use Rattle.jexl_transforms.specs.Meaning.{bound_within, bound_of, range_of, holds_point, bucket_value};
+ghost use Rattle.jexl_transforms.specs.Meaning.{range_of, holds_point, bucket_value};
 ghost use Rattle.jexl_transforms.specs.Answering.{Answers};
 
 use crate::answer::TransformAnswer;
+use crate::numbers::bound_of;
 use crate::range::Range;
 use jexl_value::{Attributes, Value, tree_of};
 use json_tree::write;
@@ -47,26 +48,6 @@ fn range_of(arguments: &[Value]) -> Option<Range>
             total: bound_of(1, total)?,
         }),
         _ => None,
-    }
-}
-
-// The whole number, where it is from `low` to 2^32 - 1.
-fn bound_of(low: u32, value: &Value) -> Option<u32>
-    ensures { result ≡ bound_of low (as_json value.now) }
-{
-    match value {
-        Value::Whole(number) => bound_within(low, *number),
-        _ => None,
-    }
-}
-
-fn bound_within(low: u32, number: i64) -> Option<u32>
-    ensures { result ≡ bound_within low number }
-{
-    if number >= i64::from(low) && number <= i64::from(u32::MAX) {
-        Some(number as u32)
-    } else {
-        None
     }
 }
 

@@ -3,8 +3,12 @@
 
 mod answer;
 mod buckets;
+mod counts;
 mod dates;
 mod entry;
+mod events;
+mod laws;
+mod numbers;
 mod range;
 mod table;
 mod versions;
@@ -12,5 +16,7 @@ mod versions;
 pub use answer::{CallFault, PushFault, Transform, TransformAnswer};
 pub use buckets::bucket_transform;
 pub use dates::date_transform;
+pub use events::{event_nonzero_transform, event_seen_transform, event_sum_transform};
+pub use laws::some_need_no_attributes;
 pub use table::TransformTable;
 pub use versions::version_transform;

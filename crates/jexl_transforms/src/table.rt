@@ -15,6 +15,7 @@ pub struct TransformTable {
 }
 
 impl TransformTable {
+    ghost use Rattle.json_tree.specs.Json.{members_of};
     ghost use Rattle.jexl_value.specs.Value.{as_json};
     ghost use Rattle.jexl_transforms.specs.Meaning.{has_name, is_standard};
     ghost use Rattle.jexl_transforms.specs.Answering.{AnswersAs, Calls, result_of};
@@ -80,14 +81,14 @@ impl TransformTable {
         None
     }
 
-    /// The value of the transform of this name, for a subject and arguments, as the stored closure
-    /// gives it.
+    /// The value of the transform of this name beside these attributes, for a subject and arguments, as
+    /// the stored closure gives it.
     ///
     /// # Errors
     ///
     /// `UnknownTransform` exactly where the table has no transform of the name. `BadArguments` exactly
-    /// where what the name means refuses the subject and the arguments. `OutOfMemory` only
-    /// where the closure answers it.
+    /// where what the name means refuses the subject and the arguments. `OutOfMemory` only where the
+    /// closure answers it.
     pub fn call(
         &self,
         name: &str,
@@ -95,7 +96,7 @@ impl TransformTable {
         subject: &Value,
         arguments: &[Value],
     ) -> Result<Value, CallFault>
-        ensures answer { Calls (has_transform self.now) name.now (as_json subject.now) (map as_json arguments.now) result }
+        ensures answer { Calls (has_transform self.now) name.now (members_of attributes.now.pairs) (as_json subject.now) (map as_json arguments.now) result }
         ensures stored { (result ≡ Err CallFault.UnknownTransform) ⊎ ((e : _) × Contains self.now.entries.items e × (e.name ≡ name.now) × (answer : TransformAnswer) × Transform.post e.run attributes.entry subject.entry arguments.entry answer × (result ≡ result_of answer)) }
     {
         match self.find(name) {

@@ -10,7 +10,8 @@ use jexl_eval::{eval, eval_truth};
 use jexl_lexer::lex;
 use jexl_parser::{Expr, parse};
 use jexl_transforms::{
-    Transform, TransformAnswer, TransformTable, bucket_transform, date_transform, version_transform,
+    Transform, TransformAnswer, TransformTable, bucket_transform, date_transform,
+    event_nonzero_transform, event_seen_transform, event_sum_transform, version_transform,
 };
 use jexl_value::{Attributes, NamedValues, Value};
 use row_tables::{debugged, displayed, word};
@@ -57,8 +58,34 @@ pub(crate) fn with_standard(alloc: Global, kind: &str, given: &str, input: &str)
         },
     )?;
     put(alloc, &mut table, "bucketSample", bucket)?;
-    ensure!(table.names() == 3, "it has other names");
+    put_events(alloc, &mut table)?;
+    ensure!(table.names() == 6, "it has other names");
     found(alloc, &table, kind, given, input)
+}
+
+// Puts the transforms of events at the end of a table.
+fn put_events(alloc: Global, table: &mut TransformTable) -> Result<()> {
+    let sum: Transform = Box::new(
+        alloc,
+        |attributes: &Attributes, subject: &Value, arguments: &[Value]| {
+            event_sum_transform(attributes, subject, arguments)
+        },
+    )?;
+    put(alloc, table, "eventSum", sum)?;
+    let nonzero: Transform = Box::new(
+        alloc,
+        |attributes: &Attributes, subject: &Value, arguments: &[Value]| {
+            event_nonzero_transform(attributes, subject, arguments)
+        },
+    )?;
+    put(alloc, table, "eventCountNonZero", nonzero)?;
+    let seen: Transform = Box::new(
+        alloc,
+        |attributes: &Attributes, subject: &Value, arguments: &[Value]| {
+            event_seen_transform(attributes, subject, arguments)
+        },
+    )?;
+    put(alloc, table, "eventLastSeen", seen)
 }
 
 /// A row over a table whose closures find no memory, of the kind `wanting-value` or `wanting-call`.

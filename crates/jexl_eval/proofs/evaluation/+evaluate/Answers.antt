@@ -165,8 +165,8 @@ pub returns-in-Transform : goal.returns-in-Transform
 returns-in-Transform g t c =
     gives_at _ _ _ _ _ c.transformed.result (ap view c.in-Transform.is ∙ view_transform c.in-Transform.subject c.in-Transform.name c.in-Transform.arguments ∙ ap₂ (λ n ns. trees.Transform (view n) c.in-Transform.name (views ns)) (sym c.deref-in-Transform.ensures) (sym c.as_slice-arguments.ensures.value))
     (transform_goes _ _ _ (view c.deref-in-Transform.result.now) c.in-Transform.name (views c.as_slice-arguments.result.now) (found_as_json c.in_ok-subject-in-Transform.subject) c.loop-argument.values c.transformed.result c.in_ok-subject-in-Transform.ensures (c.loop-argument.invariant.same ∙ nodes_end _ _ _ c.as_slice-arguments.result.now c.loop-argument.argument-index c.loop-argument.values c.loop-argument-test.false)
-    (subst (λ n. Gives found_as_json c.transformed.result (transformed (has_transform c.args.table.now) n (found_as_json c.in_ok-subject-in-Transform.subject) c.loop-argument.values)) c.as_str-in-Transform.ensures.text (subst (λ xs. Gives found_as_json c.transformed.result (transformed (has_transform c.args.table.now) c.as_str-in-Transform.result.now (found_as_json c.in_ok-subject-in-Transform.subject) xs)) c.as_slice.ensures.items
-    (subst (λ x. Gives found_as_json c.transformed.result (transformed (has_transform c.args.table.now) c.as_str-in-Transform.result.now x (map as_json c.as_slice.result.now))) (c.value-in-Transform.ensures ∙ ap found_as_json c.loop-argument.invariant.subject) c.transformed.ensures))))
+    (subst (λ n. Gives found_as_json c.transformed.result (transformed (has_transform c.args.table.now) n (members_of c.args.attributes.now.pairs) (found_as_json c.in_ok-subject-in-Transform.subject) c.loop-argument.values)) c.as_str-in-Transform.ensures.text (subst (λ xs. Gives found_as_json c.transformed.result (transformed (has_transform c.args.table.now) c.as_str-in-Transform.result.now (members_of c.args.attributes.now.pairs) (found_as_json c.in_ok-subject-in-Transform.subject) xs)) c.as_slice.ensures.items
+    (subst (λ x. Gives found_as_json c.transformed.result (transformed (has_transform c.args.table.now) c.as_str-in-Transform.result.now (members_of c.args.attributes.now.pairs) x (map as_json c.as_slice.result.now))) (c.value-in-Transform.ensures ∙ ap found_as_json c.loop-argument.invariant.subject) c.transformed.ensures))))
 
 pub returns-in_err-value-in-Not : goal.returns-in_err-value-in-Not
 returns-in_err-value-in-Not g t c =
