@@ -1,5 +1,8 @@
 pub mod ByteOrder
 pub mod Numbers
+pub mod EntryTurns
+pub mod RowSizes
+pub mod RowsOfNext
 pub mod Order
 pub mod OneList
 pub mod Histories

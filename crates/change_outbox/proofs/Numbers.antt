@@ -1,12 +1,11 @@
 -- Numbered changes: what is appended and what a confirmation leaves are numbered.
-use Rattle.std.proofs.Common.{◌≡◌, ℕ, zero, suc, ◌+◌, ◌-◌, ◌<◌, ◌≤◌, Bool, true, false, cond, List, [], ◌∷◌, ◌++◌, length, drop, inl, inr, refl, sym, ap, ◌∙◌, subst, arith}
+use Rattle.std.proofs.Common.{◌≡◌, ℕ, zero, suc, ◌+◌, ◌-◌, ◌<◌, ◌≤◌, Bool, true, false, cond, List, [], ◌∷◌, ◌++◌, length, drop, inl, inr, refl, sym, ap, ap₂, ◌∙◌, subst, arith}
 use Rattle.std.specs.Prelude.{nat_lt}
 use Rattle.std.proofs.Math.Seq.{drop-nil}
 use Rattle.std.proofs.lemmas.Bool.{cases_lt, lt-ltb, le-ltb}
-use Rattle.std.proofs.lemmas.List.{length-append, length-drop, drop-append-le, drop-drop}
+use Rattle.std.proofs.lemmas.List.{length-append, length-drop}
 use Rattle.change_outbox.specs.declared.change.Change.{Change}
-use Rattle.change_outbox.specs.Contents.{Contents, AreNumberedFrom, IsNumbered, last_number, numbered, appended, above, confirmed}
-use Rattle.change_outbox.specs.Keeping.{KeepsEntries}
+use Rattle.change_outbox.specs.Contents.{Contents, AreNumberedFrom, HasSlugs, HaveSlugs, IsNumbered, IsSound, last_number, no_changes, numbered, appended, above, confirmed}
 
 pub from : (m n : ℕ) (cs : List Change) → m ≡ n → AreNumberedFrom m cs → AreNumberedFrom n cs
 from m n cs same are = subst (λ k. AreNumberedFrom k cs) same are
@@ -41,8 +40,17 @@ appended_is o cs is within =
           (numbered_append (o.next - length o.entries) o.entries (numbered o.next cs) is.numbers (from o.next (o.next - length o.entries + length o.entries) (numbered o.next cs) (omega (arith, least)) (numbered_from o.next cs)));
     }
 
-pub entries_appended : (passed : ℕ) (changes more : List Change) → passed ≤ length changes → drop passed (changes ++ more) ≡ drop passed changes ++ more
-entries_appended passed changes more within = drop-append-le passed changes more within
+slugs_numbered : (n : ℕ) (cs : List Change) → HaveSlugs cs → HaveSlugs (numbered n cs)
+slugs_numbered n [] slugs = tt
+slugs_numbered n (c ∷ cs) slugs = (record { slug = slugs.0.slug; branch = slugs.0.branch }, slugs_numbered (n + 1) cs slugs.1)
+
+slugs_appended : (xs ys : List Change) → HaveSlugs xs → HaveSlugs ys → HaveSlugs (xs ++ ys)
+slugs_appended [] ys xs_have ys_have = ys_have
+slugs_appended (x ∷ xs) ys xs_have ys_have = (xs_have.0, slugs_appended xs ys xs_have.1 ys_have)
+
+pub appended_sound : (o : Contents) (cs : List Change) → IsSound o → HaveSlugs cs → o.next + length cs ≤ last_number → IsSound (appended cs o)
+appended_sound o cs sound slugs within =
+    record { numbered = appended_is o cs sound.numbered within; slugs = slugs_appended o.entries (numbered o.next cs) sound.slugs (slugs_numbered o.next cs slugs) }
 
 -- ---- what a confirmation leaves
 
@@ -74,57 +82,40 @@ drop_is next es k is within =
       numbers = from (next - length es + k) (next - length (drop k es)) (drop k es) (omega (arith, count, least)) (numbered_drop (next - length es) k es is.numbers within);
     }
 
--- the fields after a confirmation, which leaves so many changes where these are fewer than the entries
-module _ (next number : ℕ) (changes : List Change) (passed : ℕ) (keeps : KeepsEntries next changes passed) (below : number < next) where
-  abbrev entries : List Change
-  entries = drop passed changes
+slugs_dropped : (k : ℕ) (cs : List Change) → HaveSlugs cs → HaveSlugs (drop k cs)
+slugs_dropped zero cs slugs = slugs
+slugs_dropped (suc k) [] slugs = tt
+slugs_dropped (suc k) (c ∷ cs) slugs = slugs_dropped k cs slugs.1
 
-  abbrev contents : List Change → Contents
-  contents es = record { next = next; entries = es }
+pub last_sound : (o : Contents) (k : ℕ) → IsSound o → k ≤ length o.entries → IsSound (record { next = o.next; entries = drop k o.entries })
+last_sound o k sound within = record { numbered = drop_is o.next o.entries k sound.numbered within; slugs = slugs_dropped k o.entries sound.slugs }
 
-  pub none_confirmed : length changes - passed ≤ next - 1 - number → contents entries ≡ confirmed number (contents entries)
-  none_confirmed least =
-      let count : length entries ≡ length changes - passed = length-drop passed changes in
-      let first : length entries < next = keeps.numbered.first in
-      let none : number + 1 - (next - length entries) ≡ 0 = omega (arith, count, first) in
-      sym (ap contents (above-drop number (next - length entries) entries keeps.numbered.numbers ∙ ap (λ k. drop k entries) none))
+pub new_sound : IsSound no_changes
+new_sound = record { numbered = record { first = omega arith; last = omega arith; numbers = tt }; slugs = tt }
 
-  module _ (less : next - 1 - number < length changes - passed) where
-    count : length entries ≡ length changes - passed
-    count = length-drop passed changes
+-- a confirmation leaves the last entries
+module _ (o : Contents) (number : ℕ) (is : IsNumbered o) (below : number < o.next) where
+  confirmed-drop : (k : ℕ) → number + 1 - (o.next - length o.entries) ≡ k → record { next = o.next; entries = drop k o.entries } ≡ confirmed number o
+  confirmed-drop k same =
+      ap (λ (es : List Change). record { next = o.next; entries = es }) (ap (λ n. drop n o.entries) (sym same) ∙ sym (above-drop number (o.next - length o.entries) o.entries is.numbers))
 
-    abbrev more : ℕ
-    more = number + 1 - (next - length entries)
+  pub none_confirmed : length o.entries ≤ o.next - 1 - number → o ≡ confirmed number o
+  none_confirmed least = let first : length o.entries < o.next = is.first in confirmed-drop 0 (omega (arith, first))
 
-    passes : passed + more ≡ length changes - (next - 1 - number)
-    passes = let within : passed ≤ length changes = keeps.within in let first : length entries < next = keeps.numbered.first in omega (arith, count, within, first)
+  pub some_confirmed : o.next - 1 - number < length o.entries → record { next = o.next; entries = drop (length o.entries - (o.next - 1 - number)) o.entries } ≡ confirmed number o
+  some_confirmed less = let first : length o.entries < o.next = is.first in confirmed-drop (length o.entries - (o.next - 1 - number)) (omega (arith, first))
 
-    left : drop more entries ≡ drop (length changes - (next - 1 - number)) changes
-    left = drop-drop more passed changes ∙ ap (λ n. drop n changes) passes
+-- the last entries, as they were read
+module _ (o : Contents) (number next : ℕ) (entries last : List Change) (sound : IsSound o) (next_is : next ≡ o.next) (entries_are : entries ≡ o.entries) (below : number < next)
+    (less : next - 1 - number < length entries) (last_are : last ≡ drop (length entries - (next - 1 - number)) entries) where
+  abbrev kept : ℕ → List Change → List Change
+  kept n es = drop (length es - (n - 1 - number)) es
 
-    pub some_confirmed : (len : ℕ) → len ≡ length changes → contents (drop (len - (next - 1 - number)) changes) ≡ confirmed number (contents entries)
-    some_confirmed len is =
-        ap (λ n. contents (drop (n - (next - 1 - number)) changes)) is ∙ ap contents (sym left) ∙ sym (ap contents (above-drop number (next - length entries) entries keeps.numbered.numbers))
+  left : ◌≡◌ {A = Contents} (record { next = next; entries = last }) (record { next = o.next; entries = kept o.next o.entries })
+  left = λ i. record { next = next_is i; entries = (last_are ∙ ap₂ kept next_is entries_are) i }
 
-    pub keeps_confirmed : (len : ℕ) → len ≡ length changes → KeepsEntries next changes (len - (next - 1 - number))
-    keeps_confirmed len is =
-        let within : passed ≤ length changes = keeps.within in
-        let first : length entries < next = keeps.numbered.first in
-        let sum : passed + more ≡ len - (next - 1 - number) = passes ∙ ap (λ n. n - (next - 1 - number)) (sym is) in
-        record {
-          within = omega (arith, is);
-          numbered = subst (λ (es : List Change). IsNumbered (contents es)) (drop-drop more passed changes ∙ ap (λ n. drop n changes) sum) (drop_is next entries more keeps.numbered (omega (arith, count, within, first)));
-        }
+  pub left_sound : IsSound (record { next = next; entries = last })
+  left_sound = subst IsSound (sym left) (last_sound o (length o.entries - (o.next - 1 - number)) sound (omega arith))
 
--- the fields where changes are appended
-pub keeps_appended : (next passed count : ℕ) (changes more pushed : List Change) → KeepsEntries next changes passed → pushed ≡ changes ++ numbered next more → count ≡ length more → next + length more ≤ last_number
-    → KeepsEntries (next + count) pushed passed
-keeps_appended next passed count changes more pushed keeps is same within =
-    let fits : passed ≤ length changes = keeps.within in
-    let sum = appended_is (record { next = next; entries = drop passed changes }) more keeps.numbered within in
-    let entries : drop passed changes ++ numbered next more ≡ drop passed pushed = sym (ap (drop passed) is ∙ entries_appended passed changes (numbered next more) fits) in
-    let total : length pushed ≡ length changes + length (numbered next more) = ap length is ∙ length-append changes (numbered next more) in
-    record {
-      within = omega (arith, fits, total);
-      numbered = subst (λ (o : Contents). IsNumbered o) (λ i. record { next = next + sym same i; entries = entries i }) sum;
-    }
+  pub left_confirmed : record { next = next; entries = last } ≡ confirmed number o
+  left_confirmed = left ∙ some_confirmed o number sound.numbered (subst (λ n. number < n) next_is below) (subst (λ n. n - 1 - number < length o.entries) next_is (subst (λ (es : List Change). next - 1 - number < length es) entries_are less))

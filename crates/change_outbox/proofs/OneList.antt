@@ -37,6 +37,9 @@ same_text k l s t a b same =
       branch_is = sym (drop_at s a (length s) refl) ∙ ap (λ (u : List ℕ). drop (length s) u) texts ∙ drop_at t b (length s) (sym lens);
     }
 
+pub text_of_parts : (k l : ChangeKind) (s t a b : List ℕ) → k ≡ l → s ≡ t → a ≡ b → change_text k s a ≡ change_text l t b
+text_of_parts k l s t a b kinds slugs branches = λ i. change_text (kinds i) (slugs i) (branches i)
+
 same_change : (c d : Change) → c.number ≡ d.number → change_row c ≡ change_row d → c ≡ d
 same_change c d numbers rows =
     let same = same_text c.kind d.kind c.slug d.slug c.branch d.branch (ap (λ (r : StoreRow). r.value) rows) in

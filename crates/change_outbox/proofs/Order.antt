@@ -26,7 +26,7 @@ changes_rise n (c ∷ cs) fits are =
     let first = subst (λ m. IsBelow (change_key m) (map change_row cs)) (sym are.0) (below_changes n (n + 1) cs (omega arith) (omega arith) are.1) in
     (first, changes_rise (n + 1) cs (omega arith) are.1)
 
-next_below : (cs : List Change) → IsBelow (120 ∷ []) (map change_row cs)
+pub next_below : (cs : List Change) → IsBelow (120 ∷ []) (map change_row cs)
 next_below [] = tt
 next_below (c ∷ cs) = (next_key_first c.number, next_below cs)
 

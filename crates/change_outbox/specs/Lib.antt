@@ -1,6 +1,6 @@
 pub mod Changes
 pub mod Contents
-pub mod Keeping
+pub mod EntrySteps
 pub mod Laws
 pub mod Rows
 pub mod Walking

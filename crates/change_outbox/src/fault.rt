@@ -14,6 +14,7 @@ pub enum AppendChangesFault {
 pub enum ConfirmFault {
     /// No change has the number yet: this is the next one.
     NoSuchChange(u64),
+    OutOfMemory,
 }
 
 /// Why rows gave no outbox.
@@ -32,6 +33,17 @@ impl From<AllocError> for AppendChangesFault {
 
     fn from(_: AllocError) -> AppendChangesFault {
         AppendChangesFault::OutOfMemory
+    }
+}
+
+impl From<AllocError> for ConfirmFault {
+    ghost use Rattle.std.specs.Prelude.{◌≡◌};
+    ghost use Rattle.change_outbox.specs.declared.fault.ConfirmFault.TheVariants.{OutOfMemory};
+
+    ghost from_gives = { λ _ fault. fault ≡ OutOfMemory };
+
+    fn from(_: AllocError) -> ConfirmFault {
+        ConfirmFault::OutOfMemory
     }
 }
 

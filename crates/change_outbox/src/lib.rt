@@ -3,11 +3,13 @@
 #![tactic(auto)]
 
 mod change;
+mod entry_changes;
 mod fault;
 mod laws;
 mod outbox;
 mod reading;
 mod rows;
+mod size;
 mod slug_changes;
 mod walking;
 

@@ -1,37 +1,48 @@
 // The outbox: numbered changes that a host application hasn't confirmed yet.
-ghost use Rattle.std.specs.Prelude.{◌≡◌, ◌≤◌, ◌<◌, ◌+◌, ◌^◌, ◌++◌, ◌↔◌, length, ◌∷◌, [], OnOk, OnErr, IsErr, IfErr, IsErrOf, vec_capacity};
-ghost use Rattle.change_outbox.specs.Contents.{IsNumbered, appended, confirmed, last_number, no_changes, numbered};
+ghost use Rattle.std.specs.Prelude.{◌≡◌, ◌≤◌, ◌<◌, ◌+◌, ◌-◌, ◌^◌, ◌++◌, ◌∷◌, [], ◌↔◌, ℕ, drop, length, IfOk, IsErrOf, OnOk};
+ghost use Rattle.change_outbox.specs.Contents.{HasSlugs, HaveSlugs, IsSound, appended, confirmed, last_number, no_changes, numbered};
 
 use crate::change::Change;
 use crate::fault::{AppendChangesFault, ConfirmFault};
-use sequences::Sequence;
-use std::alloc::Global;
+use sequences::{ExactClone, Sequence, SharedList};
+use std::alloc::{AllocError, Global};
 use std::marker::Model;
 
 /// The greatest next number.
 pub const LAST_NUMBER: u64 = 9_223_372_036_854_775_807;
 
 /// The changes that a host application hasn't confirmed yet. Their numbers rise by one, from 1 in a new store, and are never
-/// given twice. Contracts see the next number and the entries.
+/// given twice. Contracts see the next number and the entries. A clone shares the entries.
 #[derive(Drop)]
 pub struct Outbox {
     next: u64,
-    // The entries, behind those that were confirmed and not dropped yet.
-    changes: Vec<Change>,
-    // How many were confirmed and not dropped yet.
-    passed: usize,
+    entries: SharedList<Change>,
 }
 
 impl Model for Outbox {
-    ghost use Rattle.std.specs.Prelude.{drop};
-    ghost use Rattle.change_outbox.specs.Contents.{Contents};
-    ghost use Rattle.change_outbox.specs.Keeping.{KeepsEntries};
+    ghost use Rattle.change_outbox.specs.Contents.{Contents, IsSound};
 
     ghost Value = { Contents };
 
-    ghost view = { λ o. record { next = o.next; entries = drop o.passed o.changes.items } };
+    ghost view = { λ o. record { next = o.next; entries = o.entries } };
 
-    ghost invariant = { λ o. KeepsEntries o.next o.changes.items o.passed };
+    ghost invariant = { λ o. IsSound (record { next = o.next; entries = o.entries }) };
+}
+
+/// The same outbox. It takes no memory.
+impl Clone for Outbox {
+    ghost is_clone = { λ o p. p ≡ o };
+
+    fn clone(&self) -> Result<Outbox, AllocError> {
+        Ok(Outbox {
+            next: self.next,
+            entries: self.entries.clone()?,
+        })
+    }
+}
+
+impl ExactClone for Outbox {
+    ghost exact = { λ o p same. same };
 }
 
 impl Outbox {
@@ -41,15 +52,14 @@ impl Outbox {
     {
         Outbox {
             next: 1,
-            changes: Vec::new(alloc),
-            passed: 0,
+            entries: SharedList::new(alloc),
         }
     }
 
     /// The number that the next change gets: 1 to 9,223,372,036,854,775,807. It takes no memory.
     pub fn next(&self) -> u64
         ensures next { result ≡ self.now.next }
-        ensures numbered { IsNumbered self.now }
+        ensures sound { IsSound self.now }
     {
         self.next
     }
@@ -57,92 +67,110 @@ impl Outbox {
     /// The changes that aren't confirmed, in order by number. It takes no memory.
     pub fn entries(&self) -> &[Change]
         ensures entries { result.now ≡ self.now.entries }
-        ensures numbered { IsNumbered self.now }
+        ensures sound { IsSound self.now }
     {
-        &self.changes[self.passed..]
+        self.entries.as_slice()
     }
 
-    /// Puts the changes behind the entries, under the next numbers; the numbers that they had don't matter. `ChangesSpent` comes
-    /// exactly where the next number would pass 9,223,372,036,854,775,807. A refusal leaves the outbox as it was. No entry is
-    /// copied.
-    pub fn append(&mut self, changes: Sequence<Change>) -> Result<(), AppendChangesFault>
-        ensures ok { OnOk result (self.new ≡ appended changes self.old) }
-        ensures spent { IsErrOf result AppendChangesFault.ChangesSpent ↔ (last_number < self.old.next + length changes) }
-        ensures err { OnErr result (self.new ≡ self.old) }
+    /// The outbox with the changes behind its entries, under the next numbers; the numbers that they had don't matter.
+    /// `ChangesSpent` comes exactly where the next number would pass 9,223,372,036,854,775,807. The entries' texts are shared.
+    pub fn appended(&self, changes: Sequence<Change>) -> Result<Outbox, AppendChangesFault>
+        ensures ok { IfOk result (λ outbox. outbox ≡ appended changes self.now) }
+        ensures spent { IsErrOf result AppendChangesFault.ChangesSpent ↔ (last_number < self.now.next + length changes) }
     {
         let count = changes.len();
         if count as u64 > LAST_NUMBER - self.next {
             return Err(AppendChangesFault::ChangesSpent);
         }
-        self.changes.reserve(count)?;
-        push_numbered(&mut self.changes, self.next, changes);
-        self.next += count as u64;
-        Ok(())
+        let mut entries = self.entries.clone()?;
+        push_numbered(&mut entries, self.next, changes)?;
+        Ok(Outbox {
+            next: self.next + count as u64,
+            entries,
+        })
     }
 
-    /// Drops the entries up to the number; where they were confirmed already this changes nothing. `NoSuchChange` comes exactly
-    /// where no change has the number yet, and says the next number. It takes no memory, and over all calls costs the entries
-    /// that are dropped.
-    pub fn confirm(&mut self, number: u64) -> Result<(), ConfirmFault>
-        ensures ok { OnOk result (self.new ≡ confirmed number self.old) }
-        ensures none { IsErr result ↔ (self.old.next ≤ number) }
-        ensures says { IfErr result (λ fault. fault ≡ ConfirmFault.NoSuchChange self.old.next) }
-        ensures err { OnErr result (self.new ≡ self.old) }
+    /// The outbox without the entries up to the number; where they were confirmed already it is the same. `NoSuchChange` comes
+    /// exactly where no change has the number yet, and says the next number. The entries' texts are shared.
+    pub fn confirmed(&self, alloc: Global, number: u64) -> Result<Outbox, ConfirmFault>
+        ensures ok { IfOk result (λ outbox. outbox ≡ confirmed number self.now) }
+        ensures none { (next : ℕ) → IsErrOf result (ConfirmFault.NoSuchChange next) ↔ ((next ≡ self.now.next) × (self.now.next ≤ number)) }
     {
-        if number >= self.next {
-            return Err(ConfirmFault::NoSuchChange(self.next));
+        let next = self.next();
+        if number >= next {
+            return Err(ConfirmFault::NoSuchChange(next));
         }
-        let left = self.next - 1 - number;
-        if left < (self.changes.len() - self.passed) as u64 {
-            self.passed = self.changes.len() - left as usize;
-            self.drop_passed();
+        let left = next - 1 - number;
+        let entries = self.entries();
+        if left >= entries.len() as u64 {
+            return Ok(self.clone()?);
         }
-        Ok(())
-    }
-
-    // Drops the changes that were confirmed, where they are more than the entries.
-    fn drop_passed(&mut self)
-        ensures { self.new ≡ self.old }
-    {
-        if self.passed > self.changes.len() / 2 {
-            self.changes.drain(..self.passed);
-            self.passed = 0;
-        }
-    }
-
-    /// The outbox of this next number and these entries. It takes no memory.
-    pub(crate) fn of_entries(next: u64, entries: Vec<Change>) -> Outbox
-        requires { IsNumbered (record { next = next; entries = entries.items }) }
-        ensures { result ≡ record { next = next; entries = entries.items } }
-    {
-        Outbox {
+        let last = last_of(entries, left as usize);
+        Ok(Outbox {
             next,
-            changes: entries,
-            passed: 0,
-        }
+            entries: copies(alloc, last)?,
+        })
+    }
+
+    /// The outbox of this next number and these entries.
+    pub(crate) fn of_entries(
+        alloc: Global,
+        next: u64,
+        entries: Vec<Change>,
+    ) -> Result<Outbox, AllocError>
+        requires { IsSound (record { next = next; entries = entries.items }) }
+        ensures { IfOk result (λ outbox. outbox ≡ record { next = next; entries = entries.items }) }
+    {
+        Ok(Outbox {
+            next,
+            entries: SharedList::from_sequence(alloc, Sequence::from_vec(entries))?,
+        })
     }
 }
 
-// Adds the changes, with numbers from this one on. There is room for them.
-fn push_numbered(entries: &mut Vec<Change>, first: u64, changes: Sequence<Change>)
-    requires room { length entries.old.items + length changes ≤ vec_capacity entries.old }
-    requires numbers { first + length changes < 2 ^ 64 }
-    ensures { entries.new.items ≡ entries.old.items ++ numbered first changes }
+// So many of the last changes.
+fn last_of(changes: &[Change], count: usize) -> &[Change]
+    requires { count ≤ length changes.now }
+    ensures { result.now ≡ drop (length changes.now - count) changes.now }
+{
+    &changes[changes.len() - count..]
+}
+
+// The changes in a list of their own.
+fn copies(alloc: Global, changes: &[Change]) -> Result<SharedList<Change>, AllocError>
+    ensures { IfOk result (λ list. list ≡ changes.now) }
+{
+    SharedList::from_sequence(alloc, Sequence::from_vec(changes.to_vec(alloc)?))
+}
+
+// Adds the changes, with numbers from this one on.
+fn push_numbered(
+    entries: &mut SharedList<Change>,
+    first: u64,
+    changes: Sequence<Change>,
+) -> Result<(), AllocError>
+    requires { first + length changes < 2 ^ 64 }
+    ensures entries { OnOk result (entries.new ≡ entries.old ++ numbered first changes) }
+    ensures slugs { OnOk result (HaveSlugs changes) }
 {
     let mut number = first;
     for change in changes.into_vec() {
-        push_change(entries, Change { number, ..change });
+        push_change(entries, number, change)?;
         number += 1;
     }
+    Ok(())
 }
 
-// Adds a change. There is room for it.
-fn push_change(entries: &mut Vec<Change>, change: Change)
-    requires { length entries.old.items < vec_capacity entries.old }
-    ensures items { entries.new.items ≡ entries.old.items ++ change ∷ [] }
-    ensures room { vec_capacity entries.old ≤ vec_capacity entries.new }
+// Adds a change under a number.
+fn push_change(
+    entries: &mut SharedList<Change>,
+    number: u64,
+    change: Change,
+) -> Result<(), AllocError>
+    ensures entries { OnOk result (entries.new ≡ entries.old ++ record change { number = number } ∷ []) }
+    ensures slugs { OnOk result (HasSlugs change) }
 {
-    let Ok(()) = entries.push(change) else {
-        unreachable!()
-    };
+    let _slug = change.slug.text();
+    let _branch = change.branch.text();
+    entries.push(Change { number, ..change })
 }

@@ -24,7 +24,7 @@ pub fn outbox_of(alloc: Global, rows: &[StoreRow]) -> Result<Outbox, OutboxFault
         [first, entries @ ..] => {
             let next = next_in(first)?;
             let changes = changes_in(alloc, next, entries)?;
-            Ok(Outbox::of_entries(next, changes))
+            Ok(Outbox::of_entries(alloc, next, changes)?)
         }
     }
 }

@@ -1,7 +1,7 @@
 // The rows of an outbox.
 ghost use Rattle.std.specs.Prelude.{◌≡◌, ◌++◌, map, IfOk, OnOk};
 ghost use Rattle.row_batches.specs.Rows.{AreRows};
-ghost use Rattle.change_outbox.specs.Contents.{HasSlugs, HaveSlugs, IsSound};
+ghost use Rattle.change_outbox.specs.Contents.{IsSound};
 ghost use Rattle.change_outbox.specs.Rows.{change_key, change_row, change_text, kind_letter, next_row, next_rows, number_text, rows_of};
 
 use crate::change::{Change, ChangeKind};
@@ -51,8 +51,7 @@ fn add_change_rows(
     rows: &mut Sequence<StoreRow>,
     changes: &[Change],
 ) -> Result<(), AllocError>
-    ensures rows { OnOk result (rows.new ≡ rows.old ++ map change_row changes.now) }
-    ensures slugs { OnOk result (HaveSlugs changes.now) }
+    ensures { OnOk result (rows.new ≡ rows.old ++ map change_row changes.now) }
 {
     for change in changes {
         rows.push(change_row(alloc, change)?)?;
@@ -60,8 +59,8 @@ fn add_change_rows(
     Ok(())
 }
 
-// The row of the next number.
-fn next_row(alloc: Global, next: u64) -> Result<StoreRow, AllocError>
+/// The row of the next number.
+pub(crate) fn next_row(alloc: Global, next: u64) -> Result<StoreRow, AllocError>
     ensures { IfOk result (λ row. row ≡ next_row next) }
 {
     Ok(StoreRow {
@@ -70,10 +69,9 @@ fn next_row(alloc: Global, next: u64) -> Result<StoreRow, AllocError>
     })
 }
 
-// The row of a change.
-fn change_row(alloc: Global, change: &Change) -> Result<StoreRow, AllocError>
-    ensures row { IfOk result (λ row. row ≡ change_row change.now) }
-    ensures slugs { IfOk result (λ _. HasSlugs change.now) }
+/// The row of a change.
+pub(crate) fn change_row(alloc: Global, change: &Change) -> Result<StoreRow, AllocError>
+    ensures { IfOk result (λ row. row ≡ change_row change.now) }
 {
     Ok(StoreRow {
         key: key_of(alloc, change.number)?,
@@ -81,8 +79,8 @@ fn change_row(alloc: Global, change: &Change) -> Result<StoreRow, AllocError>
     })
 }
 
-// The letter and the number.
-fn key_of(alloc: Global, number: u64) -> Result<Sequence<u8>, AllocError>
+/// The letter and the number.
+pub(crate) fn key_of(alloc: Global, number: u64) -> Result<Sequence<u8>, AllocError>
     ensures { IfOk result (λ key. key ≡ change_key number) }
 {
     let mut key = Vec::with_capacity(alloc, 9)?;
@@ -93,8 +91,7 @@ fn key_of(alloc: Global, number: u64) -> Result<Sequence<u8>, AllocError>
 
 // The letter of the kind, the length of the slug, the slug and the branch.
 fn value_of(alloc: Global, change: &Change) -> Result<Sequence<u8>, AllocError>
-    ensures value { IfOk result (λ value. value ≡ change_text change.now.kind change.now.slug change.now.branch) }
-    ensures slugs { IfOk result (λ _. HasSlugs change.now) }
+    ensures { IfOk result (λ value. value ≡ change_text change.now.kind change.now.slug change.now.branch) }
 {
     let slug = change.slug.text().as_bytes();
     let branch = change.branch.text().as_bytes();

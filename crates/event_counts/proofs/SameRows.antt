@@ -22,24 +22,41 @@ one_list i xs ys counts others same = list_same xs ys (counts.full ∙ sym other
 pub latest_same : (n m : ℕ) (r t : List ℕ) → n < 2 ^ 64 → m < 2 ^ 64 → moment_bytes n ++ r ≡ moment_bytes m ++ t → n ≡ m
 latest_same n m r t n_in m_in same = moment_same n m n_in m_in (front_same (moment_bytes n) (moment_bytes m) r t (length-moment_bytes n ∙ sym (length-moment_bytes m)) same)
 
-value_same : (n m : NameCounts) → IsSoundName n → IsSoundName m → n.name ≡ m.name → value_of n ≡ value_of m → n ≡ m
-value_same n m sound other name same =
+-- ---- the fields of a value
+
+pub record AreSame (n m : NameCounts) : Type 0 where
+  pub latest : n.latest ≡ m.latest
+  pub hours : n.hours ≡ m.hours
+  pub days : n.days ≡ m.days
+  pub weeks : n.weeks ≡ m.weeks
+
+pub fields_same : (n m : NameCounts) → HaveCounts n → HaveCounts m → n.latest < 2 ^ 64 → m.latest < 2 ^ 64 → value_of n ≡ value_of m → AreSame n m
+fields_same n m counts others n_in m_in same =
     let behind_hours_n : List ℕ = list_bytes n.days ++ list_bytes n.weeks in
     let behind_hours_m : List ℕ = list_bytes m.days ++ list_bytes m.weeks in
     let lists_n : List ℕ = list_bytes n.hours ++ behind_hours_n in
     let lists_m : List ℕ = list_bytes m.hours ++ behind_hours_m in
+    let even : length (moment_bytes n.latest) ≡ length (moment_bytes m.latest) = length-moment_bytes n.latest ∙ sym (length-moment_bytes m.latest) in
+    let lists : lists_n ≡ lists_m = rest_same (moment_bytes n.latest) (moment_bytes m.latest) lists_n lists_m even same in
+    let even_hours = even_lists _ n.hours m.hours counts.hours others.hours in
+    let behind : behind_hours_n ≡ behind_hours_m = rest_same (list_bytes n.hours) (list_bytes m.hours) behind_hours_n behind_hours_m even_hours lists in
+    let even_days = even_lists _ n.days m.days counts.days others.days in
+    record {
+      latest = latest_same n.latest m.latest lists_n lists_m n_in m_in same;
+      hours = one_list _ n.hours m.hours counts.hours others.hours (front_same (list_bytes n.hours) (list_bytes m.hours) behind_hours_n behind_hours_m even_hours lists);
+      days = one_list _ n.days m.days counts.days others.days (front_same (list_bytes n.days) (list_bytes m.days) (list_bytes n.weeks) (list_bytes m.weeks) even_days behind);
+      weeks = one_list _ n.weeks m.weeks counts.weeks others.weeks (rest_same (list_bytes n.days) (list_bytes m.days) (list_bytes n.weeks) (list_bytes m.weeks) even_days behind);
+    }
+
+pub same_value : (n m : NameCounts) → n.latest ≡ m.latest → n.hours ≡ m.hours → n.days ≡ m.days → n.weeks ≡ m.weeks → value_of n ≡ value_of m
+same_value n m latest hours days weeks = λ i. moment_bytes (latest i) ++ (list_bytes (hours i) ++ (list_bytes (days i) ++ list_bytes (weeks i)))
+
+value_same : (n m : NameCounts) → IsSoundName n → IsSoundName m → n.name ≡ m.name → value_of n ≡ value_of m → n ≡ m
+value_same n m sound other name same =
     let latest_n : n.latest ≤ 253402300799 = sound.latest in
     let latest_m : m.latest ≤ 253402300799 = other.latest in
-    let even : length (moment_bytes n.latest) ≡ length (moment_bytes m.latest) = length-moment_bytes n.latest ∙ sym (length-moment_bytes m.latest) in
-    let latest : n.latest ≡ m.latest = latest_same n.latest m.latest lists_n lists_m (omega (arith, latest_n)) (omega (arith, latest_m)) same in
-    let lists : lists_n ≡ lists_m = rest_same (moment_bytes n.latest) (moment_bytes m.latest) lists_n lists_m even same in
-    let even_hours = even_lists _ n.hours m.hours sound.lists.hours other.lists.hours in
-    let behind : behind_hours_n ≡ behind_hours_m = rest_same (list_bytes n.hours) (list_bytes m.hours) behind_hours_n behind_hours_m even_hours lists in
-    let even_days = even_lists _ n.days m.days sound.lists.days other.lists.days in
-    same_counts n m name latest
-    (one_list _ n.hours m.hours sound.lists.hours other.lists.hours (front_same (list_bytes n.hours) (list_bytes m.hours) behind_hours_n behind_hours_m even_hours lists))
-    (one_list _ n.days m.days sound.lists.days other.lists.days (front_same (list_bytes n.days) (list_bytes m.days) (list_bytes n.weeks) (list_bytes m.weeks) even_days behind))
-    (one_list _ n.weeks m.weeks sound.lists.weeks other.lists.weeks (rest_same (list_bytes n.days) (list_bytes m.days) (list_bytes n.weeks) (list_bytes m.weeks) even_days behind))
+    let are = fields_same n m sound.lists other.lists (omega (arith, latest_n)) (omega (arith, latest_m)) same in
+    same_counts n m name are.latest are.hours are.days are.weeks
 
 -- one row, one name and its counts
 pub row_same : (n m : NameCounts) → IsSoundName n → IsSoundName m → row_of n ≡ row_of m → n ≡ m

@@ -5,5 +5,6 @@ pub mod Kept
 pub mod View
 pub mod Places
 pub mod Rows
+pub mod RowSteps
 pub mod History
 pub mod Laws

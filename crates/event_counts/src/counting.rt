@@ -9,6 +9,8 @@ use crate::counts::{Counts, MAX_NAMES};
 use crate::fault::CountFault;
 use crate::name_counts::NameCounts;
 use crate::searching::place_of;
+use crate::shared_counts::SharedCounts;
+use sequences::SharedList;
 use std::alloc::{AllocError, Global};
 
 impl Counts {
@@ -34,27 +36,55 @@ impl Counts {
             Ok(place) => {
                 let more = counted(alloc, &names[place], count, moment)?;
                 Ok(Counts {
-                    names: with_replaced(alloc, names, place, more)?,
+                    names: self.with_replaced(place, more)?,
                 })
             }
             Err(_) if names.len() >= MAX_NAMES => Err(CountFault::EventLimit),
             Err(place) => {
                 let first = first_counted(alloc, name, count, moment)?;
                 Ok(Counts {
-                    names: with_inserted(alloc, names, place, first)?,
+                    names: self.with_inserted(place, first)?,
                 })
             }
         }
     }
+
+    // The counts, of which those at a place are these. The others are shared.
+    fn with_replaced(
+        &self,
+        place: usize,
+        counts: SharedCounts,
+    ) -> Result<SharedList<SharedCounts>, AllocError>
+        requires { place < length self.now }
+        ensures { IfOk result (λ names. names ≡ slice_set self.now place counts) }
+    {
+        let mut names = self.names.clone()?;
+        names.replace(place, counts)?;
+        Ok(names)
+    }
+
+    // The counts, with these before those at a place. The others are shared.
+    fn with_inserted(
+        &self,
+        place: usize,
+        counts: SharedCounts,
+    ) -> Result<SharedList<SharedCounts>, AllocError>
+        requires { place ≤ length self.now }
+        ensures { IfOk result (λ names. names ≡ insert self.now place counts) }
+    {
+        let mut names = self.names.clone()?;
+        names.insert(place, counts)?;
+        Ok(names)
+    }
 }
 
 /// The greatest of a moment and the latest moments.
-pub(crate) fn moment_at(names: &[NameCounts], now: u64) -> u64
+pub(crate) fn moment_at(names: &[SharedCounts], now: u64) -> u64
     ensures { result ≡ moment_at now names.now }
 {
     let mut moment = now;
     for counts in names {
-        moment = moment.max(counts.latest);
+        moment = moment.max(counts.get().latest);
     }
     moment
 }
@@ -62,15 +92,15 @@ pub(crate) fn moment_at(names: &[NameCounts], now: u64) -> u64
 // The counts of a name after an event of it at a moment.
 fn counted(
     alloc: Global,
-    counts: &NameCounts,
+    counts: &SharedCounts,
     count: u32,
     moment: u64,
-) -> Result<NameCounts, AllocError>
+) -> Result<SharedCounts, AllocError>
     ensures { IfOk result (λ n. n ≡ with_more count (at_moment moment counts.now)) }
 {
-    let mut more = counts.at_moment(alloc, moment)?;
+    let mut more = counts.get().at_moment(alloc, moment)?;
     more.raise(count);
-    Ok(more)
+    SharedCounts::new(alloc, more)
 }
 
 // The counts of a name after its first event, at a moment.
@@ -79,50 +109,10 @@ fn first_counted(
     name: &str,
     count: u32,
     moment: u64,
-) -> Result<NameCounts, AllocError>
+) -> Result<SharedCounts, AllocError>
     ensures { IfOk result (λ n. n ≡ with_more count (no_counts name.now moment)) }
 {
     let mut first = NameCounts::new(alloc, name, moment)?;
     first.raise(count);
-    Ok(first)
-}
-
-// Copies of the counts, of which those at a place are these.
-fn with_replaced(
-    alloc: Global,
-    names: &[NameCounts],
-    place: usize,
-    counts: NameCounts,
-) -> Result<Vec<NameCounts>, AllocError>
-    requires { place < length names.now }
-    ensures { IfOk result (λ v. v.items ≡ slice_set names.now place counts) }
-{
-    let mut copies = copies(alloc, names)?;
-    copies[place] = counts;
-    Ok(copies)
-}
-
-// Copies of the counts, with these before those at a place.
-fn with_inserted(
-    alloc: Global,
-    names: &[NameCounts],
-    place: usize,
-    counts: NameCounts,
-) -> Result<Vec<NameCounts>, AllocError>
-    requires { place ≤ length names.now }
-    ensures { IfOk result (λ v. v.items ≡ insert names.now place counts) }
-{
-    let mut copies = copies(alloc, names)?;
-    copies.insert(place, counts)?;
-    Ok(copies)
-}
-
-fn copies(alloc: Global, names: &[NameCounts]) -> Result<Vec<NameCounts>, AllocError>
-    ensures { IfOk result (λ v. v.items ≡ names.now) }
-{
-    let mut copies = Vec::with_capacity(alloc, names.len() + 1)?;
-    for counts in names {
-        copies.push(counts.copy(alloc)?)?;
-    }
-    Ok(copies)
+    SharedCounts::new(alloc, first)
 }

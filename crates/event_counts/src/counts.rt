@@ -2,17 +2,19 @@
 ghost use Rattle.std.specs.Prelude.{◌≡◌, []};
 ghost use Rattle.event_counts.specs.Sound.{IsSound};
 
-use crate::name_counts::NameCounts;
-use std::alloc::Global;
+use crate::shared_counts::SharedCounts;
+use sequences::{ExactClone, SharedList};
+use std::alloc::{AllocError, Global};
 use std::marker::Model;
 
 /// The most names that are counted.
 pub(crate) const MAX_NAMES: usize = 64;
 
-/// The counts of at most 64 names, in order by name. Contracts see them as the list of the counts of each name.
+/// The counts of at most 64 names, in order by name. Contracts see them as the list of the counts of each name. A clone shares
+/// the list.
 #[derive(Drop)]
 pub struct Counts {
-    pub(crate) names: Vec<NameCounts>,
+    pub(crate) names: SharedList<SharedCounts>,
 }
 
 impl Model for Counts {
@@ -22,9 +24,24 @@ impl Model for Counts {
 
     ghost Value = { List NameCounts };
 
-    ghost view = { λ c. c.names.items };
+    ghost view = { λ c. c.names };
 
-    ghost invariant = { λ c. IsSound c.names.items };
+    ghost invariant = { λ c. IsSound c.names };
+}
+
+/// The same counts. It takes no memory.
+impl Clone for Counts {
+    ghost is_clone = { λ c d. d ≡ c };
+
+    fn clone(&self) -> Result<Counts, AllocError> {
+        Ok(Counts {
+            names: self.names.clone()?,
+        })
+    }
+}
+
+impl ExactClone for Counts {
+    ghost exact = { λ c d same. same };
 }
 
 impl Counts {
@@ -33,7 +50,7 @@ impl Counts {
         ensures { result ≡ [] }
     {
         Counts {
-            names: Vec::new(alloc),
+            names: SharedList::new(alloc),
         }
     }
 
@@ -46,7 +63,7 @@ impl Counts {
     }
 
     /// The counts of each name, in order by name.
-    pub(crate) fn names(&self) -> &[NameCounts]
+    pub(crate) fn names(&self) -> &[SharedCounts]
         ensures names { result.now ≡ self.now }
         ensures sound { IsSound self.now }
     {

@@ -10,8 +10,11 @@ mod laws;
 mod name_counts;
 mod reading;
 mod ring;
+mod row_changes;
 mod rows;
 mod searching;
+mod shared_counts;
+mod size;
 mod viewing;
 
 pub use counts::Counts;

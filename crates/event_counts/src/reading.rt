@@ -12,9 +12,10 @@ use crate::interval::Interval;
 use crate::name_counts::NameCounts;
 use crate::ring::Ring;
 use crate::rows::{TAG, VALUE_LEN};
+use crate::shared_counts::SharedCounts;
 use plain_text::is_name;
 use row_batches::StoreRow;
-use sequences::Text;
+use sequences::{Sequence, SharedList, Text};
 use std::alloc::{AllocError, Global};
 use std::str;
 
@@ -34,18 +35,20 @@ pub fn counts_of(alloc: Global, rows: &[StoreRow]) -> Result<Counts, CountsFault
     if !are_in_order(names.as_slice()) {
         return Err(CountsFault::NotCounts);
     }
-    Ok(Counts { names })
+    Ok(Counts {
+        names: SharedList::from_sequence(alloc, Sequence::from_vec(names))?,
+    })
 }
 
 // The counts of each name, of which these are the rows.
-fn names_of(alloc: Global, rows: &[StoreRow]) -> Result<Vec<NameCounts>, CountsFault>
+fn names_of(alloc: Global, rows: &[StoreRow]) -> Result<Vec<SharedCounts>, CountsFault>
     ensures rows { IfOk result (λ v. rows_of v.items ≡ rows.now) }
     ensures sound { IfOk result (λ v. AllByRecursion IsSoundName v.items) }
     ensures not_counts { IsErrOf result CountsFault.NotCounts → (ns : List NameCounts) → AllByRecursion IsSoundName ns → rows_of ns ≡ rows.now → ⊥ }
 {
     let mut names = Vec::with_capacity(alloc, rows.len())?;
     for row in rows {
-        names.push(counts_of_row(alloc, row)?)?;
+        names.push(SharedCounts::new(alloc, counts_of_row(alloc, row)?)?)?;
     }
     Ok(names)
 }
@@ -145,8 +148,8 @@ fn number_at(bytes: &[u8], place: usize) -> u32
 }
 
 // Whether each name is below those after it.
-fn are_in_order(names: &[NameCounts]) -> bool
+fn are_in_order(names: &[SharedCounts]) -> bool
     ensures { IsTrue result ↔ AreInOrder names.now }
 {
-    names.is_sorted_by(|first, second| first.name < second.name)
+    names.is_sorted_by(|first, second| first.get().name < second.get().name)
 }

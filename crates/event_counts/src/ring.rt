@@ -1,5 +1,5 @@
 // A list of counts in a ring: as time goes on the oldest counts give way to new ones.
-ghost use Rattle.std.specs.Prelude.{◌≡◌, length, replicate, IfOk};
+ghost use Rattle.std.specs.Prelude.{◌≡◌, ◌↔◌, IsTrue, length, replicate, IfOk};
 ghost use Rattle.circular_buffer.specs.Buffer.{buffer};
 ghost use Rattle.event_counts.specs.Lists.{turned, raised};
 
@@ -54,6 +54,22 @@ impl Ring {
     {
         let list = self.to_vec(alloc)?;
         Ring::of_counts(alloc, list.as_slice())
+    }
+
+    /// Whether both have the same counts. It takes no memory.
+    pub(crate) fn is_same(&self, other: &Ring) -> bool
+        ensures { IsTrue result ↔ (self.now ≡ other.now) }
+    {
+        let len = self.counts.len();
+        if other.counts.len() != len {
+            return false;
+        }
+        for place in 0..len {
+            if self.counts.get(place) != other.counts.get(place) {
+                return false;
+            }
+        }
+        true
     }
 
     /// Turns the ring by so many intervals. Each is a new zero, which takes the place of the oldest count.

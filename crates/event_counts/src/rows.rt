@@ -7,6 +7,7 @@ ghost use Rattle.event_counts.specs.Sound.{AreInOrder};
 use crate::counts::Counts;
 use crate::name_counts::NameCounts;
 use crate::ring::Ring;
+use crate::shared_counts::SharedCounts;
 use row_batches::StoreRow;
 use sequences::Sequence;
 use std::alloc::{AllocError, Global};
@@ -29,30 +30,38 @@ impl Counts {
     }
 }
 
-fn rows_of(alloc: Global, names: &[NameCounts]) -> Result<Sequence<StoreRow>, AllocError>
+fn rows_of(alloc: Global, names: &[SharedCounts]) -> Result<Sequence<StoreRow>, AllocError>
     requires { AreInOrder names.now }
     ensures rows { IfOk result (λ rows. rows ≡ rows_of names.now) }
     ensures order { IfOk result AreRows }
 {
     let mut rows = Sequence::new(alloc);
     for counts in names {
-        rows.push(row_of(alloc, counts)?)?;
+        rows.push(row_of(alloc, counts.get())?)?;
     }
     Ok(rows)
 }
 
-fn row_of(alloc: Global, counts: &NameCounts) -> Result<StoreRow, AllocError>
+/// The row of the counts of a name.
+pub(crate) fn row_of(alloc: Global, counts: &NameCounts) -> Result<StoreRow, AllocError>
     ensures { IfOk result (λ row. row ≡ row_of counts.now) }
+{
+    let value = value_of(alloc, counts)?;
+    Ok(StoreRow {
+        key: key_of(alloc, counts)?,
+        value: Sequence::from_vec(value),
+    })
+}
+
+/// The key of the row of the counts of a name.
+pub(crate) fn key_of(alloc: Global, counts: &NameCounts) -> Result<Sequence<u8>, AllocError>
+    ensures { IfOk result (λ key. key ≡ codes "e" ++ counts.now.name) }
 {
     let name = counts.name.as_str().as_bytes();
     let mut key = Vec::with_capacity(alloc, name.len() + 1)?;
     key.push(TAG)?;
     key.extend_from_slice(name)?;
-    let value = value_of(alloc, counts)?;
-    Ok(StoreRow {
-        key: Sequence::from_vec(key),
-        value: Sequence::from_vec(value),
-    })
+    Ok(Sequence::from_vec(key))
 }
 
 #[tactic(auto, unfolding(crate::specs::Rows::moment_bytes))]

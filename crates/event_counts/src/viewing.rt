@@ -8,6 +8,7 @@ use crate::counting::moment_at;
 use crate::counts::Counts;
 use crate::name_counts::NameCounts;
 use crate::ring::Ring;
+use crate::shared_counts::SharedCounts;
 use json_tree::{Items, Members, Tree};
 use sequences::Text;
 use std::alloc::{AllocError, Global};
@@ -26,13 +27,13 @@ impl Counts {
 }
 
 // The names, and what a moment sees of each.
-fn members_at(alloc: Global, names: &[NameCounts], moment: u64) -> Result<Members, AllocError>
+fn members_at(alloc: Global, names: &[SharedCounts], moment: u64) -> Result<Members, AllocError>
     requires { AreInOrder names.now }
     ensures { IfOk result (λ ms. ms ≡ map (member_at moment) names.now) }
 {
     let mut members = Members::new(alloc);
     for counts in names {
-        let turned = counts.at_moment(alloc, moment)?;
+        let turned = counts.get().at_moment(alloc, moment)?;
         let lists = counts_tree(alloc, &turned)?;
         members.push(turned.name, lists)?;
     }

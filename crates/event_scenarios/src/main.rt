@@ -1,8 +1,9 @@
-//! Tables of rows on counts of events, which stand on standard input: what a moment sees of them, the limit of names, and the
-//! rows that keep them. A line tells of each table that its rows pass, or what was found and what was wanted. `row_tables` says
+//! Tables of rows on counts of events, which stand on standard input: what a moment sees of them, the limit of names, the rows
+//! that keep them, and how these change. A line tells of each table that its rows pass, or what was found and what was wanted. `row_tables` says
 //! how a table is written, and the functions that `found` names what a row of each kind is.
 #![tactic(auto)]
 
+mod changes;
 mod histories;
 mod inputs;
 mod kept;
@@ -22,6 +23,7 @@ fn found(alloc: Global, kind: &str, given: &str, input: &str) -> Result<String> 
         "event" => histories::answer_to(alloc, given, input),
         "rows" => kept::rows_after(alloc, given, input),
         "read" => kept::read_of(alloc, input),
+        "changes" => changes::row_changes(alloc, given, input),
         "many" => kept::read_of_many(alloc, input),
         _ => bail!("no kind of rows: {kind}"),
     }

@@ -17,7 +17,7 @@ pub(crate) fn outbox_after(alloc: Global, given: &str, input: &str) -> Result<St
     Ok(format!(in alloc; "{answers}; {left}")?)
 }
 
-/// Does the actions, and gives their answers.
+/// Does the actions one after the other, and gives their answers.
 pub(crate) fn act_all(alloc: Global, outbox: &mut Outbox, input: &str) -> Result<String> {
     let mut answers = String::new(alloc);
     for action in input.split("; ") {
@@ -37,8 +37,11 @@ fn act(alloc: Global, outbox: &mut Outbox, action: &str) -> Result<String> {
 }
 
 fn append(alloc: Global, outbox: &mut Outbox, changes: &str) -> Result<String> {
-    let answer = match outbox.append(changes_of(alloc, changes)?) {
-        Ok(()) => "ok",
+    let answer = match outbox.appended(changes_of(alloc, changes)?) {
+        Ok(next) => {
+            *outbox = next;
+            "ok"
+        }
         Err(AppendChangesFault::ChangesSpent) => "ChangesSpent",
         Err(AppendChangesFault::OutOfMemory) => bail!("out of memory"),
     };
@@ -47,9 +50,13 @@ fn append(alloc: Global, outbox: &mut Outbox, changes: &str) -> Result<String> {
 
 fn confirm(alloc: Global, outbox: &mut Outbox, number: &str) -> Result<String> {
     let number = read_number(number.as_bytes()).context("no number")?;
-    Ok(match outbox.confirm(number) {
-        Ok(()) => String::from_str(alloc, "ok")?,
+    Ok(match outbox.confirmed(alloc, number) {
+        Ok(next) => {
+            *outbox = next;
+            String::from_str(alloc, "ok")?
+        }
         Err(ConfirmFault::NoSuchChange(next)) => format!(in alloc; "NoSuchChange {next}")?,
+        Err(ConfirmFault::OutOfMemory) => bail!("out of memory"),
     })
 }
 

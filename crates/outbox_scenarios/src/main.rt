@@ -1,7 +1,7 @@
 //! Tables of rows on the outbox of enrolment changes, which stand on standard input: the changes between rows of enrolments,
-//! what appended changes and confirmations leave, and the rows of a store that are an outbox's. A line tells of each table that
-//! its rows pass, or what was found and what was wanted. `row_tables` says how a table is written, and the functions that `found`
-//! names what a row of each kind is.
+//! what appended changes and confirmations leave, the rows of a store that are an outbox's, and how they change. A line tells
+//! of each table that its rows pass, or what was found and what was wanted. `row_tables` says how a table is written, and the
+//! functions that `found` names what a row of each kind is.
 #![tactic(auto)]
 
 mod actions;
@@ -22,6 +22,7 @@ fn found(alloc: Global, kind: &str, given: &str, input: &str) -> Result<String> 
         "changes" => slug_changes::changes_between(alloc, input),
         "actions" => actions::outbox_after(alloc, given, input),
         "rows" => stored::outbox_in(alloc, input),
+        "row_changes" => stored::row_changes_after(alloc, given, input),
         "spelled" => stored::rows_after(alloc, input),
         _ => bail!("no kind of rows: {kind}"),
     }

@@ -1,7 +1,7 @@
 //! Changes, outboxes and rows in words.
 use anyhow::Result;
 use change_outbox::{Change, ChangeKind, Outbox};
-use row_batches::StoreRow;
+use row_batches::{RowChange, StoreRow};
 use std::alloc::Global;
 
 /// The changes, with commas between them, or `none`. Those in an outbox stand behind their numbers.
@@ -50,6 +50,30 @@ pub(crate) fn rows_text(alloc: Global, rows: &[StoreRow]) -> Result<String> {
         line.push_str("none")?;
     }
     Ok(line)
+}
+
+/// The changes of rows as `put KEY=VALUE` and `delete KEY`, with commas between them, or `none`.
+pub(crate) fn row_changes_text(alloc: Global, changes: &[RowChange]) -> Result<String> {
+    let mut line = String::new(alloc);
+    for change in changes {
+        let text = row_change_text(alloc, change)?;
+        push(&mut line, text.as_str())?;
+    }
+    if line.is_empty() {
+        line.push_str("none")?;
+    }
+    Ok(line)
+}
+
+fn row_change_text(alloc: Global, change: &RowChange) -> Result<String> {
+    Ok(match change {
+        RowChange::Put(row) => format!(in alloc;
+            "put {}={}",
+            row.key.as_slice().escape_ascii(),
+            row.value.as_slice().escape_ascii()
+        )?,
+        RowChange::Delete(key) => { format!(in alloc; "delete {}", key.as_slice().escape_ascii())? }
+    })
 }
 
 /// Adds a text, behind a comma where it isn't the first.

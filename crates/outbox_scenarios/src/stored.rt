@@ -1,7 +1,7 @@
 //! Rows on the rows of a store that are an outbox's.
 use crate::actions::act_all;
 use crate::inputs::{bytes_of, halves};
-use crate::shown::{outbox_text, rows_text};
+use crate::shown::{outbox_text, row_changes_text, rows_text};
 use anyhow::{Result, bail};
 use change_outbox::{Outbox, OutboxFault, outbox_of};
 use row_batches::StoreRow;
@@ -24,6 +24,19 @@ pub(crate) fn rows_after(alloc: Global, input: &str) -> Result<String> {
     act_all(alloc, &mut outbox, input)?;
     let rows = outbox.rows(alloc)?;
     rows_text(alloc, rows.as_slice())
+}
+
+/// The changes of rows from the outbox after actions to that after more, and how many bytes the puts of its rows have. Row: the
+/// actions, and the further ones behind ` | `, each with semicolons between them.
+pub(crate) fn row_changes_after(alloc: Global, given: &str, input: &str) -> Result<String> {
+    let (first, further) = halves(input, " | ")?;
+    let mut outbox = given_outbox(alloc, given)?;
+    act_all(alloc, &mut outbox, first)?;
+    let before = outbox.clone()?;
+    act_all(alloc, &mut outbox, further)?;
+    let changes = before.changes_to(alloc, &outbox)?;
+    let changes = row_changes_text(alloc, changes.as_slice())?;
+    Ok(format!(in alloc; "{changes}; {} bytes", outbox.size())?)
 }
 
 /// The outbox of the rows that are given, or a new one where nothing is given.

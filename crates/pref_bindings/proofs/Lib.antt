@@ -6,8 +6,14 @@ pub mod Sound
 pub mod UserMaps
 pub mod Values
 pub mod OneList
+pub mod ValueTurns
+pub mod HoldTurns
+pub mod RowSizes
 pub mod RowOrder
 pub mod Rising
 pub mod Merged
 pub mod Names
 pub mod Read
+pub mod FoundBindings
+pub mod BindingsRead
+pub mod BoundValues

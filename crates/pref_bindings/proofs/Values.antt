@@ -51,7 +51,7 @@ not_deep v bytes is same deep =
 pub same_tree : (v t : Tree) (bytes : List ℕ) → IsValue v → bytes ≡ value_text v → tree_of bytes ≡ Some (json_of t) → t ≡ v
 same_tree v t bytes is same read = json_of-injective t v (one_value (json_of t) (json_of v) (sym read ∙ read_is v bytes is same))
 
-some_text : (v : Tree) → IsValue v → value_text v ≡ [] → ⊥
+pub some_text : (v : Tree) → IsValue v → value_text v ≡ [] → ⊥
 unfolding value_text
 some_text Null is none = is
 some_text (Truth true) is none = cc

@@ -2,5 +2,9 @@ pub mod Preferences
 pub mod Changes
 pub mod Joining
 pub mod Rows
+pub mod RowSteps
+pub mod Sizes
 pub mod Reading
+pub mod Bindings
+pub mod Bound
 pub mod Laws

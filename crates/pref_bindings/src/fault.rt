@@ -1,4 +1,5 @@
-// Why rows give no preferences.
+// Why rows give no preferences, and a tree no bindings.
+use sequences::Text;
 use std::alloc::{AllocError, AllocFailed};
 
 /// Why rows gave no preferences.
@@ -28,5 +29,24 @@ impl<T: Drop> From<AllocFailed<T>> for PrefsFault {
 
     fn from(_: AllocFailed<T>) -> PrefsFault {
         PrefsFault::OutOfMemory
+    }
+}
+
+/// Why a tree gave no bindings.
+#[derive(Drop)]
+pub enum BindingFault {
+    /// The first feature at fault, in key order. The empty text where the tree is no object.
+    BadBinding(Text),
+    OutOfMemory,
+}
+
+impl From<AllocError> for BindingFault {
+    ghost use Rattle.std.specs.Prelude.{◌≡◌};
+    ghost use Rattle.pref_bindings.specs.declared.fault.BindingFault.TheVariants.{OutOfMemory};
+
+    ghost from_gives = { λ _ fault. fault ≡ OutOfMemory };
+
+    fn from(_: AllocError) -> BindingFault {
+        BindingFault::OutOfMemory
     }
 }

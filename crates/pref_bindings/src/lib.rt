@@ -1,8 +1,11 @@
 //! Preferences that recipes set while the client takes part in them: their values, who holds them, what the user's values are,
-//! and their rows in a store.
+//! and their rows in a store; and which preferences the variables of features are bound to, and what a branch sets of these.
 #![tactic(auto)]
 
+mod bindings;
+mod bound;
 mod fault;
+mod hold_changes;
 mod joining;
 mod laws;
 mod leaving;
@@ -11,9 +14,13 @@ mod prefs;
 mod reading;
 mod rows;
 mod setting;
+mod size;
+mod value_changes;
 
-pub use fault::PrefsFault;
+pub use bindings::{Binding, Bindings, read_bindings};
+pub use bound::bound_values;
+pub use fault::{BindingFault, PrefsFault};
 pub use laws::{leave_undoes_join, one_list_of_rows, user_map_is_kept, user_sets_own};
 pub use preference::{Hold, Preference, is_value};
 pub use prefs::Prefs;
-pub use reading::prefs_of;
+pub use reading::{prefs_of, prefs_of_parts};

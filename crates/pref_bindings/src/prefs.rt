@@ -10,7 +10,7 @@ use crate::preference::Preference;
 use crate::setting::{users_preference, with_preference, without_name};
 use json_tree::Tree;
 use plain_text::Slug;
-use sequences::{Sequence, SharedList, Text};
+use sequences::{ExactClone, Sequence, SharedList, Text};
 use std::alloc::{AllocError, Global};
 use std::marker::Model;
 
@@ -48,6 +48,10 @@ impl Clone for Prefs {
             preferences: self.preferences.clone()?,
         })
     }
+}
+
+impl ExactClone for Prefs {
+    ghost exact = { λ p q same. same };
 }
 
 impl Prefs {

@@ -31,6 +31,21 @@ pub fn prefs_of(alloc: Global, rows: &[StoreRow]) -> Result<Prefs, PrefsFault>
     ensures not_prefs { IsErrOf result PrefsFault.NotPrefs → (ps : List Preference) → IsSound ps → rows.now ≡ rows_of ps → ⊥ }
 {
     let (holds, values) = rows.split_at(holds_end(rows));
+    prefs_of_parts(alloc, holds, values)
+}
+
+/// The sound preferences that have exactly these rows of holds and these of values, each in this order. `NotPrefs` comes exactly
+/// where there are none.
+pub fn prefs_of_parts(
+    alloc: Global,
+    holds: &[StoreRow],
+    values: &[StoreRow],
+) -> Result<Prefs, PrefsFault>
+    ensures sound { IfOk result IsSound }
+    ensures holds { IfOk result (λ prefs. holds.now ≡ hold_rows prefs) }
+    ensures values { IfOk result (λ prefs. values.now ≡ value_rows prefs) }
+    ensures not_prefs { IsErrOf result PrefsFault.NotPrefs → (ps : List Preference) → IsSound ps → holds.now ≡ hold_rows ps → values.now ≡ value_rows ps → ⊥ }
+{
     let preferences = preferences_in(alloc, holds, values)?;
     Ok(Prefs::of_preferences(alloc, preferences)?)
 }

@@ -77,8 +77,8 @@ fn add_value_rows(
     Ok(())
 }
 
-// The row of the preference's value.
-fn value_row(alloc: Global, preference: &Preference) -> Result<StoreRow, AllocError>
+/// The row of the preference's value.
+pub(crate) fn value_row(alloc: Global, preference: &Preference) -> Result<StoreRow, AllocError>
     ensures { IfOk result (λ row. row ≡ value_row preference.now) }
 {
     let mut value = Vec::new(alloc);
@@ -89,8 +89,8 @@ fn value_row(alloc: Global, preference: &Preference) -> Result<StoreRow, AllocEr
     })
 }
 
-// The letter and the name.
-fn key_of(alloc: Global, letter: u8, name: &Text) -> Result<Sequence<u8>, AllocError>
+/// The letter and the name.
+pub(crate) fn key_of(alloc: Global, letter: u8, name: &Text) -> Result<Sequence<u8>, AllocError>
     ensures { IfOk result (λ key. key ≡ letter ∷ name.now) }
 {
     let mut key = Vec::new(alloc);
@@ -99,8 +99,8 @@ fn key_of(alloc: Global, letter: u8, name: &Text) -> Result<Sequence<u8>, AllocE
     Ok(Sequence::from_vec(key))
 }
 
-// The length of the holder, the holder, and the value of before.
-fn hold_text(alloc: Global, hold: &Hold) -> Result<Sequence<u8>, AllocError>
+/// The length of the holder, the holder, and the value of before.
+pub(crate) fn hold_text(alloc: Global, hold: &Hold) -> Result<Sequence<u8>, AllocError>
     ensures { IfOk result (λ text. text ≡ hold_text hold.now.holder hold.now.before) }
 {
     let holder = hold.holder.text().as_bytes();

@@ -2,11 +2,11 @@
 //! are a byte, and a comma stands between two rows.
 
 use crate::steps::prefs_after;
-use anyhow::{Result, bail};
+use anyhow::{Context, Result, bail};
 use plain_text::read_number;
 use pref_bindings::{PrefsFault, prefs_of};
-use row_batches::StoreRow;
-use row_tables::{cut, word};
+use row_batches::{RowChange, StoreRow};
+use row_tables::{cut, halves, word};
 use sequences::Sequence;
 use std::alloc::Global;
 
@@ -34,6 +34,45 @@ pub(crate) fn read_of(alloc: Global, input: &str) -> Result<String> {
         return Ok(format!(in alloc; "{} kept", rows.len())?);
     }
     Ok(again)
+}
+
+/// The keys of the rows that are put and deleted, or `none`, and how many bytes the puts of the new rows have. Row: the steps to
+/// the old preferences, and behind ` | ` those to the new ones.
+pub(crate) fn row_changes(alloc: Global, input: &str) -> Result<String> {
+    let (old, new) = halves(input)?;
+    let old = prefs_after(alloc, old)?;
+    let new = prefs_after(alloc, new)?;
+    let mut text = String::new(alloc);
+    add_changes(
+        alloc,
+        &mut text,
+        old.hold_changes_to(alloc, &new)?.as_slice(),
+    )?;
+    add_changes(
+        alloc,
+        &mut text,
+        old.value_changes_to(alloc, &new)?.as_slice(),
+    )?;
+    if text.is_empty() {
+        text.push_str("none")?;
+    }
+    let size = new.size_within(1_000).context("more than 1,000 bytes")?;
+    Ok(format!(in alloc; "{text}; {size} bytes")?)
+}
+
+fn add_changes(alloc: Global, text: &mut String, changes: &[RowChange]) -> Result<()> {
+    for change in changes {
+        if !text.is_empty() {
+            text.push_str(", ")?;
+        }
+        let key = change.key().escape_ascii();
+        let change = match change {
+            RowChange::Put(_) => format!(in alloc; "put {key}")?,
+            RowChange::Delete(_) => format!(in alloc; "delete {key}")?,
+        };
+        text.push_str(change.as_str())?;
+    }
+    Ok(())
 }
 
 fn row_of(alloc: Global, text: &str) -> Result<StoreRow> {

@@ -1,8 +1,10 @@
-//! Tables of rows on preferences, which stand on standard input: what joins, leaves and the user make of them, and the rows that
-//! keep them. A line tells of each table that its rows pass, or what was found and what was wanted. `row_tables` says how a table
-//! is written, and the functions that `found` names what a row of each kind is.
+//! Tables of rows on preferences, which stand on standard input: what joins, leaves and the user make of them, the rows that keep
+//! them and how these change, and what a branch sets of those that variables are bound to. A line tells of each table that its
+//! rows pass, or what was found and what was wanted. `row_tables` says how a table is written, and the functions that `found`
+//! names what a row of each kind is.
 #![tactic(auto)]
 
+mod bound;
 mod inputs;
 mod kept;
 mod steps;
@@ -19,7 +21,10 @@ fn found(alloc: Global, kind: &str, input: &str) -> Result<String> {
         "steps" => steps::preferences_after(alloc, input),
         "known" => steps::known_after(alloc, input),
         "rows" => kept::rows_after(alloc, input),
+        "changes" => kept::row_changes(alloc, input),
         "read" => kept::read_of(alloc, input),
+        "bindings" => bound::bindings_of(alloc, input),
+        "bound" => bound::bound_of(alloc, input),
         _ => bail!("no kind of rows: {kind}"),
     }
 }

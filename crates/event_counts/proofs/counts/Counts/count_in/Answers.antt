@@ -1,5 +1,7 @@
 -- What an event makes of the counts.
-use Rattle.std.proofs.Common.{◌≡◌, ℕ, ◌≤◌, List, length, get_or, Some, None, sym, subst, refl, arith}
+use Rattle.std.proofs.Common.{◌≡◌, ℕ, ◌≤◌, List, length, get_or, Some, None, sym, ap, ◌∙◌, subst, refl, arith}
+use Rattle.std.specs.Prelude.{slice_set}
+use Rattle.std.specs.List.{insert}
 use Rattle.event_counts.specs.declared.name_counts.NameCounts.{NameCounts}
 use Rattle.event_counts.specs.Kept.{counted_in, found}
 use Rattle.event_counts.specs.Places.{HasNameAt}
@@ -21,7 +23,7 @@ returns-in_err-with_replaced-in-Ok-clause-limit c =
 
 pub returns-in_ok-with_replaced-in-Ok-clause-limit : goal.returns-in_ok-with_replaced-in-Ok-clause-limit
 returns-in_ok-with_replaced-in-Ok-clause-limit c =
-    no_limit c.in_ok-with_replaced-in-Ok.field-0.items _ _ _ (is_there c.args.name.now c.args.self.now c.names-names.result.now c.in-Ok.place c.index-names-place.result c.names-names.ensures.names c.names-names.ensures.sound c.in-Ok.ensures.found)
+    no_limit c.in_ok-with_replaced-in-Ok.field-0 _ _ _ (is_there c.args.name.now c.args.self.now c.names-names.result.now c.in-Ok.place c.index-names-place.result c.names-names.ensures.names c.names-names.ensures.sound c.in-Ok.ensures.found)
 
 pub returns-in-Err-clause-limit : goal.returns-in-Err-clause-limit
 returns-in-Err-clause-limit c =
@@ -33,8 +35,8 @@ returns-in-Err-clause-limit c =
 pub invariant_of-result : goal.invariant_of-result
 invariant_of-result c =
     let sound : IsSound c.names-names.result.now = subst IsSound (sym c.names-names.ensures.names) c.names-names.ensures.sound in
-    sound-there c.args.name.now c.args.count c.args.now c.moment_at-moment.result c.names-names.result.now c.in_ok-with_replaced-in-Ok.field-0.items c.in-Ok.place c.index-names-place.result c.in_ok-more-in-Ok.more
-    sound c.moment_at-moment.ensures c.in-Ok.ensures.found c.index-names-place.is c.in_ok-more-in-Ok.ensures c.in_ok-with_replaced-in-Ok.ensures c.requires.moment
+    sound-there c.args.name.now c.args.count c.args.now c.moment_at-moment.result c.names-names.result.now c.in_ok-with_replaced-in-Ok.field-0 c.in-Ok.place c.index-names-place.result c.in_ok-more-in-Ok.more
+    sound c.moment_at-moment.ensures c.in-Ok.ensures.found c.index-names-place.is c.in_ok-more-in-Ok.ensures (c.in_ok-with_replaced-in-Ok.ensures ∙ ap (λ ns. slice_set ns c.in-Ok.place c.in_ok-more-in-Ok.more) (sym c.names-names.ensures.names)) c.requires.moment
 
 pub returns-in_ok-with_replaced-in-Ok-clause-sound : goal.returns-in_ok-with_replaced-in-Ok-clause-sound
 returns-in_ok-with_replaced-in-Ok-clause-sound c = invariant_of-result c
@@ -42,21 +44,21 @@ returns-in_ok-with_replaced-in-Ok-clause-sound c = invariant_of-result c
 pub returns-in_ok-with_replaced-in-Ok-clause-counts : goal.returns-in_ok-with_replaced-in-Ok-clause-counts
 returns-in_ok-with_replaced-in-Ok-clause-counts c =
     let sound : IsSound c.names-names.result.now = subst IsSound (sym c.names-names.ensures.names) c.names-names.ensures.sound in
-    subst (λ ns. c.in_ok-with_replaced-in-Ok.field-0.items ≡ counted_in c.args.name.now c.args.count c.args.now ns) c.names-names.ensures.names
-    (counted-there c.args.name.now c.args.count c.args.now c.moment_at-moment.result c.names-names.result.now c.in_ok-with_replaced-in-Ok.field-0.items c.in-Ok.place c.index-names-place.result c.in_ok-more-in-Ok.more
-    sound c.moment_at-moment.ensures c.in-Ok.ensures.found c.index-names-place.is c.in_ok-more-in-Ok.ensures c.in_ok-with_replaced-in-Ok.ensures)
+    subst (λ ns. c.in_ok-with_replaced-in-Ok.field-0 ≡ counted_in c.args.name.now c.args.count c.args.now ns) c.names-names.ensures.names
+    (counted-there c.args.name.now c.args.count c.args.now c.moment_at-moment.result c.names-names.result.now c.in_ok-with_replaced-in-Ok.field-0 c.in-Ok.place c.index-names-place.result c.in_ok-more-in-Ok.more
+    sound c.moment_at-moment.ensures c.in-Ok.ensures.found c.index-names-place.is c.in_ok-more-in-Ok.ensures (c.in_ok-with_replaced-in-Ok.ensures ∙ ap (λ ns. slice_set ns c.in-Ok.place c.in_ok-more-in-Ok.more) (sym c.names-names.ensures.names)))
 
 pub invariant_of-result-in-Err-2 : goal.invariant_of-result-in-Err-2
 invariant_of-result-in-Err-2 c =
     let sound : IsSound c.names-names.result.now = subst IsSound (sym c.names-names.ensures.names) c.names-names.ensures.sound in
-    sound-new c.args.name.now c.args.count c.args.now c.moment_at-moment.result c.names-names.result.now c.in_ok-with_inserted-in-Err-2.field-0.items c.in-Err.field-0 c.in_ok-first-in-Err-2.first
-    c.moment_at-moment.ensures c.in-Err.ensures.missed c.in_ok-first-in-Err-2.ensures c.in_ok-with_inserted-in-Err-2.ensures sound c.requires.name c.requires.moment (omega arith)
+    sound-new c.args.name.now c.args.count c.args.now c.moment_at-moment.result c.names-names.result.now c.in_ok-with_inserted-in-Err-2.field-0 c.in-Err.field-0 c.in_ok-first-in-Err-2.first
+    c.moment_at-moment.ensures c.in-Err.ensures.missed c.in_ok-first-in-Err-2.ensures (c.in_ok-with_inserted-in-Err-2.ensures ∙ ap (λ ns. insert ns c.in-Err.field-0 c.in_ok-first-in-Err-2.first) (sym c.names-names.ensures.names)) sound c.requires.name c.requires.moment (omega arith)
 
 pub returns-in_ok-with_inserted-in-Err-2-clause-sound : goal.returns-in_ok-with_inserted-in-Err-2-clause-sound
 returns-in_ok-with_inserted-in-Err-2-clause-sound c = invariant_of-result-in-Err-2 c
 
 pub returns-in_ok-with_inserted-in-Err-2-clause-counts : goal.returns-in_ok-with_inserted-in-Err-2-clause-counts
 returns-in_ok-with_inserted-in-Err-2-clause-counts c =
-    subst (λ ns. c.in_ok-with_inserted-in-Err-2.field-0.items ≡ counted_in c.args.name.now c.args.count c.args.now ns) c.names-names.ensures.names
-    (counted-new c.args.name.now c.args.count c.args.now c.moment_at-moment.result c.names-names.result.now c.in_ok-with_inserted-in-Err-2.field-0.items c.in-Err.field-0 c.in_ok-first-in-Err-2.first
-    c.moment_at-moment.ensures c.in-Err.ensures.missed c.in_ok-first-in-Err-2.ensures c.in_ok-with_inserted-in-Err-2.ensures)
+    subst (λ ns. c.in_ok-with_inserted-in-Err-2.field-0 ≡ counted_in c.args.name.now c.args.count c.args.now ns) c.names-names.ensures.names
+    (counted-new c.args.name.now c.args.count c.args.now c.moment_at-moment.result c.names-names.result.now c.in_ok-with_inserted-in-Err-2.field-0 c.in-Err.field-0 c.in_ok-first-in-Err-2.first
+    c.moment_at-moment.ensures c.in-Err.ensures.missed c.in_ok-first-in-Err-2.ensures (c.in_ok-with_inserted-in-Err-2.ensures ∙ ap (λ ns. insert ns c.in-Err.field-0 c.in_ok-first-in-Err-2.first) (sym c.names-names.ensures.names)))

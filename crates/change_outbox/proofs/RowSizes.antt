@@ -1,0 +1,46 @@
+-- How many bytes the rows of an outbox take.
+use Rattle.std.proofs.Common.{◌≡◌, ◌+◌, ◌<◌, ◌≤◌, ◌++◌, ◌∷◌, [], List, ℕ, suc, Bool, true, false, Option, Some, None, map, length, length-append, get_or, take, refl, ap, ◌∙◌, sym, arith, ne_eqb}
+use Rattle.std.specs.Prelude.{nat_lt, if◌then◌else◌}
+use Rattle.std.proofs.lemmas.Bool.{lt-ltb}
+use Rattle.std.proofs.lemmas.List.{map-append, take_more}
+use Rattle.plain_text.proofs.Splitting.{not_within}
+use Rattle.plain_text.specs.Names.{past_80, first_of}
+use Rattle.enrol_states.specs.Statuses.{IsSlug}
+use Rattle.row_batches.proofs.Sizes.{put_size, puts_text-append, puts_size-append}
+use Rattle.row_batches.specs.Batch.{puts_text}
+use Rattle.change_outbox.specs.declared.change.Change.{Change}
+use Rattle.change_outbox.specs.Rows.{change_key, change_row, next_row, next_rows, number_text}
+
+none_past : (a b : Option ℕ) → first_of a b ≡ None → b ≡ None
+none_past None b is = is
+none_past (Some n) b is = absurd cc
+
+pub slug_short : (s : List ℕ) → IsSlug s → length s ≤ 80
+slug_short [] slug = omega arith
+slug_short (x ∷ s) slug =
+    let past : past_80 (x ∷ s) ≡ None = none_past _ (past_80 (x ∷ s)) (rw (ne_eqb (suc (length s)) 0 (λ none. omega arith)) at slug) in
+    not_within 80 (length (x ∷ s)) past
+
+length-number_text : (n : ℕ) → length (number_text n) ≡ 8
+unfolding number_text
+length-number_text n = refl
+
+next_size_at : (n : ℕ) (b : Bool) → nat_lt 1 n ≡ b → length (puts_text (next_rows n)) ≡ (if b then 16 else 0)
+next_size_at n true is = ap (λ (t : Bool). length (puts_text (if t then next_row n ∷ [] else []))) is ∙ omega (arith, put_size (next_row n) [], length-number_text n)
+next_size_at n false is = ap (λ (t : Bool). length (puts_text (if t then next_row n ∷ [] else []))) is
+
+pub one_size : (n : ℕ) → 1 < n → 16 ≡ length (puts_text (next_rows n))
+one_size n more = sym (next_size_at n true (lt-ltb 1 n more))
+
+row_size : (c : Change) → length (puts_text (change_row c ∷ [])) ≡ 18 + length c.slug + length c.branch
+row_size c = omega (arith, put_size (change_row c) [], length-number_text c.number, length-append c.slug c.branch)
+
+-- one entry more
+pub size_more : (cs : List Change) (i : ℕ) (c : Change) → i < length cs → c ≡ get_or cs i c
+    → length (puts_text (map change_row (take (i + 1) cs))) ≡ length (puts_text (map change_row (take i cs))) + (18 + length c.slug + length c.branch)
+size_more cs i c within is =
+    ap (λ l. length (puts_text (map change_row l))) (take_more cs i c within)
+    ∙ ap (λ l. length (puts_text l)) (map-append change_row (take i cs) (get_or cs i c ∷ []))
+    ∙ puts_size-append (map change_row (take i cs)) (change_row (get_or cs i c) ∷ [])
+    ∙ ap (λ d. length (puts_text (map change_row (take i cs))) + length (puts_text (change_row d ∷ []))) (sym is)
+    ∙ ap (λ k. length (puts_text (map change_row (take i cs))) + k) (row_size c)

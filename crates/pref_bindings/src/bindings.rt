@@ -1,0 +1,193 @@
+// Bindings of variables to preferences.
+ghost use Rattle.std.specs.Prelude.{◌≡◌, ◌&&◌, ◌++◌, ◌∷◌, [], false, not, IfOk, OnOk};
+ghost use Rattle.json_tree.specs.Json.{members_of};
+ghost use Rattle.json_tree.specs.Tree.{json_of};
+ghost use Rattle.plain_text.specs.Names.{is_name};
+ghost use Rattle.recipe_reader.specs.Outcome.{only_if};
+ghost use Rattle.enrol_states.specs.Order.{is_in};
+ghost use Rattle.pref_bindings.specs.Bindings.{AreBindings, GivesBindings, HasPreferences, bindings_of, preferences_of, with_feature, with_features, with_variable, with_variables};
+
+use crate::fault::BindingFault;
+use json_tree::{Members, Tree};
+use plain_text::is_name;
+use sequences::{Sequence, Text};
+use std::alloc::{AllocError, Global};
+use std::collections::BTreeSet;
+use std::marker::Model;
+
+/// That a feature's variable sets a preference.
+#[derive(Drop)]
+pub struct Binding {
+    pub feature: Text,
+    pub variable: Text,
+    /// 1 to 80 ASCII letters, digits, `-`, `_` and `.`.
+    pub preference: Text,
+}
+
+/// Bindings, of which no two have one preference. Contracts see them as their list.
+#[derive(Drop)]
+pub struct Bindings {
+    bindings: Sequence<Binding>,
+}
+
+impl Model for Bindings {
+    ghost use Rattle.std.specs.Prelude.{List};
+    ghost use Rattle.std.specs.Coded.{codes};
+    ghost use Rattle.pref_bindings.specs.declared.bindings.Binding.{Binding};
+    ghost use Rattle.pref_bindings.specs.Bindings.{AreBindings};
+
+    ghost Value = { List Binding };
+
+    ghost coded = { Prim.hlevel codes };
+
+    ghost view = { λ b. b.bindings };
+
+    ghost invariant = { λ b. AreBindings b.bindings };
+}
+
+impl Bindings {
+    /// Takes over bindings, with no memory.
+    pub fn from_sequence(bindings: Sequence<Binding>) -> Bindings
+        requires { AreBindings bindings }
+        ensures { result ≡ bindings }
+    {
+        Bindings { bindings }
+    }
+
+    /// Gives the bindings back, with no memory.
+    pub fn into_sequence(self) -> Sequence<Binding>
+        ensures { result ≡ self }
+    {
+        self.bindings
+    }
+
+    /// The bindings. It takes no memory.
+    pub fn as_slice(&self) -> &[Binding]
+        ensures bindings { result.now ≡ self.now }
+        ensures are { AreBindings self.now }
+    {
+        self.bindings.as_slice()
+    }
+}
+
+/// The bindings that a tree is, in its order: an object from features to objects from variables to preferences, each of which is a
+/// name and stands once. `BadBinding` names the first feature at which this fails, and is the empty text where the tree is no
+/// object.
+#[tactic(auto, unfolding(crate::specs::Bindings::bindings_of))]
+pub fn read_bindings(alloc: Global, tree: &Tree) -> Result<Bindings, BindingFault>
+    ensures bindings { GivesBindings result (bindings_of (json_of tree.now)) }
+    ensures are { IfOk result AreBindings }
+{
+    match tree {
+        Tree::Object(features) => bindings_of_features(alloc, features),
+        _ => Err(BindingFault::BadBinding(Text::new(alloc, "")?)),
+    }
+}
+
+// The bindings of features and their variables.
+fn bindings_of_features(alloc: Global, features: &Members) -> Result<Bindings, BindingFault>
+    ensures bindings { GivesBindings result (with_features [] (members_of features.now)) }
+    ensures are { IfOk result AreBindings }
+{
+    let members = features.as_slice();
+    let mut found = Found::none(alloc);
+    for (feature, variables) in members {
+        if !found.add_feature(feature, variables)? {
+            return Err(BindingFault::BadBinding(feature.clone()?));
+        }
+    }
+    Ok(Bindings::from_sequence(found.bindings))
+}
+
+/// The bindings found so far, and their preferences as a set.
+#[derive(Drop)]
+pub(crate) struct Found {
+    pub bindings: Sequence<Binding>,
+    pub preferences: BTreeSet<Text>,
+}
+
+impl Found {
+    // No bindings.
+    #[tactic(auto, using(crate::proofs::FoundBindings::found_none))]
+    fn none(alloc: Global) -> Found
+        ensures bindings { result.bindings ≡ [] }
+        ensures preferences { HasPreferences result }
+    {
+        Found {
+            bindings: Sequence::new(alloc),
+            preferences: BTreeSet::new(alloc),
+        }
+    }
+
+    // Adds those of a feature, and says whether it could.
+    fn add_feature(&mut self, feature: &Text, tree: &Tree) -> Result<bool, AllocError>
+        requires { HasPreferences self.old }
+        ensures added { IfOk result (λ added. with_feature self.old.bindings feature.now (json_of tree.now) ≡ only_if added self.new.bindings) }
+        ensures preferences { OnOk result (HasPreferences self.new) }
+    {
+        match tree {
+            Tree::Object(variables) => self.add_variables(feature, variables),
+            _ => Ok(false),
+        }
+    }
+
+    // Adds those of a feature's variables, and says whether it could.
+    fn add_variables(&mut self, feature: &Text, variables: &Members) -> Result<bool, AllocError>
+        requires { HasPreferences self.old }
+        ensures added { IfOk result (λ added. with_variables feature.now self.old.bindings (members_of variables.now) ≡ only_if added self.new.bindings) }
+        ensures preferences { OnOk result (HasPreferences self.new) }
+    {
+        let members = variables.as_slice();
+        for (variable, tree) in members {
+            if !self.add_variable(feature, variable, tree)? {
+                return Ok(false);
+            }
+        }
+        Ok(true)
+    }
+
+    // Adds that of a variable, where the tree is a name that is no other's preference, and says whether it did.
+    #[tactic(auto, using(crate::proofs::FoundBindings::free_is_new))]
+    fn add_variable(
+        &mut self,
+        feature: &Text,
+        variable: &Text,
+        tree: &Tree,
+    ) -> Result<bool, AllocError>
+        requires { HasPreferences self.old }
+        ensures added { IfOk result (λ added. with_variable feature.now self.old.bindings variable.now (json_of tree.now) ≡ only_if added self.new.bindings) }
+        ensures preferences { OnOk result (HasPreferences self.new) }
+    {
+        match tree {
+            Tree::Text(preference) if self.is_free(preference) => {
+                self.add(Binding {
+                    feature: feature.clone()?,
+                    variable: variable.clone()?,
+                    preference: preference.clone()?,
+                })?;
+                Ok(true)
+            }
+            _ => Ok(false),
+        }
+    }
+
+    // Whether the text is a name that is no other's preference.
+    fn is_free(&self, preference: &Text) -> bool
+        requires { HasPreferences self.now }
+        ensures { result ≡ (is_name preference.now && not (is_in (preferences_of self.now.bindings) preference.now)) }
+    {
+        is_name(preference.as_str().as_bytes()) && !self.preferences.contains(preference)
+    }
+
+    // Adds a binding.
+    fn add(&mut self, binding: Binding) -> Result<(), AllocError>
+        requires preferences { HasPreferences self.old }
+        requires is_new { is_in (preferences_of self.old.bindings) binding.preference ≡ false }
+        ensures bindings { OnOk result (self.new.bindings ≡ self.old.bindings ++ binding ∷ []) }
+        ensures preferences { OnOk result (HasPreferences self.new) }
+    {
+        self.preferences.insert(binding.preference.clone()?)?;
+        self.bindings.push(binding)?;
+        Ok(())
+    }
+}
