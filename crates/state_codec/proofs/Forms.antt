@@ -1,5 +1,5 @@
 -- The forms of a state: both are read as it and are batches of one length, and each is told from the other by the row `p`.
-use Rattle.std.proofs.Common.{◌≡◌, ◌+◌, ◌*◌, ◌<◌, ◌^◌, ◌++◌, ◌∷◌, [], List, ℕ, Bool, true, false, Some, inl, inr, map, length, refl, sym, ap, ◌∙◌, subst, arith}
+use Rattle.std.proofs.Common.{◌≡◌, ◌+◌, ◌*◌, ◌<◌, ◌^◌, ◌++◌, ◌∷◌, [], List, ℕ, Bool, true, false, Some, inl, inr, map, length, refl, sym, ap, ap₂, ◌∙◌, subst, arith}
 use Rattle.std.specs.Prelude.{◌||◌}
 use Rattle.enrol_states.specs.Consistent.{IsConsistent}
 use Rattle.enrol_states.specs.declared.state.State.{State}
@@ -8,13 +8,14 @@ use Rattle.row_batches.specs.Batches.{HaveRoom}
 use Rattle.row_batches.specs.Rows.{AreRows}
 use Rattle.row_batches.specs.declared.store_row.StoreRow.{StoreRow}
 use Rattle.row_batches.proofs.Walks.{whole_rule}
-use Rattle.state_codec.specs.Forms.{IsForm, IsOldForm, IsSpelled, old_rows, old_spelling, is_old, needs_migration}
+use Rattle.state_codec.specs.Forms.{IsForm, IsOldForm, IsLaterForm, IsOldLater, AreParts, IsSpelled, old_rows, old_spelling, is_old, needs_migration}
 use Rattle.state_values.specs.Reading.{flags, participation_in}
-use Rattle.state_codec.specs.Reading.{state_in}
+use Rattle.state_codec.specs.Reading.{before_id, from_id, state_in}
 use Rattle.state_codec.specs.Sound.{IsSound}
 use Rattle.state_values.specs.Values.{bit, participation}
-use Rattle.state_codec.specs.Spelling.{row, key_row, recipe_row, status_row, last_rows, pending_recipes, rows_with, rows_of, spelling}
+use Rattle.state_codec.specs.Spelling.{row, key_row, recipe_row, status_row, last_rows, pending_recipes, first_rows, later_rows, rows_with, rows_of, spelling}
 use Rattle.state_codec.proofs.KeyOrder.{with_rise}
+use Rattle.state_codec.proofs.Parts.{form_parts}
 use Rattle.state_codec.proofs.Room.{with_room}
 use Rattle.state_codec.proofs.Sizes.{length-byte}
 use Rattle.state_codec.proofs.StateRead.{state_read}
@@ -39,10 +40,16 @@ one_says true false same = absurd cc
 one_says false true same = absurd cc
 one_says false false same = refl
 
-pub form_read : (rows : List StoreRow) (s : State) → IsSound s → IsForm s rows → state_in rows ≡ Some s
-form_read rows s sound (inl is) = ap state_in is ∙ state_read (participation s) s (participation_says s) sound.consistent sound.records
-form_read rows s sound (inr old) =
-    ap state_in old.same ∙ state_read (bit s.experiments) s (one_says s.experiments s.rollouts old.one_flag) sound.consistent sound.records
+later_read : (first later : List StoreRow) (s : State) → IsSound s → first ≡ first_rows s → IsLaterForm s later → state_in first later ≡ Some s
+later_read first later s sound are (inl is) = ap₂ (λ (a b : List StoreRow). state_in a b) are is ∙ state_read (participation s) s (participation_says s) sound.consistent sound.records
+later_read first later s sound are (inr old) =
+    ap₂ (λ (a b : List StoreRow). state_in a b) are old.same ∙ state_read (bit s.experiments) s (one_says s.experiments s.rollouts old.one_flag) sound.consistent sound.records
+
+pub parts_read : (first later : List StoreRow) (s : State) → IsSound s → AreParts s first later → state_in first later ≡ Some s
+parts_read first later s sound parts = later_read first later s sound parts.first_are parts.later_are
+
+pub form_read : (rows : List StoreRow) (s : State) → IsSound s → IsForm s rows → state_in (before_id rows) (from_id rows) ≡ Some s
+form_read rows s sound form = parts_read (before_id rows) (from_id rows) s sound (form_parts rows s form)
 
 -- ---- both are batches
 
@@ -106,14 +113,17 @@ or_none : (b c : Bool) → c ≡ false → (b || c) ≡ b
 or_none true c none = refl
 or_none false c none = none
 
-with_byte : (byte : ℕ) (s : State) → needs_migration (rows_with byte s) ≡ is_old (row (112 ∷ []) (byte ∷ []))
-unfolding rows_with
-with_byte byte s =
-    none_old (key_row (99 ∷ [])) s.coenrolling _ (λ f. refl)
-    ∙ none_old (recipe_row (108 ∷ [])) s.live _ (λ r. refl)
+later_byte : (byte : ℕ) (s : State) → needs_migration (later_rows byte s) ≡ is_old (row (112 ∷ []) (byte ∷ []))
+unfolding later_rows
+later_byte byte s =
+    none_old (recipe_row (108 ∷ [])) s.live _ (λ r. refl)
     ∙ none_old (recipe_row (110 ∷ [])) (pending_recipes s.pending) _ (λ r. refl)
     ∙ none_old (key_row (111 ∷ [])) s.opted_out _ (λ slug. refl)
     ∙ or_none (is_old (row (112 ∷ []) (byte ∷ []))) (needs_migration (map status_row s.rows ++ last_rows s)) (none_old status_row s.rows (last_rows s) (λ w. refl))
+
+with_byte : (byte : ℕ) (s : State) → needs_migration (rows_with byte s) ≡ is_old (row (112 ∷ []) (byte ∷ []))
+unfolding rows_with first_rows
+with_byte byte s = none_old (key_row (99 ∷ [])) s.coenrolling (later_rows byte s) (λ f. refl) ∙ later_byte byte s
 
 new_byte : (e r : Bool) → is_old (row (112 ∷ []) ((4 + bit e + 2 * bit r) ∷ [])) ≡ false
 new_byte true true = refl
@@ -142,6 +152,22 @@ old_where rows s needs (inr old) = old
 pub new_where : (rows : List StoreRow) (s : State) → needs_migration rows ≡ false → IsForm s rows → rows ≡ rows_of s
 new_where rows s none (inl is) = is
 new_where rows s none (inr old) = absurd (true_false (needs_migration rows) (ap needs_migration old.same ∙ old_is_old s) none)
+
+later_is_new : (s : State) → needs_migration (later_rows (participation s) s) ≡ false
+unfolding participation
+later_is_new s = later_byte (participation s) s ∙ new_byte s.experiments s.rollouts
+
+later_is_old : (s : State) → needs_migration (later_rows (bit s.experiments) s) ≡ true
+later_is_old s = later_byte (bit s.experiments) s ∙ old_byte s.experiments
+
+-- and of the later rows alone
+pub old_later_where : (later : List StoreRow) (s : State) → needs_migration later ≡ true → IsLaterForm s later → IsOldLater s later
+old_later_where later s needs (inl is) = absurd (true_false (needs_migration later) needs (ap needs_migration is ∙ later_is_new s))
+old_later_where later s needs (inr old) = old
+
+pub new_later_where : (later : List StoreRow) (s : State) → needs_migration later ≡ false → IsLaterForm s later → later ≡ later_rows (participation s) s
+new_later_where later s none (inl is) = is
+new_later_where later s none (inr old) = absurd (true_false (needs_migration later) (ap needs_migration old.same ∙ later_is_old s) none)
 
 -- rows are spelled or an old form, and never both
 pub apart : (s t : State) (rows : List StoreRow) → rows ≡ rows_of s → IsOldForm t rows → ⊥

@@ -13,7 +13,7 @@ use Rattle.enrol_states.specs.declared.state.Row.{Row}
 use Rattle.row_batches.specs.Rows.{key_of, AreRows}
 use Rattle.row_batches.proofs.Joining.{Precede}
 use Rattle.state_values.specs.Values.{hyphenated, participation}
-use Rattle.state_codec.specs.Spelling.{row, key_row, recipe_row, status_row, status_rows, last_rows, pending_recipes, rows_behind_recipes, rows_with, rows_of}
+use Rattle.state_codec.specs.Spelling.{row, key_row, recipe_row, status_row, status_rows, last_rows, pending_recipes, rows_behind_recipes, first_rows, later_rows, rows_with, rows_of}
 use Rattle.row_batches.specs.declared.store_row.StoreRow.{StoreRow}
 
 -- the key is below those of all these rows
@@ -32,7 +32,7 @@ pub all_below : {A : Type 0} (f : A → StoreRow) (xs : List A) (behind : List S
 all_below f [] behind each = tt
 all_below f (x ∷ xs) behind each = (each x, all_below f xs behind each)
 
-rise_append : (rs ss : List StoreRow) → AreRows rs → AreRows ss → Precede rs ss → AreRows (rs ++ ss)
+pub rise_append : (rs ss : List StoreRow) → AreRows rs → AreRows ss → Precede rs ss → AreRows (rs ++ ss)
 unfolding IsStrictlySortedBy
 rise_append [] ss r_rise s_rise below = s_rise
 rise_append (r ∷ rs) ss r_rise s_rise below = (below_append r.key rs ss r_rise.0 below.0, rise_append rs ss r_rise.1 s_rise below.1)
@@ -64,6 +64,10 @@ pending_order None are = tt
 pending_order (Some rs) are = are.in_order
 
 -- ---- the rows of a state
+
+pub first_rise : (s : State) → IsConsistent s → AreRows (first_rows s)
+unfolding first_rows
+first_rise s is = rise_section 99 (λ (t : List ℕ). t) (key_row (99 ∷ [])) (λ t. refl) (λ a b. refl) s.coenrolling (subst Rise (sym (map_itself s.coenrolling)) is.coenrolling_order)
 
 module _ (byte : ℕ) (s : State) where
   -- behind the lists the sections follow one another
@@ -154,12 +158,16 @@ module _ (byte : ℕ) (s : State) where
   id_rises is =
       (below_live (105 ∷ []) (λ u. refl) (below_pending (105 ∷ []) (λ u. refl) (below_opt_outs (105 ∷ []) (λ u. refl) (below_statuses (105 ∷ []) refl refl (λ u. refl) refl refl refl))), live_rise is)
 
+  pub later_rise : IsConsistent s → AreRows (later_rows byte s)
+  unfolding later_rows
+  later_rise is = id_rises is
+
   pub with_rise : IsConsistent s → AreRows (rows_with byte s)
-  unfolding rows_with
+  unfolding rows_with first_rows later_rows
   with_rise is =
       rise_append (map (key_row (99 ∷ [])) s.coenrolling) from_id
-      (rise_section 99 (λ (t : List ℕ). t) (key_row (99 ∷ [])) (λ t. refl) (λ a b. refl) s.coenrolling (subst Rise (sym (map_itself s.coenrolling)) is.coenrolling_order))
-      (id_rises is)
+      (first_rise s is)
+      (later_rise is)
       (all_below (key_row (99 ∷ [])) s.coenrolling from_id features_below)
 
 pub rows_rise : (s : State) → IsConsistent s → AreRows (rows_of s)

@@ -17,7 +17,7 @@ use Rattle.row_batches.proofs.Turns as turns
 use Rattle.row_batches.proofs.Walks.{applied_between}
 use Rattle.state_codec.specs.Forms.{old_rows}
 use Rattle.state_values.specs.Values.{bit, hyphenated, participation}
-use Rattle.state_codec.specs.Spelling.{row, key_row, recipe_row, status_row, last_rows, pending_recipes, rows_with, rows_of, spelling}
+use Rattle.state_codec.specs.Spelling.{row, key_row, recipe_row, status_row, last_rows, pending_recipes, first_rows, later_rows, rows_with, rows_of, spelling}
 use Rattle.state_codec.proofs.Joined.{between_itself}
 use Rattle.state_codec.proofs.KeyOrder.{from_statuses, from_opt_outs, from_pending, from_live, from_id, with_rise}
 
@@ -52,7 +52,7 @@ other_byte byte other rest differ =
     (turns.differs (byte_row byte) (byte_row other) rest rest differ refl).split ∙ ap (λ (cs : List RowChange). Put (byte_row other) ∷ cs) (between_itself rest)
 
 with_bytes : (byte other : ℕ) (s : State) → bytes_eq (byte ∷ []) (other ∷ []) ≡ false → changes_between (rows_with byte s) (rows_with other s) ≡ Put (byte_row other) ∷ []
-unfolding rows_with
+unfolding rows_with first_rows later_rows
 with_bytes byte other s differ =
     same_front (map (key_row (99 ∷ [])) s.coenrolling) (from_id byte s) (from_id other s)
     ∙ same_front (row (105 ∷ []) (hyphenated s.id) ∷ []) (from_live byte s) (from_live other s)

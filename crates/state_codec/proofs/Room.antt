@@ -12,17 +12,17 @@ use Rattle.enrol_states.specs.declared.state.Row.{Row}
 use Rattle.row_batches.specs.Batch.{batch_text, puts_text, whole_of}
 use Rattle.row_batches.specs.Batches.{HaveRoom}
 use Rattle.state_values.specs.Values.{participation}
-use Rattle.state_codec.specs.Spelling.{key_row, recipe_row, status_row, status_rows, last_rows, pending_recipes, rows_with, rows_of, spelling}
+use Rattle.state_codec.specs.Spelling.{key_row, recipe_row, status_row, status_rows, last_rows, pending_recipes, first_rows, later_rows, rows_with, rows_of, spelling}
 use Rattle.state_codec.specs.Sound.{IsSound}
 use Rattle.row_batches.specs.declared.store_row.StoreRow.{StoreRow}
 use Rattle.state_values.proofs.Names.{slug_short, name_short, recipe_slug}
 use Rattle.row_batches.proofs.Sizes.{put_size}
 
-abbrev HaveShortKeys : List StoreRow → Type 0
+abbrev pub HaveShortKeys : List StoreRow → Type 0
 HaveShortKeys [] = ⊤
 HaveShortKeys (r ∷ rs) = (length r.key ≤ 81) × HaveShortKeys rs
 
-short-append : (rs ss : List StoreRow) → HaveShortKeys rs → HaveShortKeys ss → HaveShortKeys (rs ++ ss)
+pub short-append : (rs ss : List StoreRow) → HaveShortKeys rs → HaveShortKeys ss → HaveShortKeys (rs ++ ss)
 short-append [] ss r_are s_are = s_are
 short-append (r ∷ rs) ss r_are s_are = (r_are.0, short-append rs ss r_are.1 s_are)
 
@@ -42,21 +42,27 @@ pub pending_limit : (p : Option (List Recipe)) → ArePending p → length (pend
 pending_limit None are = omega arith
 pending_limit (Some rs) are = are.limit
 
-keys_short : (byte : ℕ) (s : State) → IsConsistent s → HaveShortKeys (rows_with byte s)
-unfolding rows_with
-keys_short byte s is =
+pub first_short : (s : State) → IsConsistent s → HaveShortKeys (first_rows s)
+unfolding first_rows
+first_short s is = short-map (λ name. IsTrue (is_name name)) (key_row (99 ∷ [])) s.coenrolling (λ name is_one. omega (arith, name_short name is_one)) is.coenrolling_names
+
+pub later_short : (byte : ℕ) (s : State) → IsConsistent s → HaveShortKeys (later_rows byte s)
+unfolding later_rows
+later_short byte s is =
     let last : HaveShortKeys (last_rows s) = (omega arith, (omega arith, (omega arith, tt))) in
     let statuses : HaveShortKeys (status_rows byte s) = (omega arith, (omega arith, short-map (λ (w : Row). IsSlug w.slug) status_row s.rows (λ w slug. omega (arith, slug_short w.slug slug)) is.row_slugs)) in
-    let opted_out = short-map IsSlug (key_row (111 ∷ [])) s.opted_out (λ slug is_one. omega (arith, slug_short slug is_one)) is.opted_out_slugs in
-    let coenrolling = short-map (λ name. IsTrue (is_name name)) (key_row (99 ∷ [])) s.coenrolling (λ name is_one. omega (arith, name_short name is_one)) is.coenrolling_names in
-    short-append (map (key_row (99 ∷ [])) s.coenrolling) _ coenrolling (
+    let opted_out = short-map IsSlug (key_row (111 ∷ [])) s.opted_out (λ slug is_one. omega (arith, slug_short slug is_one)) is.opted_out_slugs in (
       omega arith,
       short-append (map (recipe_row (108 ∷ [])) s.live) _ (recipes_short 108 s.live is.live.valid)
           (short-append (map (recipe_row (110 ∷ [])) (pending_recipes s.pending)) _ (recipes_short 110 (pending_recipes s.pending) (pending_valid s.pending is.pending))
           (short-append (map (key_row (111 ∷ [])) s.opted_out) _ opted_out (short-append (status_rows byte s) (last_rows s) statuses last))),
     )
 
-room_of : (rs : List StoreRow) → HaveShortKeys rs → length (puts_text rs) < 2 ^ 32 → HaveRoom rs
+keys_short : (byte : ℕ) (s : State) → IsConsistent s → HaveShortKeys (rows_with byte s)
+unfolding rows_with
+keys_short byte s is = short-append (first_rows s) (later_rows byte s) (first_short s is) (later_short byte s is)
+
+pub room_of : (rs : List StoreRow) → HaveShortKeys rs → length (puts_text rs) < 2 ^ 32 → HaveRoom rs
 room_of [] short fits = tt
 room_of (r ∷ rs) short fits = (record { key = omega (arith, short.0); value = omega (arith, put_size r rs) }, room_of rs short.1 (omega (arith, put_size r rs)))
 

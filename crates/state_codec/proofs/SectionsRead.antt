@@ -16,7 +16,7 @@ use Rattle.state_values.specs.Statuses.{number}
 use Rattle.state_values.specs.Outcome.{◌>>=◌}
 use Rattle.state_codec.specs.Folds.{folded, with_last, keeping}
 use Rattle.state_values.specs.Values.{hyphenated, bit}
-use Rattle.state_codec.specs.Spelling.{row, key_row, recipe_row, status_row, status_rows, last_rows, pending_recipes, rows_with}
+use Rattle.state_codec.specs.Spelling.{row, key_row, recipe_row, status_row, status_rows, last_rows, pending_recipes, later_rows}
 use Rattle.state_codec.specs.Sound.{AreRecords}
 use Rattle.state_codec.specs.Reading as reading
 use Rattle.state_codec.specs.Reading.{after_tag, value_if, value_under, inserted, inserting}
@@ -92,29 +92,27 @@ none_tagged tag f [] rest none = refl
 none_tagged tag f (c ∷ cs) rest none =
     ap (λ o. value_if o (f c).value (value_under tag (map f cs ++ rest))) (none c) ∙ none_tagged tag f cs rest none
 
--- ---- the rows of a state
+-- ---- the later rows of a state
 
 -- all sections in turn
-pub all_sections : {B : Type 0} (step : B → StoreRow → Option B) (byte : ℕ) (s : State) (a b c d e f g h : B)
-    → folded step a (map (key_row (99 ∷ [])) s.coenrolling) ≡ Some b
+pub all_sections : {B : Type 0} (step : B → StoreRow → Option B) (byte : ℕ) (s : State) (b c d e f g h : B)
     → step b (row (105 ∷ []) (hyphenated s.id)) ≡ Some c
     → folded step c (map (recipe_row (108 ∷ [])) s.live) ≡ Some d
     → folded step d (map (recipe_row (110 ∷ [])) (pending_recipes s.pending)) ≡ Some e
     → folded step e (map (key_row (111 ∷ [])) s.opted_out) ≡ Some f
     → folded step f (status_rows byte s) ≡ Some g
     → folded step g (last_rows s) ≡ Some h
-    → folded step a (rows_with byte s) ≡ Some h
-unfolding rows_with
-all_sections step byte s a b c d e f g h coenrolling id live pending opted_out statuses last =
+    → folded step b (later_rows byte s) ≡ Some h
+unfolding later_rows
+all_sections step byte s b c d e f g h id live pending opted_out statuses last =
     let opted_out_on = status_rows byte s ++ last_rows s in
     let pending_on = map (key_row (111 ∷ [])) s.opted_out ++ opted_out_on in
     let live_on = map (recipe_row (110 ∷ [])) (pending_recipes s.pending) ++ pending_on in
     let id_on = map (recipe_row (108 ∷ [])) s.live ++ live_on in
-    then_folded step a b h (map (key_row (99 ∷ [])) s.coenrolling) (row (105 ∷ []) (hyphenated s.id) ∷ id_on) coenrolling
-    (one_folded step b c h (row (105 ∷ []) (hyphenated s.id)) id_on id
+    one_folded step b c h (row (105 ∷ []) (hyphenated s.id)) id_on id
     (then_folded step c d h (map (recipe_row (108 ∷ [])) s.live) live_on live
     (then_folded step d e h (map (recipe_row (110 ∷ [])) (pending_recipes s.pending)) pending_on pending
-    (then_folded step e f h (map (key_row (111 ∷ [])) s.opted_out) opted_out_on opted_out (then_folded step f g h (status_rows byte s) (last_rows s) statuses last)))))
+    (then_folded step e f h (map (key_row (111 ∷ [])) s.opted_out) opted_out_on opted_out (then_folded step f g h (status_rows byte s) (last_rows s) statuses last))))
 
 pub all_statuses : {B : Type 0} (step : B → StoreRow → Option B) (byte : ℕ) (s : State) (a b c d : B) → step a (row (112 ∷ []) (byte ∷ [])) ≡ Some b → step b (row (113 ∷ []) (bit (is_some s.pending) ∷ [])) ≡ Some c
     → folded step c (map status_row s.rows) ≡ Some d → folded step a (status_rows byte s) ≡ Some d
@@ -133,12 +131,11 @@ other : (tag x : ℕ) (rest : List ℕ) → (x == tag) ≡ false → after_tag t
 other tag x rest differs = ap (λ b. if b then Some rest else None) differs
 
 -- no key of the sections before the statuses has the tag
-pub to_statuses : (tag byte : ℕ) (s : State) → (99 == tag) ≡ false → (105 == tag) ≡ false → (108 == tag) ≡ false → (110 == tag) ≡ false → (111 == tag) ≡ false
-    → value_under tag (rows_with byte s) ≡ value_under tag (status_rows byte s ++ last_rows s)
-unfolding rows_with
-to_statuses tag byte s c i l n o =
-    none_tagged tag (key_row (99 ∷ [])) s.coenrolling _ (λ f. other tag 99 f c)
-    ∙ ap (λ p. value_if p (hyphenated s.id) (value_under tag (map (recipe_row (108 ∷ [])) s.live ++ (map (recipe_row (110 ∷ [])) (pending_recipes s.pending) ++ (map (key_row (111 ∷ [])) s.opted_out ++ (status_rows byte s ++ last_rows s)))))) (other tag 105 [] i)
+pub to_statuses : (tag byte : ℕ) (s : State) → (105 == tag) ≡ false → (108 == tag) ≡ false → (110 == tag) ≡ false → (111 == tag) ≡ false
+    → value_under tag (later_rows byte s) ≡ value_under tag (status_rows byte s ++ last_rows s)
+unfolding later_rows
+to_statuses tag byte s i l n o =
+    ap (λ p. value_if p (hyphenated s.id) (value_under tag (map (recipe_row (108 ∷ [])) s.live ++ (map (recipe_row (110 ∷ [])) (pending_recipes s.pending) ++ (map (key_row (111 ∷ [])) s.opted_out ++ (status_rows byte s ++ last_rows s)))))) (other tag 105 [] i)
     ∙ none_tagged tag (recipe_row (108 ∷ [])) s.live _ (λ r. other tag 108 r.slug l)
     ∙ none_tagged tag (recipe_row (110 ∷ [])) (pending_recipes s.pending) _ (λ r. other tag 110 r.slug n)
     ∙ none_tagged tag (key_row (111 ∷ [])) s.opted_out _ (λ slug. other tag 111 slug o)

@@ -11,7 +11,7 @@ use Rattle.state_codec.specs.Forms.{old_spelling}
 use Rattle.state_values.specs.Values.{hyphenated, participation, bit}
 use Rattle.state_codec.specs.Sizes.{recipes_size}
 use Rattle.state_codec.specs.Sound.{IsSound}
-use Rattle.state_codec.specs.Spelling.{row, key_row, recipe_row, status_row, status_rows, last_rows, pending_recipes, rows_with, spelling}
+use Rattle.state_codec.specs.Spelling.{row, key_row, recipe_row, status_row, status_rows, last_rows, pending_recipes, first_rows, later_rows, rows_with, spelling}
 use Rattle.state_values.specs.Statuses.{number}
 use Rattle.row_batches.specs.declared.store_row.StoreRow.{StoreRow}
 use Rattle.state_values.proofs.ValuesRead.{length-number}
@@ -53,7 +53,7 @@ recipe_rows_size tag (r ∷ rs) = omega (arith, put_size (recipe_row (tag ∷ []
 pub length-with : (byte : ℕ) (s : State) → length (batch_text (whole_of (rows_with byte s)))
     ≡ 103 + length (puts_text (map (key_row (99 ∷ [])) s.coenrolling)) + length (puts_text (map (key_row (111 ∷ [])) s.opted_out)) + length (puts_text (map status_row s.rows)) + length s.version
     + (recipes_size s.live + recipes_size (pending_recipes s.pending))
-unfolding rows_with
+unfolding rows_with first_rows later_rows
 length-with byte s =
     let c = map (key_row (99 ∷ [])) s.coenrolling in
     let i = row (105 ∷ []) (hyphenated s.id) in

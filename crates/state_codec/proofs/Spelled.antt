@@ -42,11 +42,11 @@ spelled_makes s bytes batch text rules sound is = text_makes s bytes batch text 
 pub made_spelled : (s : State) (bytes : List ℕ) (batch : ChangeList) → bytes ≡ batch_text batch → MakesForm s batch → IsSpelled s bytes
 made_spelled s bytes batch text m = form_spelled s bytes m.rows m.form (text ∙ ap batch_text m.whole)
 
-pub not_read : (rows : List StoreRow) (s : State) → state_in rows ≡ None → state_in rows ≡ Some s → ⊥
-not_read rows s none some = cc
+pub not_read : (first later : List StoreRow) (s : State) → state_in first later ≡ None → state_in first later ≡ Some s → ⊥
+not_read first later s none some = cc
 
-pub one_state : (rows : List StoreRow) (s t : State) → state_in rows ≡ Some s → state_in rows ≡ Some t → s ≡ t
-one_state rows s t is other = cc
+pub one_state : (first later : List StoreRow) (s t : State) → state_in first later ≡ Some s → state_in first later ≡ Some t → s ≡ t
+one_state first later s t is other = cc
 
 pub if_ok_weaker : {T E : Type 0} (P Q : T → Type 0) (r : Result T E) → ((x : T) → P x → Q x) → IfOk r P → IfOk r Q
 if_ok_weaker P Q (Ok x) more is = more x is

@@ -11,7 +11,7 @@ use Rattle.enrol_states.specs.declared.state.State.{State}
 use Rattle.enrol_states.specs.declared.state.Row.{Row}
 use Rattle.state_values.specs.Outcome.{◌>>=◌}
 use Rattle.state_codec.specs.Folds.{keeping}
-use Rattle.state_codec.specs.Spelling.{key_row, recipe_row, status_row, pending_recipes, rows_with}
+use Rattle.state_codec.specs.Spelling.{key_row, recipe_row, status_row, pending_recipes, first_rows, later_rows}
 use Rattle.state_codec.specs.Sound.{AreRecords, HaveRecords}
 use Rattle.state_values.specs.Reading as values
 use Rattle.state_codec.specs.Reading as reading
@@ -19,31 +19,21 @@ use Rattle.state_values.specs.Reading.{flags, participation_in}
 use Rattle.state_codec.specs.Reading.{participation_under, slug_row, text_row, client_row, client_row_in, inserting, slugs_under, texts_under, client_rows_under, recipes_under, number_under, flag_under, id_under, version_under, pending_if, lists_in, recipes_in, last_in, state_in}
 use Rattle.state_values.proofs.ValuesRead.{slug_read, text_read, number_read, flag_read, id_read, recipe_read, status_read}
 use Rattle.state_values.proofs.Names.{name_utf8}
-use Rattle.state_codec.proofs.SectionsRead.{all_kept, all_inserted, skipped, all_sections, all_statuses, all_last, to_statuses, to_last, none_tagged}
+use Rattle.state_codec.proofs.SectionsRead.{all_kept, all_inserted, skipped, all_sections, all_statuses, all_last, to_statuses, to_last}
 
 -- ---- the lists
 
-features_read : (byte : ℕ) (s : State) → IsConsistent s → texts_under 99 (rows_with byte s) ≡ Some s.coenrolling
-unfolding texts_under text_row
-features_read byte s is =
-    let step = keeping (text_row 99) in
-    let fs = s.coenrolling in
-    all_sections step byte s [] fs fs fs fs fs fs fs
-    (all_kept (λ name. IsTrue (is_name name)) (text_row 99) (key_row (99 ∷ [])) fs [] (λ name is_one. ap (λ o. o >>= λ t. Some (Some t)) (text_read name (name_utf8 name is_one))) is.coenrolling_names)
-    refl
-    (skipped step (recipe_row (108 ∷ [])) s.live fs (λ r. refl))
-    (skipped step (recipe_row (110 ∷ [])) (pending_recipes s.pending) fs (λ r. refl))
-    (skipped step (key_row (111 ∷ [])) s.opted_out fs (λ slug. refl))
-    (all_statuses step byte s fs fs fs fs refl refl (skipped step status_row s.rows fs (λ w. refl)))
-    (all_last step s fs fs fs fs refl refl refl)
+features_read : (s : State) → IsConsistent s → texts_under 99 (first_rows s) ≡ Some s.coenrolling
+unfolding texts_under text_row first_rows
+features_read s is =
+    all_kept (λ name. IsTrue (is_name name)) (text_row 99) (key_row (99 ∷ [])) s.coenrolling [] (λ name is_one. ap (λ o. o >>= λ t. Some (Some t)) (text_read name (name_utf8 name is_one))) is.coenrolling_names
 
-opted_out_read : (byte : ℕ) (s : State) → IsConsistent s → slugs_under 111 (rows_with byte s) ≡ Some s.opted_out
+opted_out_read : (byte : ℕ) (s : State) → IsConsistent s → slugs_under 111 (later_rows byte s) ≡ Some s.opted_out
 unfolding slugs_under slug_row
 opted_out_read byte s is =
     let step = keeping (slug_row 111) in
     let ss = s.opted_out in
-    all_sections step byte s [] [] [] [] [] ss ss ss
-    (skipped step (key_row (99 ∷ [])) s.coenrolling [] (λ f. refl))
+    all_sections step byte s [] [] [] [] ss ss ss
     refl
     (skipped step (recipe_row (108 ∷ [])) s.live [] (λ r. refl))
     (skipped step (recipe_row (110 ∷ [])) (pending_recipes s.pending) [] (λ r. refl))
@@ -58,13 +48,12 @@ client_row_read : (w : Row) → IsClientRow w → client_row 114 (status_row w) 
 unfolding client_row client_row_in
 client_row_read w is = rw (slug_read w.slug is.0, status_read w.status is.1) refl
 
-client_rows_read : (byte : ℕ) (s : State) → IsConsistent s → client_rows_under 114 (rows_with byte s) ≡ Some s.rows
+client_rows_read : (byte : ℕ) (s : State) → IsConsistent s → client_rows_under 114 (later_rows byte s) ≡ Some s.rows
 unfolding client_rows_under client_row
 client_rows_read byte s is =
     let step = keeping (client_row 114) in
     let ws = s.rows in
-    all_sections step byte s [] [] [] [] [] [] ws ws
-    (skipped step (key_row (99 ∷ [])) s.coenrolling [] (λ f. refl))
+    all_sections step byte s [] [] [] [] [] ws ws
     refl
     (skipped step (recipe_row (108 ∷ [])) s.live [] (λ r. refl))
     (skipped step (recipe_row (110 ∷ [])) (pending_recipes s.pending) [] (λ r. refl))
@@ -82,13 +71,12 @@ pending_row_read : (r : Recipe) → IsValid r → AreRecords (r ∷ []) → read
 unfolding reading.recipe_row
 pending_row_read r valid sound = ap (λ o. o >>= λ q. Some (Some q)) (recipe_read r valid sound.0)
 
-live_read : (byte : ℕ) (s : State) → IsConsistent s → HaveRecords s → recipes_under 108 (rows_with byte s) ≡ Some s.live
+live_read : (byte : ℕ) (s : State) → IsConsistent s → HaveRecords s → recipes_under 108 (later_rows byte s) ≡ Some s.live
 unfolding recipes_under reading.recipe_row
 live_read byte s is records =
     let step = inserting 108 in
     let rs = s.live in
-    all_sections step byte s [] [] [] rs rs rs rs rs
-    (skipped step (key_row (99 ∷ [])) s.coenrolling [] (λ f. refl))
+    all_sections step byte s [] [] rs rs rs rs rs
     refl
     (all_inserted 108 (recipe_row (108 ∷ [])) rs [] live_row_read is.live.in_order is.live.limit is.live.valid records.live)
     (skipped step (recipe_row (110 ∷ [])) (pending_recipes s.pending) rs (λ r. refl))
@@ -108,13 +96,12 @@ waiting_valid : (p : Option (List Recipe)) → ArePending p → AreValid (pendin
 waiting_valid None are = tt
 waiting_valid (Some rs) are = are.valid
 
-waiting_read : (byte : ℕ) (s : State) → IsConsistent s → HaveRecords s → recipes_under 110 (rows_with byte s) ≡ Some (pending_recipes s.pending)
+waiting_read : (byte : ℕ) (s : State) → IsConsistent s → HaveRecords s → recipes_under 110 (later_rows byte s) ≡ Some (pending_recipes s.pending)
 unfolding recipes_under reading.recipe_row
 waiting_read byte s is records =
     let step = inserting 110 in
     let rs = pending_recipes s.pending in
-    all_sections step byte s [] [] [] [] rs rs rs rs
-    (skipped step (key_row (99 ∷ [])) s.coenrolling [] (λ f. refl))
+    all_sections step byte s [] [] [] rs rs rs rs
     refl
     (skipped step (recipe_row (108 ∷ [])) s.live [] (λ r. refl))
     (all_inserted 110 (recipe_row (110 ∷ [])) rs [] pending_row_read (waiting_order s.pending is.pending) (waiting_limit s.pending is.pending) (waiting_valid s.pending is.pending) records.pending)
@@ -128,45 +115,45 @@ pending_again (Some rs) = refl
 
 -- ---- single values
 
-id_read_again : (byte : ℕ) (s : State) → IsConsistent s → id_under (rows_with byte s) ≡ Some s.id
-unfolding id_under rows_with
-id_read_again byte s is = ap (λ o. o >>= values.id_in) (none_tagged 105 (key_row (99 ∷ [])) s.coenrolling _ (λ f. refl)) ∙ id_read s.id is.id
+id_read_again : (byte : ℕ) (s : State) → IsConsistent s → id_under (later_rows byte s) ≡ Some s.id
+unfolding id_under later_rows
+id_read_again byte s is = id_read s.id is.id
 
-participation_read : (byte : ℕ) (s : State) → participation_in (byte ∷ []) ≡ Some (flags s.experiments s.rollouts) → participation_under (rows_with byte s) ≡ Some (flags s.experiments s.rollouts)
+participation_read : (byte : ℕ) (s : State) → participation_in (byte ∷ []) ≡ Some (flags s.experiments s.rollouts) → participation_under (later_rows byte s) ≡ Some (flags s.experiments s.rollouts)
 unfolding participation_under
-participation_read byte s says = ap (λ o. o >>= participation_in) (to_statuses 112 byte s refl refl refl refl refl) ∙ says
+participation_read byte s says = ap (λ o. o >>= participation_in) (to_statuses 112 byte s refl refl refl refl) ∙ says
 
-is_pending_read : (byte : ℕ) (s : State) → flag_under 113 (rows_with byte s) ≡ Some (is_some s.pending)
+is_pending_read : (byte : ℕ) (s : State) → flag_under 113 (later_rows byte s) ≡ Some (is_some s.pending)
 unfolding flag_under
-is_pending_read byte s = ap (λ o. o >>= λ v. Some (values.flag_in v)) (to_statuses 113 byte s refl refl refl refl refl) ∙ ap (λ b. Some b) (flag_read (is_some s.pending))
+is_pending_read byte s = ap (λ o. o >>= λ v. Some (values.flag_in v)) (to_statuses 113 byte s refl refl refl refl) ∙ ap (λ b. Some b) (flag_read (is_some s.pending))
 
-installed_read : (byte : ℕ) (s : State) → IsConsistent s → number_under 116 (rows_with byte s) ≡ Some s.installed
+installed_read : (byte : ℕ) (s : State) → IsConsistent s → number_under 116 (later_rows byte s) ≡ Some s.installed
 unfolding number_under
-installed_read byte s is = ap (λ o. o >>= values.number_in) (to_statuses 116 byte s refl refl refl refl refl ∙ to_last 116 byte s refl refl refl) ∙ number_read s.installed is.installed
+installed_read byte s is = ap (λ o. o >>= values.number_in) (to_statuses 116 byte s refl refl refl refl ∙ to_last 116 byte s refl refl refl) ∙ number_read s.installed is.installed
 
-updated_read : (byte : ℕ) (s : State) → IsConsistent s → number_under 117 (rows_with byte s) ≡ Some s.updated
+updated_read : (byte : ℕ) (s : State) → IsConsistent s → number_under 117 (later_rows byte s) ≡ Some s.updated
 unfolding number_under
-updated_read byte s is = ap (λ o. o >>= values.number_in) (to_statuses 117 byte s refl refl refl refl refl ∙ to_last 117 byte s refl refl refl) ∙ number_read s.updated is.updated
+updated_read byte s is = ap (λ o. o >>= values.number_in) (to_statuses 117 byte s refl refl refl refl ∙ to_last 117 byte s refl refl refl) ∙ number_read s.updated is.updated
 
-version_read : (byte : ℕ) (s : State) → IsConsistent s → version_under (rows_with byte s) ≡ Some s.version
+version_read : (byte : ℕ) (s : State) → IsConsistent s → version_under (later_rows byte s) ≡ Some s.version
 unfolding version_under
-version_read byte s is = ap (λ o. o >>= values.text_in) (to_statuses 118 byte s refl refl refl refl refl ∙ to_last 118 byte s refl refl refl) ∙ text_read s.version is.version
+version_read byte s is = ap (λ o. o >>= values.text_in) (to_statuses 118 byte s refl refl refl refl ∙ to_last 118 byte s refl refl refl) ∙ text_read s.version is.version
 
 -- ---- the state
 
-lists_read : (byte : ℕ) (s : State) → IsConsistent s → lists_in (rows_with byte s) ≡ Some (record { coenrolling = s.coenrolling; opted_out = s.opted_out; rows = s.rows })
+lists_read : (byte : ℕ) (s : State) → IsConsistent s → lists_in (first_rows s) (later_rows byte s) ≡ Some (record { coenrolling = s.coenrolling; opted_out = s.opted_out; rows = s.rows })
 unfolding lists_in
-lists_read byte s is = rw (features_read byte s is, opted_out_read byte s is, client_rows_read byte s is) refl
+lists_read byte s is = rw (features_read s is, opted_out_read byte s is, client_rows_read byte s is) refl
 
-recipes_read : (byte : ℕ) (s : State) → IsConsistent s → HaveRecords s → recipes_in (rows_with byte s) ≡ Some (record { live = s.live; pending = s.pending })
+recipes_read : (byte : ℕ) (s : State) → IsConsistent s → HaveRecords s → recipes_in (later_rows byte s) ≡ Some (record { live = s.live; pending = s.pending })
 unfolding recipes_in
 recipes_read byte s is records = rw (live_read byte s is records, waiting_read byte s is records, is_pending_read byte s, pending_again s.pending) refl
 
-last_read : (byte : ℕ) (s : State) → IsConsistent s → last_in (rows_with byte s) ≡ Some (record { installed = s.installed; updated = s.updated; version = s.version })
+last_read : (byte : ℕ) (s : State) → IsConsistent s → last_in (later_rows byte s) ≡ Some (record { installed = s.installed; updated = s.updated; version = s.version })
 unfolding last_in
 last_read byte s is = rw (installed_read byte s is, updated_read byte s is, version_read byte s is) refl
 
 -- the rows of a state are read as the state, where the byte of participation says what its flags are
-pub state_read : (byte : ℕ) (s : State) → participation_in (byte ∷ []) ≡ Some (flags s.experiments s.rollouts) → IsConsistent s → HaveRecords s → state_in (rows_with byte s) ≡ Some s
+pub state_read : (byte : ℕ) (s : State) → participation_in (byte ∷ []) ≡ Some (flags s.experiments s.rollouts) → IsConsistent s → HaveRecords s → state_in (first_rows s) (later_rows byte s) ≡ Some s
 unfolding state_in
 state_read byte s says is records = rw (id_read_again byte s is, participation_read byte s says, lists_read byte s is, recipes_read byte s is records, last_read byte s is) refl

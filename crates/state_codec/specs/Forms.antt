@@ -5,8 +5,8 @@ use Rattle.std.specs.List.{list_any}
 use Rattle.row_batches.specs.Batch.{ChangeList, batch_text, whole_of}
 use Rattle.row_batches.specs.declared.store_row.StoreRow.{StoreRow}
 use Rattle.enrol_states.specs.declared.state.State.{State}
-use Rattle.state_values.specs.Values.{bit}
-use Rattle.state_codec.specs.Spelling.{rows_with, rows_of, spelling}
+use Rattle.state_values.specs.Values.{bit, participation}
+use Rattle.state_codec.specs.Spelling.{first_rows, later_rows, rows_with, rows_of, spelling}
 
 -- participation is on in both kinds or off in both
 abbrev pub HasOneFlag : State → Type 0
@@ -28,6 +28,20 @@ pub record IsOldForm (s : State) (rows : List StoreRow) : Type 0 where
 -- these rows are those of the state, or their old form
 abbrev pub IsForm : State → List StoreRow → Type 0
 IsForm s rows = (rows ≡ rows_of s) ⊎ IsOldForm s rows
+
+-- these are the later rows of the old form of the state
+pub record IsOldLater (s : State) (later : List StoreRow) : Type 0 where
+  pub one_flag : HasOneFlag s
+  pub same : later ≡ later_rows (bit s.experiments) s
+
+-- these are the later rows of the state, or those of its old form
+abbrev pub IsLaterForm : State → List StoreRow → Type 0
+IsLaterForm s later = (later ≡ later_rows (participation s) s) ⊎ IsOldLater s later
+
+-- these are the first rows of the state, and its later ones or those of its old form
+pub record AreParts (s : State) (first later : List StoreRow) : Type 0 where
+  pub first_are : first ≡ first_rows s
+  pub later_are : IsLaterForm s later
 
 -- this batch makes a form of the state of any rows
 pub record MakesForm (s : State) (batch : ChangeList) : Type 0 where

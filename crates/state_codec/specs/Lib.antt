@@ -2,7 +2,6 @@ pub mod Kinds
 pub mod Spelling
 pub mod Forms
 pub mod Sound
-pub mod SoundParts
 pub mod Laws
 pub mod Folds
 pub mod Reading

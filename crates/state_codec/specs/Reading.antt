@@ -1,5 +1,5 @@
 -- What rows of a store say of a state. Of rows that spell one it is the state; what it makes of other rows doesn't matter.
-use Rattle.std.specs.Prelude.{ℕ, ◌==◌, ◌||◌, nat_le, Bool, true, false, List, [], ◌∷◌, length, Option, Some, None, if◌then◌else◌, ⊤}
+use Rattle.std.specs.Prelude.{ℕ, ◌==◌, ◌||◌, nat_le, Bool, true, false, List, [], ◌∷◌, length, Option, Some, None, if◌then◌else◌, codes, bytes_eq, ⊤}
 use Rattle.recipe_reader.specs.Records.{IsValid}
 use Rattle.recipe_reader.specs.Payloads.{AreValid, has_slug, with_recipe}
 use Rattle.recipe_reader.specs.declared.recipe.Recipe.{Recipe}
@@ -12,9 +12,22 @@ use Rattle.state_codec.specs.declared.state_reading.Last.{Last}
 use Rattle.row_batches.specs.declared.store_row.StoreRow.{StoreRow}
 use Rattle.state_values.specs.Outcome.{◌>>=◌}
 use Rattle.state_values.specs.Reading.{slug_in, text_in, number_in, flag_in, participation_in, id_in, recipe_in, status_in}
+use Rattle.state_soundness.specs.SoundParts.{AreValidIf}
 use Rattle.state_codec.specs.Folds.{folded, keeping}
 
 -- ---- rows
+
+-- whether the row is that of the id, which is the first of the later rows
+abbrev pub is_of_id : StoreRow → Bool
+is_of_id r = bytes_eq r.key (codes "i")
+
+abbrev pub before_id : List StoreRow → List StoreRow
+before_id [] = []
+before_id (r ∷ rs) = if is_of_id r then [] else r ∷ before_id rs
+
+abbrev pub from_id : List StoreRow → List StoreRow
+from_id [] = []
+from_id (r ∷ rs) = if is_of_id r then r ∷ rs else from_id rs
 
 -- what follows the tag in the key, where the key begins with it
 abbrev pub after_tag : ℕ → List ℕ → Option (List ℕ)
@@ -97,11 +110,11 @@ pending_if false rs = None
 
 -- ---- the state
 
-unfoldable pub lists_in : List StoreRow → Option Lists
-lists_in rs = do
-  coenrolling ← texts_under 99 rs
-  opted_out ← slugs_under 111 rs
-  rows ← client_rows_under 114 rs
+unfoldable pub lists_in : List StoreRow → List StoreRow → Option Lists
+lists_in first later = do
+  coenrolling ← texts_under 99 first
+  opted_out ← slugs_under 111 later
+  rows ← client_rows_under 114 later
   Some (record { coenrolling = coenrolling; opted_out = opted_out; rows = rows })
 
 unfoldable pub recipes_in : List StoreRow → Option StateRecipes
@@ -118,13 +131,14 @@ last_in rs = do
   version ← version_under rs
   Some (record { installed = installed; updated = updated; version = version })
 
-unfoldable pub state_in : List StoreRow → Option State
-state_in rs = do
-  id ← id_under rs
-  participation ← participation_under rs
-  lists ← lists_in rs
-  recipes ← recipes_in rs
-  last ← last_in rs
+-- of the first rows and the later ones
+unfoldable pub state_in : List StoreRow → List StoreRow → Option State
+state_in first later = do
+  id ← id_under later
+  participation ← participation_under later
+  lists ← lists_in first later
+  recipes ← recipes_in later
+  last ← last_in later
   Some (record { id = id; installed = last.installed; updated = last.updated; version = last.version; experiments = participation.experiments; rollouts = participation.rollouts; opted_out = lists.opted_out; coenrolling = lists.coenrolling; live = recipes.live; pending = recipes.pending; rows = lists.rows })
 
 -- ---- what readers keep
@@ -132,10 +146,6 @@ state_in rs = do
 abbrev pub IsValidIf : Option Recipe → Type 0
 IsValidIf None = ⊤
 IsValidIf (Some r) = IsValid r
-
-abbrev pub AreValidIf : Option (List Recipe) → Type 0
-AreValidIf None = ⊤
-AreValidIf (Some rs) = AreValid rs
 
 pub record HaveValid (r : StateRecipes) : Type 0 where
   pub live : AreValid r.live

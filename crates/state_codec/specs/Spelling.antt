@@ -45,13 +45,20 @@ status_rows byte s = row (codes "p") (byte ∷ []) ∷ row (codes "q") (bit (is_
 abbrev pub rows_behind_recipes : ℕ → State → List StoreRow
 rows_behind_recipes byte s = map (key_row (codes "o")) s.opted_out ++ (status_rows byte s ++ last_rows s)
 
+-- the first rows of a state, of the features that recipes of one kind may share: their keys begin with 'c'
+unfoldable pub first_rows : State → List StoreRow
+first_rows s = map (key_row (codes "c")) s.coenrolling
+
+-- all others, where this is the byte of participation: their keys begin with a letter from 'i' on
+unfoldable pub later_rows : ℕ → State → List StoreRow
+later_rows byte s =
+    row (codes "i") (hyphenated s.id) ∷ (map (recipe_row (codes "l")) s.live
+    ++ (map (recipe_row (codes "n")) (pending_recipes s.pending)
+    ++ rows_behind_recipes byte s))
+
 -- the rows of a state, where this is the byte of participation
 unfoldable pub rows_with : ℕ → State → List StoreRow
-rows_with byte s =
-    map (key_row (codes "c")) s.coenrolling
-    ++ (row (codes "i") (hyphenated s.id) ∷ (map (recipe_row (codes "l")) s.live
-    ++ (map (recipe_row (codes "n")) (pending_recipes s.pending)
-    ++ rows_behind_recipes byte s)))
+rows_with byte s = first_rows s ++ later_rows byte s
 
 abbrev pub rows_of : State → List StoreRow
 rows_of s = rows_with (participation s) s

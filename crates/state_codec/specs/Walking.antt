@@ -1,21 +1,14 @@
--- The changes of the parts of a state up to its recipes, and steps of a walk over two lists: what their first items are to each other,
+-- The changes of a state's recipes, and steps of a walk over two lists: what their first items are to each other,
 -- by the texts behind their letters and by their values.
 use Rattle.std.specs.Prelude.{◌≡◌, ℕ, List, true, false, map, codes, bytes_eq}
 use Rattle.std.specs.declared.cmp.Ordering.TheVariants.{Less, Equal, Greater}
 use Rattle.enrol_states.specs.declared.state.State.{State}
-use Rattle.row_batches.specs.Between.{put_where_differs, changes_between}
+use Rattle.row_batches.specs.Between.{changes_between}
 use Rattle.row_batches.specs.Rows.{key_cmp}
 use Rattle.row_batches.specs.declared.change.RowChange.{RowChange}
-use Rattle.state_values.specs.Values.{hyphenated}
-use Rattle.state_codec.specs.Spelling.{row, key_row, recipe_row, pending_recipes}
+use Rattle.state_codec.specs.Spelling.{recipe_row, pending_recipes}
 use Rattle.state_codec.specs.declared.walking.Step.{Step}
 use Rattle.state_codec.specs.declared.walking.Step.TheVariants.{Gone, New, Differs, Same}
-
-abbrev pub feature_changes : State → State → List RowChange
-feature_changes s t = changes_between (map (key_row (codes "c")) s.coenrolling) (map (key_row (codes "c")) t.coenrolling)
-
-abbrev pub id_changes : State → State → List RowChange
-id_changes s t = put_where_differs (row (codes "i") (hyphenated s.id)) (row (codes "i") (hyphenated t.id))
 
 abbrev pub live_changes : State → State → List RowChange
 live_changes s t = changes_between (map (recipe_row (codes "l")) s.live) (map (recipe_row (codes "l")) t.live)

@@ -1,26 +1,25 @@
-// The batches of a state's rows: the one that makes them, and the one that changes them to the next state's.
-ghost use Rattle.std.specs.Prelude.{◌≡◌, ◌≤◌, ◌<◌, ◌+◌, ◌^◌, ◌++◌, ◌∷◌, [], All, codes, length, map, IfOk, OnOk};
-ghost use Rattle.recipe_reader.specs.Payloads.{AreValid};
+// The batches of a state's rows: the one that makes them, whose bytes are the state's spelling, and the one that changes them to
+// the next state's.
+ghost use Rattle.std.specs.Prelude.{◌≡◌, ◌≤◌, ◌<◌, ◌+◌, ◌^◌, ◌++◌, [], All, length, IfOk, OnOk};
 ghost use Rattle.enrol_states.specs.Consistent.{IsConsistent};
 ghost use Rattle.enrol_states.specs.Statuses.{IsStatus};
 ghost use Rattle.row_batches.specs.Batch.{applied, batch_text, whole_of};
 ghost use Rattle.row_batches.specs.Between.{put_where_differs, changes_between, between};
-ghost use Rattle.state_codec.specs.Kinds.{letter};
 ghost use Rattle.state_codec.specs.RecipeLists.{HasLists};
+ghost use Rattle.state_codec.specs.Sound.{IsSound};
 ghost use Rattle.state_values.specs.Values.{participation};
-ghost use Rattle.state_codec.specs.Spelling.{key_row, recipe_row, status_row, status_rows, last_rows, pending_recipes, rows_behind_recipes, rows_of, spelling};
-ghost use Rattle.state_codec.specs.Walking.{feature_changes, id_changes, live_changes, pending_changes};
+ghost use Rattle.state_codec.specs.Spelling.{status_rows, last_rows, pending_recipes, rows_behind_recipes, first_rows, later_rows, rows_of, spelling};
+ghost use Rattle.state_codec.specs.Walking.{live_changes, pending_changes};
 
 use crate::recipe_lists::RecipeLists;
 use crate::row_kind::RowKind;
 use crate::row_making::{flag_row, id_row, moment_row, participation_row, version_row};
 use crate::rows::rows_of;
 use crate::walking::add_changes;
-use enrol_states::{Row, State};
-use plain_text::Slug;
+use enrol_states::State;
 use recipe_reader::{Recipe, Recipes};
 use row_batches::{Batch, RowChange, StoreRow};
-use sequences::{Sequence, Text};
+use sequences::Sequence;
 use std::alloc::{AllocError, Global};
 
 /// The batch that makes the state's rows: a clear of all rows, and a put of each. Its bytes are the state's spelling.
@@ -34,6 +33,16 @@ pub fn whole_batch(alloc: Global, state: &State) -> Result<Batch, AllocError>
 {
     let rows = rows_of(alloc, state)?;
     Batch::whole_of(alloc, rows)
+}
+
+/// The spelling of the state: a clear of all rows, and a put of each of its rows in the order of
+/// their keys.
+pub fn write_state(alloc: Global, state: &State) -> Result<Vec<u8>, AllocError>
+    requires { IsSound state.now }
+    ensures { IfOk result (λ bytes. bytes.items ≡ spelling state.now) }
+{
+    let batch = whole_batch(alloc, state)?;
+    batch.bytes(alloc)
 }
 
 /// The batch from the rows of a state to those of the next: a put for each row that is new or differs, a delete for each that
@@ -91,14 +100,68 @@ fn changes_of(
     requires recipes { HasLists recipes old.now new.now }
     ensures { IfOk result (λ changes. changes ≡ changes_between (rows_of old.now) (rows_of new.now)) }
 {
-    let mut changes = Sequence::new(alloc);
-    add_before_recipes(alloc, &mut changes, old, new)?;
-    add_recipes(alloc, &mut changes, old, new, recipes)?;
-    add_behind_recipes(alloc, &mut changes, old, new)?;
+    let mut changes = first_changes(alloc, old, new)?;
+    add_later(alloc, &mut changes, old, new, recipes)?;
     Ok(changes)
 }
 
+/// The changes from the first rows of a state to those of the next, as `change_between` has them of all rows.
+#[tactic(auto, using(crate::proofs::Items::all_so), unfolding(crate::specs::Spelling::first_rows))]
+pub fn first_changes(
+    alloc: Global,
+    old: &State,
+    new: &State,
+) -> Result<Sequence<RowChange>, AllocError>
+    ensures { IfOk result (λ changes. changes ≡ changes_between (first_rows old.now) (first_rows new.now)) }
+{
+    let mut changes = Sequence::new(alloc);
+    add_changes(
+        alloc,
+        &mut changes,
+        RowKind::Coenrolling,
+        old.coenrolling.as_slice(),
+        new.coenrolling.as_slice(),
+    )?;
+    Ok(changes)
+}
+
+/// The changes from the later rows of a state to those of the next, as `change_after` has them of all rows.
+pub fn later_changes(
+    alloc: Global,
+    old: &State,
+    new: &State,
+    recipes: RecipeLists,
+) -> Result<Sequence<RowChange>, AllocError>
+    requires old_state { IsConsistent old.now }
+    requires new_state { IsConsistent new.now }
+    requires recipes { HasLists recipes old.now new.now }
+    ensures { IfOk result (λ changes. changes ≡ changes_between (later_rows (participation old.now) old.now) (later_rows (participation new.now) new.now)) }
+{
+    let mut changes = Sequence::new(alloc);
+    add_later(alloc, &mut changes, old, new, recipes)?;
+    Ok(changes)
+}
+
+// Adds the changes of the later rows.
+fn add_later(
+    alloc: Global,
+    changes: &mut Sequence<RowChange>,
+    old: &State,
+    new: &State,
+    recipes: RecipeLists,
+) -> Result<(), AllocError>
+    requires old_state { IsConsistent old.now }
+    requires new_state { IsConsistent new.now }
+    requires recipes { HasLists recipes old.now new.now }
+    ensures { OnOk result (changes.new ≡ changes.old ++ changes_between (later_rows (participation old.now) old.now) (later_rows (participation new.now) new.now)) }
+{
+    add_row(changes, id_row(alloc, old.id)?, id_row(alloc, new.id)?)?;
+    add_recipes(alloc, changes, old, new, recipes)?;
+    add_behind_recipes(alloc, changes, old, new)
+}
+
 // Adds the changes of the rows of recipes.
+#[tactic(auto, using(crate::proofs::Items::all_valid))]
 fn add_recipes(
     alloc: Global,
     changes: &mut Sequence<RowChange>,
@@ -115,34 +178,20 @@ fn add_recipes(
         RecipeLists::AsBefore => Ok(()),
         RecipeLists::LiveAsBefore => add_pending(alloc, changes, old, new),
         RecipeLists::MayDiffer => {
-            add_live(alloc, changes, old, new)?;
+            add_changes(
+                alloc,
+                changes,
+                RowKind::Live,
+                old.live.as_slice(),
+                new.live.as_slice(),
+            )?;
             add_pending(alloc, changes, old, new)
         }
     }
 }
 
-// Adds the changes of the rows of live recipes.
-fn add_live(
-    alloc: Global,
-    changes: &mut Sequence<RowChange>,
-    old: &State,
-    new: &State,
-) -> Result<(), AllocError>
-    requires old_state { IsConsistent old.now }
-    requires new_state { IsConsistent new.now }
-    ensures { OnOk result (changes.new ≡ changes.old ++ live_changes old.now new.now) }
-{
-    add_list(
-        alloc,
-        changes,
-        RowKind::Live,
-        old.live.as_slice(),
-        new.live.as_slice(),
-    )
-}
-
 // Adds the changes of the rows of pending recipes.
-#[tactic(auto, using(crate::proofs::Room::pending_valid))]
+#[tactic(auto, using(crate::proofs::Room::pending_valid, crate::proofs::Items::all_valid))]
 fn add_pending(
     alloc: Global,
     changes: &mut Sequence<RowChange>,
@@ -153,7 +202,7 @@ fn add_pending(
     requires new_state { IsConsistent new.now }
     ensures { OnOk result (changes.new ≡ changes.old ++ pending_changes old.now new.now) }
 {
-    add_list(
+    add_changes(
         alloc,
         changes,
         RowKind::Pending,
@@ -162,25 +211,8 @@ fn add_pending(
     )
 }
 
-// Adds the changes of the rows of the features and of the id.
-fn add_before_recipes(
-    alloc: Global,
-    changes: &mut Sequence<RowChange>,
-    old: &State,
-    new: &State,
-) -> Result<(), AllocError>
-    ensures { OnOk result (changes.new ≡ changes.old ++ (feature_changes old.now new.now ++ id_changes old.now new.now)) }
-{
-    add_features(
-        alloc,
-        changes,
-        old.coenrolling.as_slice(),
-        new.coenrolling.as_slice(),
-    )?;
-    add_row(changes, id_row(alloc, old.id)?, id_row(alloc, new.id)?)
-}
-
 // Adds the changes of the rows behind those of recipes.
+#[tactic(auto, using(crate::proofs::Items::all_so))]
 fn add_behind_recipes(
     alloc: Global,
     changes: &mut Sequence<RowChange>,
@@ -191,9 +223,10 @@ fn add_behind_recipes(
     requires new_statuses { All (λ row. IsStatus row.status) new.now.rows }
     ensures { OnOk result (changes.new ≡ changes.old ++ changes_between (rows_behind_recipes (participation old.now) old.now) (rows_behind_recipes (participation new.now) new.now)) }
 {
-    add_opt_outs(
+    add_changes(
         alloc,
         changes,
+        RowKind::OptedOut,
         old.opted_out.as_slice(),
         new.opted_out.as_slice(),
     )?;
@@ -218,7 +251,13 @@ fn add_statuses(
     let was_pending = flag_row(alloc, RowKind::IsPending, old.pending.is_some())?;
     let is_pending = flag_row(alloc, RowKind::IsPending, new.pending.is_some())?;
     add_row(changes, was_pending, is_pending)?;
-    add_client_rows(alloc, changes, old.rows.as_slice(), new.rows.as_slice())
+    add_changes(
+        alloc,
+        changes,
+        RowKind::Status,
+        old.rows.as_slice(),
+        new.rows.as_slice(),
+    )
 }
 
 // Adds the changes of the rows of the moments and of the version.
@@ -253,59 +292,6 @@ fn add_row(
         return Ok(());
     }
     changes.push(RowChange::Put(new))
-}
-
-#[tactic(auto, using(crate::proofs::Items::all_so))]
-fn add_features(
-    alloc: Global,
-    changes: &mut Sequence<RowChange>,
-    olds: &[Text],
-    news: &[Text],
-) -> Result<(), AllocError>
-    ensures { OnOk result (changes.new ≡ changes.old ++ changes_between (map (key_row (codes "c")) olds.now) (map (key_row (codes "c")) news.now)) }
-{
-    add_changes(alloc, changes, RowKind::Coenrolling, olds, news)
-}
-
-#[tactic(auto, using(crate::proofs::Items::all_so))]
-fn add_opt_outs(
-    alloc: Global,
-    changes: &mut Sequence<RowChange>,
-    olds: &[Slug],
-    news: &[Slug],
-) -> Result<(), AllocError>
-    ensures { OnOk result (changes.new ≡ changes.old ++ changes_between (map (key_row (codes "o")) olds.now) (map (key_row (codes "o")) news.now)) }
-{
-    add_changes(alloc, changes, RowKind::OptedOut, olds, news)
-}
-
-// Adds the changes of the rows of one list of recipes.
-#[tactic(auto, using(crate::proofs::Items::all_valid))]
-fn add_list(
-    alloc: Global,
-    changes: &mut Sequence<RowChange>,
-    kind: RowKind,
-    olds: &[Recipe],
-    news: &[Recipe],
-) -> Result<(), AllocError>
-    requires old_recipes { AreValid olds.now }
-    requires new_recipes { AreValid news.now }
-    ensures { OnOk result (changes.new ≡ changes.old ++ changes_between (map (recipe_row (letter kind ∷ [])) olds.now) (map (recipe_row (letter kind ∷ [])) news.now)) }
-{
-    add_changes(alloc, changes, kind, olds, news)
-}
-
-fn add_client_rows(
-    alloc: Global,
-    changes: &mut Sequence<RowChange>,
-    olds: &[Row],
-    news: &[Row],
-) -> Result<(), AllocError>
-    requires old_statuses { All (λ row. IsStatus row.status) olds.now }
-    requires new_statuses { All (λ row. IsStatus row.status) news.now }
-    ensures { OnOk result (changes.new ≡ changes.old ++ changes_between (map status_row olds.now) (map status_row news.now)) }
-{
-    add_changes(alloc, changes, RowKind::Status, olds, news)
 }
 
 /// The recipes that are pending, if any are.

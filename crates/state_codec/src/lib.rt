@@ -15,19 +15,18 @@ mod row_reading;
 mod rows;
 mod sections;
 mod size;
-mod soundness;
 mod state_reading;
 mod walking;
-mod writing;
 
-pub use changes::{change_after, change_between, whole_batch};
+pub use changes::{
+    change_after, change_between, first_changes, later_changes, whole_batch, write_state,
+};
 pub use laws::{one_spelling, one_state};
 pub use old_form::{migration, needs_migration};
 pub use reading::read_state;
 pub use recipe_lists::RecipeLists;
 pub use row_batches::StoreRow;
-pub use row_reading::state_of;
-pub use rows::rows_of;
+pub use row_reading::{state_of, state_of_parts};
+pub use rows::{first_rows_of, later_rows_of, rows_of};
 pub use size::{StateSizes, sizes_after, sizes_of, state_size};
 pub use state_values::CodecFault;
-pub use writing::write_state;

@@ -25,8 +25,8 @@ pub fn needs_migration(rows: &[StoreRow]) -> bool
     has_old(rows)
 }
 
-// Whether one of the rows is that of participation in the old form.
-fn has_old(rows: &[StoreRow]) -> bool
+/// Whether one of the rows is that of participation in the old form.
+pub(crate) fn has_old(rows: &[StoreRow]) -> bool
     ensures { result ≡ needs_migration rows.now }
 {
     rows.iter().any(|row| is_old(row))

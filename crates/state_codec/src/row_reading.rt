@@ -1,19 +1,21 @@
 // The state of rows.
 ghost use Rattle.std.specs.Prelude.{◌≡◌, ◌↔◌, IfOk, IsErrOf, IsTrue};
 ghost use Rattle.recipe_reader.specs.Payloads.{AreValid};
-ghost use Rattle.enrol_states.specs.Consistent.{IsConsistent};
 ghost use Rattle.enrol_states.specs.declared.state.State.{State};
-ghost use Rattle.state_codec.specs.Forms.{IsForm, IsOldForm};
-ghost use Rattle.state_codec.specs.Reading.{AreValidIf};
+ghost use Rattle.state_codec.specs.Forms.{IsForm, IsLaterForm, IsOldLater, AreParts};
+ghost use Rattle.state_soundness.specs.SoundParts.{AreValidIf};
+ghost use Rattle.state_codec.specs.Reading.{before_id, from_id, is_of_id};
 ghost use Rattle.state_codec.specs.Sound.{IsSound};
 
-use crate::old_form::needs_migration;
-use crate::rows::{old_rows, rows_of};
+use crate::old_form::has_old;
+use crate::row_kind::RowKind;
+use crate::row_making::bit;
+use crate::rows::{first_rows_of, later_rows, later_rows_of};
 use crate::size::state_size;
-use crate::soundness::is_consistent;
 use crate::state_reading::state_in;
 use enrol_states::State;
 use row_batches::StoreRow;
+use state_soundness::is_consistent;
 use state_values::CodecFault;
 use std::alloc::{AllocError, Global};
 
@@ -26,19 +28,57 @@ pub fn state_of(alloc: Global, rows: &[StoreRow]) -> Result<State, CodecFault>
     ensures state { IfOk result (λ s. IsSound s × IsForm s rows.now) }
     ensures not_a_state { IsErrOf result CodecFault.NotAState → (s : State) → IsSound s → IsForm s rows.now → ⊥ }
 {
-    let state = state_in(alloc, rows)?;
-    if has_rows(alloc, &state, rows)? {
+    let (first, later) = parts_of(rows);
+    state_of_parts(alloc, first, later)
+}
+
+/// The sound state that has exactly these first rows, and exactly these later ones or their old form. Rows of others may stand
+/// between them. `NotAState` comes exactly where there is none.
+pub fn state_of_parts(
+    alloc: Global,
+    first: &[StoreRow],
+    later: &[StoreRow],
+) -> Result<State, CodecFault>
+    ensures state { IfOk result (λ s. IsSound s × AreParts s first.now later.now) }
+    ensures not_a_state { IsErrOf result CodecFault.NotAState → (s : State) → IsSound s → AreParts s first.now later.now → ⊥ }
+{
+    let state = state_in(alloc, first, later)?;
+    if has_rows(alloc, &state, first, later)? {
         Ok(state)
     } else {
         Err(CodecFault::NotAState)
     }
 }
 
+// The rows before that of the id, and those from it on.
+fn parts_of(rows: &[StoreRow]) -> (&[StoreRow], &[StoreRow])
+    ensures first { result.0.now ≡ before_id rows.now }
+    ensures later { result.1.now ≡ from_id rows.now }
+{
+    for place in 0..rows.len() {
+        if is_of_id(&rows[place]) {
+            return rows.split_at(place);
+        }
+    }
+    (rows, &[])
+}
+
+fn is_of_id(row: &StoreRow) -> bool
+    ensures { result ≡ is_of_id row.now }
+{
+    row.key.as_slice() == [RowKind::Id.letter()].as_slice()
+}
+
 // Whether the state is sound and these are its rows or their old form.
-fn has_rows(alloc: Global, state: &State, rows: &[StoreRow]) -> Result<bool, AllocError>
+fn has_rows(
+    alloc: Global,
+    state: &State,
+    first: &[StoreRow],
+    later: &[StoreRow],
+) -> Result<bool, AllocError>
     requires live { AreValid state.now.live }
     requires pending { AreValidIf state.now.pending }
-    ensures { IfOk result (λ has. IsTrue has ↔ (IsSound state.now × IsForm state.now rows.now)) }
+    ensures { IfOk result (λ has. IsTrue has ↔ (IsSound state.now × AreParts state.now first.now later.now)) }
 {
     if !is_consistent(alloc, state)? {
         return Ok(false);
@@ -46,31 +86,45 @@ fn has_rows(alloc: Global, state: &State, rows: &[StoreRow]) -> Result<bool, All
     if state_size(state) > MAX_SIZE as u128 {
         return Ok(false);
     }
-    is_form(alloc, state, rows)
+    are_parts(alloc, state, first, later)
 }
 
-// Whether these are the rows of the state or their old form.
-fn is_form(alloc: Global, state: &State, rows: &[StoreRow]) -> Result<bool, AllocError>
-    requires { IsConsistent state.now }
-    ensures { IfOk result (λ is. IsTrue is ↔ IsForm state.now rows.now) }
+// Whether these are the first rows of the state, and its later ones or their old form.
+fn are_parts(
+    alloc: Global,
+    state: &State,
+    first: &[StoreRow],
+    later: &[StoreRow],
+) -> Result<bool, AllocError>
+    ensures { IfOk result (λ are. IsTrue are ↔ AreParts state.now first.now later.now) }
 {
-    if needs_migration(rows) {
-        return is_old_form(alloc, state, rows);
+    let own = first_rows_of(alloc, state)?;
+    if !are_same(first, own.as_slice()) {
+        return Ok(false);
     }
-    let own = rows_of(alloc, state)?;
-    Ok(are_same(rows, own.as_slice()))
+    is_later_form(alloc, state, later)
 }
 
-// Whether these are the old form of the state's rows, which a state whose flags differ has not.
-fn is_old_form(alloc: Global, state: &State, rows: &[StoreRow]) -> Result<bool, AllocError>
-    requires { IsConsistent state.now }
-    ensures { IfOk result (λ is. IsTrue is ↔ IsOldForm state.now rows.now) }
+// Whether these are the later rows of the state or their old form.
+fn is_later_form(alloc: Global, state: &State, later: &[StoreRow]) -> Result<bool, AllocError>
+    ensures { IfOk result (λ is. IsTrue is ↔ IsLaterForm state.now later.now) }
+{
+    if has_old(later) {
+        return is_old_later(alloc, state, later);
+    }
+    let own = later_rows_of(alloc, state)?;
+    Ok(are_same(later, own.as_slice()))
+}
+
+// Whether these are the later rows of the state's old form, which a state whose flags differ has not.
+fn is_old_later(alloc: Global, state: &State, later: &[StoreRow]) -> Result<bool, AllocError>
+    ensures { IfOk result (λ is. IsTrue is ↔ IsOldLater state.now later.now) }
 {
     if state.experiments != state.rollouts {
         return Ok(false);
     }
-    let old = old_rows(alloc, state)?;
-    Ok(are_same(rows, old.as_slice()))
+    let old = later_rows(alloc, bit(state.experiments), state)?;
+    Ok(are_same(later, old.as_slice()))
 }
 
 fn are_same(left: &[StoreRow], right: &[StoreRow]) -> bool

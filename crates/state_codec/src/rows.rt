@@ -1,16 +1,16 @@
 // The rows of a state, in the order of their keys.
-ghost use Rattle.std.specs.Prelude.{◌≡◌, ◌++◌, map, codes, IfOk, OnOk};
+ghost use Rattle.std.specs.Prelude.{◌≡◌, ◌++◌, map, IfOk, OnOk};
 ghost use Rattle.enrol_states.specs.Consistent.{IsConsistent};
 ghost use Rattle.row_batches.specs.Rows.{AreRows};
-ghost use Rattle.state_codec.specs.Forms.{old_rows};
 ghost use Rattle.state_codec.specs.Kinds.{letter};
-ghost use Rattle.state_codec.specs.Spelling.{item_row, recipe_row, status_rows, last_rows, rows_with, rows_of, pending_recipes};
+ghost use Rattle.state_codec.specs.Spelling.{item_row, status_rows, last_rows, first_rows, later_rows, rows_of};
+ghost use Rattle.state_values.specs.Values.{participation};
 
+use crate::changes::pending_recipes;
 use crate::row_item::{RowItem, item_row};
 use crate::row_kind::RowKind;
-use crate::row_making::{bit, byte_row, flag_row, id_row, moment_row, version_row};
+use crate::row_making::{byte_row, flag_row, id_row, moment_row, version_row};
 use enrol_states::State;
-use recipe_reader::Recipes;
 use row_batches::StoreRow;
 use sequences::Sequence;
 use state_values::participation_byte;
@@ -22,46 +22,63 @@ pub fn rows_of(alloc: Global, state: &State) -> Result<Sequence<StoreRow>, Alloc
     ensures rows { IfOk result (λ rows. rows ≡ rows_of state.now) }
     ensures order { IfOk result AreRows }
 {
-    rows_with(alloc, participation_byte(state), state)
-}
-
-/// The old form of the rows of a state whose two flags are equal.
-pub(crate) fn old_rows(alloc: Global, state: &State) -> Result<Sequence<StoreRow>, AllocError>
-    requires { IsConsistent state.now }
-    ensures { IfOk result (λ rows. rows ≡ old_rows state.now) }
-{
-    rows_with(alloc, bit(state.experiments), state)
-}
-
-// The rows of the state, where this is the byte of participation.
-fn rows_with(alloc: Global, byte: u8, state: &State) -> Result<Sequence<StoreRow>, AllocError>
-    requires { IsConsistent state.now }
-    ensures rows { IfOk result (λ rows. rows ≡ rows_with byte state.now) }
-    ensures order { IfOk result AreRows }
-{
-    let mut rows = Sequence::new(alloc);
-    add_rows(alloc, &mut rows, byte, state)?;
+    let mut rows = first_rows_of(alloc, state)?;
+    add_later(alloc, &mut rows, participation_byte(state), state)?;
     Ok(rows)
 }
 
-// Adds each row of the state.
-fn add_rows(
+/// The first rows of the state.
+#[tactic(auto, unfolding(crate::specs::Spelling::first_rows))]
+pub fn first_rows_of(alloc: Global, state: &State) -> Result<Sequence<StoreRow>, AllocError>
+    ensures { IfOk result (λ rows. rows ≡ first_rows state.now) }
+{
+    let mut rows = Sequence::new(alloc);
+    add_items(
+        alloc,
+        &mut rows,
+        RowKind::Coenrolling,
+        state.coenrolling.as_slice(),
+    )?;
+    Ok(rows)
+}
+
+/// The later rows of the state.
+pub fn later_rows_of(alloc: Global, state: &State) -> Result<Sequence<StoreRow>, AllocError>
+    ensures { IfOk result (λ rows. rows ≡ later_rows (participation state.now) state.now) }
+{
+    later_rows(alloc, participation_byte(state), state)
+}
+
+/// The later rows of the state, where this is the byte of participation.
+pub(crate) fn later_rows(
+    alloc: Global,
+    byte: u8,
+    state: &State,
+) -> Result<Sequence<StoreRow>, AllocError>
+    ensures { IfOk result (λ rows. rows ≡ later_rows byte state.now) }
+{
+    let mut rows = Sequence::new(alloc);
+    add_later(alloc, &mut rows, byte, state)?;
+    Ok(rows)
+}
+
+// Adds each later row of the state.
+fn add_later(
     alloc: Global,
     rows: &mut Sequence<StoreRow>,
     byte: u8,
     state: &State,
 ) -> Result<(), AllocError>
-    ensures { OnOk result (rows.new ≡ rows.old ++ rows_with byte state.now) }
+    ensures { OnOk result (rows.new ≡ rows.old ++ later_rows byte state.now) }
 {
+    rows.push(id_row(alloc, state.id)?)?;
+    add_items(alloc, rows, RowKind::Live, state.live.as_slice())?;
     add_items(
         alloc,
         rows,
-        RowKind::Coenrolling,
-        state.coenrolling.as_slice(),
+        RowKind::Pending,
+        pending_recipes(&state.pending),
     )?;
-    rows.push(id_row(alloc, state.id)?)?;
-    add_items(alloc, rows, RowKind::Live, state.live.as_slice())?;
-    add_pending(alloc, rows, &state.pending)?;
     add_items(alloc, rows, RowKind::OptedOut, state.opted_out.as_slice())?;
     add_statuses(alloc, rows, byte, state)?;
     add_last(alloc, rows, state)
@@ -88,19 +105,6 @@ fn add_last(alloc: Global, rows: &mut Sequence<StoreRow>, state: &State) -> Resu
     rows.push(moment_row(alloc, RowKind::Installed, state.installed)?)?;
     rows.push(moment_row(alloc, RowKind::Updated, state.updated)?)?;
     rows.push(version_row(alloc, &state.version)?)
-}
-
-fn add_pending(
-    alloc: Global,
-    rows: &mut Sequence<StoreRow>,
-    pending: &Option<Recipes>,
-) -> Result<(), AllocError>
-    ensures { OnOk result (rows.new ≡ rows.old ++ map (recipe_row (codes "n")) (pending_recipes pending.now)) }
-{
-    match pending {
-        Some(recipes) => add_items(alloc, rows, RowKind::Pending, recipes.as_slice()),
-        None => Ok(()),
-    }
 }
 
 // Adds the row of each item.

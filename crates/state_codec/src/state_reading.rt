@@ -1,9 +1,10 @@
-// What rows say of a state. Of rows that spell a state it is that state.
+// What the first and the later rows of a store say of a state. Of those that spell a state it is that state.
 ghost use Rattle.std.specs.Prelude.{◌≡◌, IfOk};
 ghost use Rattle.recipe_reader.specs.Payloads.{AreValid};
 ghost use Rattle.state_codec.specs.Kinds.{letter};
 ghost use Rattle.state_values.specs.Outcome.{Gives};
-ghost use Rattle.state_codec.specs.Reading.{id_under, participation_under, version_under, number_under, flag_under, pending_if, lists_in, recipes_in, last_in, state_in, HaveValid, AreValidIf};
+ghost use Rattle.state_soundness.specs.SoundParts.{AreValidIf};
+ghost use Rattle.state_codec.specs.Reading.{id_under, participation_under, version_under, number_under, flag_under, pending_if, lists_in, recipes_in, last_in, state_in, HaveValid};
 
 use crate::row_kind::RowKind;
 use crate::sections::{client_rows_under, recipes_under, slugs_under, texts_under, value_under};
@@ -42,16 +43,20 @@ pub(crate) struct Last {
 }
 
 #[tactic(auto, unfolding(crate::specs::Reading::state_in))]
-pub(crate) fn state_in(alloc: Global, rows: &[StoreRow]) -> Result<State, CodecFault>
-    ensures state { Gives (λ s. s) result (state_in rows.now) }
+pub(crate) fn state_in(
+    alloc: Global,
+    first: &[StoreRow],
+    later: &[StoreRow],
+) -> Result<State, CodecFault>
+    ensures state { Gives (λ s. s) result (state_in first.now later.now) }
     ensures live { IfOk result (λ s. AreValid s.live) }
     ensures pending { IfOk result (λ s. AreValidIf s.pending) }
 {
-    let id = id_under(rows)?;
-    let participation = participation_under(rows)?;
-    let lists = lists_in(alloc, rows)?;
-    let recipes = recipes_in(alloc, rows)?;
-    let last = last_in(alloc, rows)?;
+    let id = id_under(later)?;
+    let participation = participation_under(later)?;
+    let lists = lists_in(alloc, first, later)?;
+    let recipes = recipes_in(alloc, later)?;
+    let last = last_in(alloc, later)?;
     Ok(State {
         id,
         installed: last.installed,
@@ -68,12 +73,12 @@ pub(crate) fn state_in(alloc: Global, rows: &[StoreRow]) -> Result<State, CodecF
 }
 
 #[tactic(auto, unfolding(crate::specs::Reading::lists_in))]
-fn lists_in(alloc: Global, rows: &[StoreRow]) -> Result<Lists, CodecFault>
-    ensures { Gives (λ l. l) result (lists_in rows.now) }
+fn lists_in(alloc: Global, first: &[StoreRow], later: &[StoreRow]) -> Result<Lists, CodecFault>
+    ensures { Gives (λ l. l) result (lists_in first.now later.now) }
 {
-    let coenrolling = texts_under(alloc, RowKind::Coenrolling, rows)?;
-    let opted_out = slugs_under(alloc, RowKind::OptedOut, rows)?;
-    let rows = client_rows_under(alloc, RowKind::Status, rows)?;
+    let coenrolling = texts_under(alloc, RowKind::Coenrolling, first)?;
+    let opted_out = slugs_under(alloc, RowKind::OptedOut, later)?;
+    let rows = client_rows_under(alloc, RowKind::Status, later)?;
     Ok(Lists {
         coenrolling: SharedList::from_sequence(alloc, coenrolling)?,
         opted_out: SharedList::from_sequence(alloc, opted_out)?,

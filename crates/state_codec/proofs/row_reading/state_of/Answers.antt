@@ -1,32 +1,22 @@
--- Rows of which no state is read are a form of none.
-use Rattle.std.proofs.Common.{◌≡◌, Bool, false, true, Result, Err, subst}
-use Rattle.std.proofs.lemmas.Result.{err_from_is_err_and}
+-- Rows are a form of a state exactly where those before the row of the id and those from it on are its parts.
 use Rattle.enrol_states.specs.declared.state.State.{State}
-use Rattle.state_codec.specs.Reading.{state_in}
-use Rattle.state_values.specs.Outcome.{Fails}
+use Rattle.state_codec.specs.Forms.{IsForm, AreParts}
 use Rattle.state_codec.specs.Sound.{IsSound}
-use Rattle.state_codec.specs.Forms.{IsForm}
-use Rattle.state_codec.proofs.Forms.{form_read}
-use Rattle.state_values.specs.declared.fault.CodecFault.{CodecFault}
-use Rattle.state_values.specs.declared.fault.CodecFault.TheVariants.{NotAState}
-use Rattle.state_codec.proofs.Spelled.{not_read, one_state}
+use Rattle.state_codec.proofs.Parts.{form_where, parts_where}
+use Rattle.state_codec.proofs.Spelled.{if_ok_weaker}
 use Rattle.state_codec.proofs.row_reading.state_of.Goals as goal
 
-fault_is : (r : Result State CodecFault) (e d f : CodecFault) → r ≡ Err e → e ≡ d → r ≡ Err f → d ≡ f
-fault_is r e d f is same other = cc
-
-pub returns-in_err-state-clause-not_a_state : goal.returns-in_err-state-clause-not_a_state
-returns-in_err-state-clause-not_a_state c none s sound is =
-    let p = err_from_is_err_and c.from_residual.result c.from_residual.ensures.1 in
-    let fault = fault_is c.from_residual.result p.0 c.in_err-state.field-0.0 NotAState p.1 p.2 none in
+pub returns-clause-state : goal.returns-clause-state
+returns-clause-state c =
     let rows = c.args.rows.now in
-    not_read rows s (subst (λ (f : CodecFault). Fails f (state_in rows)) fault c.in_err-state.ensures.state) (form_read rows s sound is)
+    let first = c.parts_of.result.0.now in
+    let later = c.parts_of.result.1.now in
+    if_ok_weaker (λ (s : State). IsSound s × AreParts s first later) (λ (s : State). IsSound s × IsForm s rows) c.state_of_parts.result
+    (λ s is. (is.0, form_where rows first later s c.parts_of.ensures.first c.parts_of.ensures.later is.1)) c.state_of_parts.ensures.state
 
-apart : (b : Bool) → b ≡ false → b ≡ true → ⊥
-apart b is other = absurd cc
-
-pub returns-else-branch-clause-not_a_state : goal.returns-else-branch-clause-not_a_state
-returns-else-branch-clause-not_a_state c none s sound is =
+pub returns-clause-not_a_state : goal.returns-clause-not_a_state
+returns-clause-not_a_state c none s sound form =
     let rows = c.args.rows.now in
-    let same = one_state rows s c.in_ok-state.state (form_read rows s sound is) c.in_ok-state.ensures.state in
-    apart c.in_ok-has_rows.field-0 c.if-branch.false (c.in_ok-has_rows.ensures.1 (subst IsSound same sound, subst (λ (t : State). IsForm t rows) same is))
+    let first = c.parts_of.result.0.now in
+    let later = c.parts_of.result.1.now in
+    c.state_of_parts.ensures.not_a_state none s sound (parts_where rows first later s c.parts_of.ensures.first c.parts_of.ensures.later form)

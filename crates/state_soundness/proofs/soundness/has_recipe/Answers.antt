@@ -1,0 +1,20 @@
+-- There is a recipe with the slug exactly where one is found.
+use Rattle.std.proofs.Common.{◌≡◌, List, ℕ, Option, Some, None, refl, sym, ap, ◌∙◌}
+use Rattle.std.specs.Prelude.{option_map}
+use Rattle.std.specs.Option.{is_some}
+use Rattle.recipe_reader.specs.Payloads.{recipe_with}
+use Rattle.state_soundness.proofs.Enrolments.{is_some-recipe_with}
+use Rattle.state_soundness.proofs.soundness.has_recipe.Goals as goal
+
+is_some-map : {A B : Type 0} (f : A → B) (o : Option A) → is_some (option_map f o) ≡ is_some o
+is_some-map f None = refl
+is_some-map f (Some a) = refl
+
+pub returns : goal.returns
+returns c =
+    let live = c.args.state.now.live in
+    c.is_some.ensures
+    ∙ sym (is_some-map _ c.get.result)
+    ∙ ap is_some c.get.ensures
+    ∙ ap (λ (slug : List ℕ). is_some (recipe_with slug live)) c.text.ensures.text
+    ∙ is_some-recipe_with c.args.slug.now live
