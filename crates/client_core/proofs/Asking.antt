@@ -3,7 +3,7 @@ use Rattle.std.proofs.Common.{◌≡◌, List, ℕ, false, [], ◌∷◌, refl, 
 use Rattle.host_model.specs.declared.shelf.Shelf.{Ghosts}
 use Rattle.fml_link.specs.Asked.{IsAskedFrom}
 use Rattle.client_core.specs.declared.command.Command.{Command}
-use Rattle.client_core.specs.declared.command.Command.TheVariants.{Apply, Participate, OptOut, OptIn, Reset, Show, Feature, Fetch}
+use Rattle.client_core.specs.declared.command.Command.TheVariants.{Apply, Participate, OptOut, OptIn, Reset, Show, Feature, Fetch, WriteManifest}
 use Rattle.client_core.specs.declared.command.Command.TheVariants as commands
 use Rattle.client_core.specs.Commands.{names_file, HasAsked}
 
@@ -29,3 +29,4 @@ none_asked f shelf (OptIn slug branch) is = record { names = []; files = refl; r
 none_asked f shelf (Reset id) is = record { names = []; files = refl; reached = refl }
 none_asked f shelf Show is = record { names = []; files = refl; reached = refl }
 none_asked f shelf (Feature name) is = record { names = []; files = refl; reached = refl }
+none_asked f shelf WriteManifest is = record { names = []; files = refl; reached = refl }

@@ -25,14 +25,14 @@ use Rattle.feature_serving.specs.Serving.{served}
 use Rattle.client_core.specs.declared.answer.Answer.{Answer}
 use Rattle.client_core.specs.declared.answer.Answer.TheVariants.{Okay, OptedOutLimit, NotParticipating, NoSuchBranch}
 use Rattle.client_core.specs.declared.command.Command.{Command}
-use Rattle.client_core.specs.declared.command.Command.TheVariants.{Fetch, Apply, Participate, OptOut, OptIn, Reset, Show, Feature}
+use Rattle.client_core.specs.declared.command.Command.TheVariants.{Fetch, Apply, Participate, OptOut, OptIn, Reset, Show, Feature, WriteManifest}
 use Rattle.client_core.specs.declared.command.Command.TheVariants as commands
 use Rattle.client_core.specs.declared.session.Session.{Session}
 use Rattle.client_core.specs.Choosing.{first_taker}
 use Rattle.client_core.specs.Fetching.{file_tree}
 use Rattle.client_core.specs.Manifests.{manifest_of}
 use Rattle.client_core.specs.Settings.{Setting}
-use Rattle.client_core.specs.Steps.{Outcome, Accepted, Refused, Step, taking, offering, choosing, fetched, fetching, context_read, reading_context, setting_manifest, applying, valued, serving, outcome, done, step}
+use Rattle.client_core.specs.Steps.{Outcome, Accepted, Refused, Step, taking, offering, choosing, fetched, fetching, context_read, reading_context, setting_manifest, applying, valued, serving, writing_manifest, outcome, done, step}
 use Rattle.client_core.proofs.ReadFiles.{file_sound}
 use Rattle.client_core.proofs.ReadRecords.{OfPayload, payload_records}
 
@@ -90,6 +90,10 @@ module _ (at : Setting) (s : State) (session : Session) (h : HaveRecords s) wher
   feature-keeps name None = tt
   feature-keeps name (Some manifest) = value-keeps (served manifest s name)
 
+  written-keeps : (manifest : Option Manifest) → Keeps (writing_manifest s session manifest)
+  written-keeps None = tt
+  written-keeps (Some manifest) = h
+
   out-keeps : (slug : List ℕ) (full : Bool) → Keeps (if full then Refused OptedOutLimit else Accepted (after_opt_out s slug) session Okay)
   out-keeps slug true = tt
   out-keeps slug false = record { live = h.live; pending = h.pending }
@@ -122,6 +126,7 @@ module _ (at : Setting) (s : State) (session : Session) (h : HaveRecords s) wher
   outcome-keeps (Reset id) = record { live = h.live; pending = h.pending }
   outcome-keeps Show = h
   outcome-keeps (Feature name) = feature-keeps name session.manifest
+  outcome-keeps WriteManifest = written-keeps session.manifest
 
   pub step_keeps_records : (command : Command) → HaveRecords (step at s session command).state
   unfolding step

@@ -25,7 +25,7 @@ use Rattle.feature_serving.specs.Serving.{served}
 use Rattle.client_core.specs.declared.answer.Answer.{Answer}
 use Rattle.client_core.specs.declared.answer.Answer.TheVariants.{Okay, OptedOutLimit, NotParticipating, NoSuchBranch}
 use Rattle.client_core.specs.declared.command.Command.{Command}
-use Rattle.client_core.specs.declared.command.Command.TheVariants.{Fetch, Apply, Participate, OptOut, OptIn, Reset, Show, Feature}
+use Rattle.client_core.specs.declared.command.Command.TheVariants.{Fetch, Apply, Participate, OptOut, OptIn, Reset, Show, Feature, WriteManifest}
 use Rattle.client_core.specs.declared.command.Command.TheVariants as commands
 use Rattle.client_core.specs.declared.session.Session.{Session}
 use Rattle.client_core.specs.Choosing.{first_taker}
@@ -34,7 +34,7 @@ use Rattle.client_core.specs.Manifests.{manifest_of}
 use Rattle.client_core.specs.Sessions.{with_manifest, with_context}
 use Rattle.client_core.specs.Settings.{Setting}
 use Rattle.client_core.specs.Soundness.{HasVersion, HasLinked, IsSession, IsLawfulManifest, IsLawfulContext, IsLawful}
-use Rattle.client_core.specs.Steps.{Outcome, Accepted, Refused, Step, taking, offering, choosing, fetched, fetching, context_read, reading_context, setting_manifest, applying, valued, serving, outcome, done, step}
+use Rattle.client_core.specs.Steps.{Outcome, Accepted, Refused, Step, taking, offering, choosing, fetched, fetching, context_read, reading_context, setting_manifest, applying, valued, serving, writing_manifest, outcome, done, step}
 use Rattle.client_core.proofs.LinkedManifests.{manifest_linked}
 use Rattle.client_core.proofs.ReadContexts.{context_version}
 use Rattle.client_core.proofs.ReadFiles.{file_sound}
@@ -88,6 +88,10 @@ module _ (P : Session → Type 0) (at : Setting) (s : State) (session : Session)
   feature-carries name None = tt
   feature-carries name (Some manifest) = value-carries (served manifest s name)
 
+  written-carries : (manifest : Option Manifest) → Carries (writing_manifest s session manifest)
+  written-carries None = tt
+  written-carries (Some manifest) = was
+
   out-carries : (slug : List ℕ) (full : Bool) → Carries (if full then Refused OptedOutLimit else Accepted (after_opt_out s slug) session Okay)
   out-carries slug true = tt
   out-carries slug false = was
@@ -120,6 +124,7 @@ module _ (P : Session → Type 0) (at : Setting) (s : State) (session : Session)
   outcome-carries (Reset id) = was
   outcome-carries Show = was
   outcome-carries (Feature name) = feature-carries name session.manifest
+  outcome-carries WriteManifest = written-carries session.manifest
 
   step-carries : (command : Command) → P (step at s session command).session
   unfolding step

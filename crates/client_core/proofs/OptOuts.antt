@@ -31,7 +31,7 @@ use Rattle.feature_serving.specs.Serving.{served}
 use Rattle.client_core.specs.declared.answer.Answer.{Answer}
 use Rattle.client_core.specs.declared.answer.Answer.TheVariants.{Okay, OptedOutLimit, NotParticipating, NoSuchBranch, StateTooLarge}
 use Rattle.client_core.specs.declared.command.Command.{Command}
-use Rattle.client_core.specs.declared.command.Command.TheVariants.{Fetch, Apply, Participate, OptOut, OptIn, Reset, Show, Feature}
+use Rattle.client_core.specs.declared.command.Command.TheVariants.{Fetch, Apply, Participate, OptOut, OptIn, Reset, Show, Feature, WriteManifest}
 use Rattle.client_core.specs.declared.command.Command.TheVariants as commands
 use Rattle.client_core.specs.declared.session.Session.{Session}
 use Rattle.client_core.specs.Choosing.{first_taker}
@@ -39,7 +39,7 @@ use Rattle.client_core.specs.Fetching.{file_tree}
 use Rattle.client_core.specs.Manifests.{manifest_of}
 use Rattle.client_core.specs.OptOuts.{BringsBack, OptOutsHold}
 use Rattle.client_core.specs.Settings.{Setting}
-use Rattle.client_core.specs.Steps.{Outcome, Accepted, Refused, Step, participation, opting_out, taking, offering, choosing, fetched, fetching, context_read, reading_context, setting_manifest, applying, valued, serving, done, step}
+use Rattle.client_core.specs.Steps.{Outcome, Accepted, Refused, Step, participation, opting_out, taking, offering, choosing, fetched, fetching, context_read, reading_context, setting_manifest, applying, valued, serving, writing_manifest, done, step}
 
 -- ---- one slug more or less
 
@@ -127,6 +127,10 @@ module _ (at : Setting) (s : State) (session : Session) (slug : List ℕ) (there
   feature-keeps name None = tt
   feature-keeps name (Some manifest) = value-keeps (served manifest s name)
 
+  written-keeps : (manifest : Option Manifest) → Keeps (writing_manifest s session manifest)
+  written-keeps None = tt
+  written-keeps (Some manifest) = there
+
   out-keeps : (other : List ℕ) (full : Bool) → Keeps (if full then Refused OptedOutLimit else Accepted (after_opt_out s other) session Okay)
   out-keeps other true = tt
   out-keeps other false = kept-insert other slug s.opted_out there
@@ -174,6 +178,7 @@ module _ (at : Setting) (s : State) (session : Session) (slug : List ℕ) (there
   kept (Reset id) never = accepted-unless (after_reset s id) session true (λ apart. absurd cc) (λ back is_done. never (back, is_done))
   kept Show never = done-keeps (Accepted s session _) there
   kept (Feature name) never = done-keeps (serving s session name session.manifest) (feature-keeps name session.manifest)
+  kept WriteManifest never = done-keeps (writing_manifest s session session.manifest) (written-keeps session.manifest)
 
 -- ---- an opt-out
 

@@ -34,7 +34,7 @@ use Rattle.state_codec.specs.Spelling.{spelling}
 use Rattle.client_core.specs.declared.answer.Answer.{Answer}
 use Rattle.client_core.specs.declared.answer.Answer.TheVariants.{Okay, Value, FileTooLarge, NotJson, OptedOutLimit, NotParticipating, NoSuchBranch, StateTooLarge}
 use Rattle.client_core.specs.declared.command.Command.{Command}
-use Rattle.client_core.specs.declared.command.Command.TheVariants.{Fetch, Apply, Participate, OptOut, OptIn, Reset, Show, Feature}
+use Rattle.client_core.specs.declared.command.Command.TheVariants.{Fetch, Apply, Participate, OptOut, OptIn, Reset, Show, Feature, WriteManifest}
 use Rattle.client_core.specs.declared.command.Command.TheVariants as commands
 use Rattle.client_core.specs.declared.session.Session.{Session}
 use Rattle.client_core.specs.Choosing.{first_taker}
@@ -43,7 +43,7 @@ use Rattle.client_core.specs.Manifests.{IsLinked, link_refusal, where_fits, chec
 use Rattle.client_core.specs.ServedValues.{IsServed, ValuesAreServed, IsTyped, ValuesHaveTypes}
 use Rattle.client_core.specs.Settings.{Setting}
 use Rattle.client_core.specs.Soundness.{IsGiven, IsLawfulManifest}
-use Rattle.client_core.specs.Steps.{Outcome, Accepted, Refused, Step, participation, opting_out, taking, offering, choosing, opting_in, resetting, showing, fetched, fetching, context_read, reading_context, setting_manifest, applying, valued, serving, done, step}
+use Rattle.client_core.specs.Steps.{Outcome, Accepted, Refused, Step, participation, opting_out, taking, offering, choosing, opting_in, resetting, showing, fetched, fetching, context_read, reading_context, setting_manifest, applying, valued, serving, writing_manifest, done, step}
 use Rattle.fml_reader.specs.Trees.{tree_from}
 use Rattle.client_core.proofs.LinkedManifests.{manifest_linked}
 use Rattle.client_core.proofs.SoundValues.{records_sound}
@@ -82,13 +82,15 @@ link-plain (link.AbsentFile name) = refl
 link-plain (link.FileTooLarge name bytes) = refl
 link-plain (link.NotJson name) = refl
 link-plain (link.BadShape name path) = refl
-link-plain (link.ImportsUnbuilt name) = refl
 link-plain link.TooManyFiles = refl
+link-plain (link.ImportClash name) = refl
 link-plain (link.DuplicateName name) = refl
 link-plain (link.UnknownType name) = refl
 link-plain (link.EndlessObject name) = refl
 link-plain (link.ObjectTooLarge name) = refl
 link-plain link.UnknownChannel = refl
+link-plain (link.UnknownImport name) = refl
+link-plain (link.UnknownOverride name) = refl
 
 fits-plain : (m : Manifest) (bad : Option (List ℕ × List ℕ)) → RefusesPlainly (where_fits m bad)
 fits-plain m None = tt
@@ -143,6 +145,10 @@ module _ (at : Setting) (s : State) (session : Session) where
   apply-none None context = refl
   apply-none (Some manifest) None = refl
   apply-none (Some manifest) (Some context) = refl
+
+  written-none : (manifest : Option Manifest) → NoValue (writing_manifest s session manifest)
+  written-none None = refl
+  written-none (Some manifest) = refl
 
   out-none : (slug : List ℕ) (full : Bool) → NoValue (if full then Refused OptedOutLimit else Accepted (after_opt_out s slug) session Okay)
   out-none slug true = refl
@@ -206,6 +212,7 @@ module _ (at : Setting) (s : State) (session : Session) where
   values_at (Reset id) tree is = absurd (never (resetting s session id) tree refl is)
   values_at Show tree is = absurd (never (showing s session) tree refl is)
   values_at (Feature name) tree is = set_at name tree session.manifest refl is
+  values_at WriteManifest tree is = absurd (never (writing_manifest s session session.manifest) tree (written-none session.manifest) is)
 
 pub values_are_served : ValuesAreServed
 values_are_served at s session command tree is = values_at at s session command tree is

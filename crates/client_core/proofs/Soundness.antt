@@ -34,7 +34,7 @@ use Rattle.feature_serving.specs.Serving.{served}
 use Rattle.client_core.specs.declared.answer.Answer.{Answer}
 use Rattle.client_core.specs.declared.answer.Answer.TheVariants.{Okay, OptedOutLimit, NotParticipating, NoSuchBranch, StateTooLarge}
 use Rattle.client_core.specs.declared.command.Command.{Command}
-use Rattle.client_core.specs.declared.command.Command.TheVariants.{Fetch, Apply, Participate, OptOut, OptIn, Reset, Show, Feature}
+use Rattle.client_core.specs.declared.command.Command.TheVariants.{Fetch, Apply, Participate, OptOut, OptIn, Reset, Show, Feature, WriteManifest}
 use Rattle.client_core.specs.declared.command.Command.TheVariants as commands
 use Rattle.client_core.specs.declared.session.Session.{Session}
 use Rattle.client_core.specs.Choosing.{first_taker}
@@ -42,7 +42,7 @@ use Rattle.client_core.specs.Fetching.{file_tree}
 use Rattle.client_core.specs.Manifests.{manifest_of}
 use Rattle.client_core.specs.Settings.{Setting}
 use Rattle.client_core.specs.Soundness.{IsCommand, HasVersion, HasLinked, IsSession, IsLawful, Line, IsLine, all_after, StepsStaySound}
-use Rattle.client_core.specs.Steps.{Outcome, Accepted, Refused, Step, participation, opting_out, taking, offering, choosing, opting_in, resetting, showing, fetched, fetching, context_read, reading_context, setting_manifest, applying, valued, serving, outcome, done, step}
+use Rattle.client_core.specs.Steps.{Outcome, Accepted, Refused, Step, participation, opting_out, taking, offering, choosing, opting_in, resetting, showing, fetched, fetching, context_read, reading_context, setting_manifest, applying, valued, serving, writing_manifest, outcome, done, step}
 use Rattle.client_core.proofs.Coenrolling.{coenrolling_names, coenrolling_rise}
 use Rattle.client_core.proofs.KeptRecords.{step_keeps_records}
 use Rattle.client_core.proofs.Lawfulness.{step_keeps_texts, step_keeps_lawful, lawful_texts}
@@ -102,6 +102,10 @@ module _ (at : Setting) (s : State) (session : Session) (c : IsConsistent s) whe
   feature-keeps name None = tt
   feature-keeps name (Some manifest) = value-keeps (served manifest s name)
 
+  written-keeps : (manifest : Option Manifest) → Keeps (writing_manifest s session manifest)
+  written-keeps None = tt
+  written-keeps (Some manifest) = c
+
   out-keeps : (slug : List ℕ) → IsSlug slug → (full : Bool) → has_no_room s.opted_out slug ≡ full → Keeps (if full then Refused OptedOutLimit else Accepted (after_opt_out s slug) session Okay)
   out-keeps slug is_slug true e = tt
   out-keeps slug is_slug false e = opt_outs.consistent s slug is_slug e c
@@ -136,6 +140,7 @@ module _ (at : Setting) (s : State) (session : Session) (c : IsConsistent s) whe
   consistent (Reset id) moment is texts = done-keeps (resetting s session id) (reset-consistent s id is c)
   consistent Show moment is texts = done-keeps (showing s session) c
   consistent (Feature name) moment is texts = done-keeps (serving s session name session.manifest) (feature-keeps name session.manifest)
+  consistent WriteManifest moment is texts = done-keeps (writing_manifest s session session.manifest) (written-keeps session.manifest)
 
 -- ---- the size
 

@@ -12,7 +12,7 @@ names_file (commands.Context file) = true
 names_file (commands.Fetch file) = true
 names_file command = false
 
--- the names of the files, in order. Of a manifest's the first one is said, where there is one: those behind it are asked for as includes
+-- the names of the files, in order. Of a manifest's the first one is said, where there is one: those behind it are asked for as includes and imports
 abbrev pub AsksFor : Command → List (List ℕ) → Type 0
 AsksFor (commands.Manifest file channel) names = BeginWith file names
 AsksFor (commands.Context file) names = names ≡ file ∷ []

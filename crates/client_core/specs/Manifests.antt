@@ -8,7 +8,7 @@ use Rattle.fml_link.specs.declared.fault.LinkRefusal.{LinkRefusal}
 use Rattle.fml_link.specs.declared.fault.LinkRefusal.TheVariants as link
 use Rattle.fml_merge.specs.Faults.{bad_default}
 use Rattle.client_core.specs.declared.answer.Answer.{Answer}
-use Rattle.client_core.specs.declared.answer.Answer.TheVariants.{AbsentFile, FileTooLarge, NotJson, BadShape, ImportsUnbuilt, TooManyFiles, DuplicateName, UnknownType, EndlessObject, ObjectTooLarge, UnknownChannel, BadDefault}
+use Rattle.client_core.specs.declared.answer.Answer.TheVariants.{AbsentFile, FileTooLarge, NotJson, BadShape, TooManyFiles, ImportClash, DuplicateName, UnknownType, EndlessObject, ObjectTooLarge, UnknownChannel, UnknownImport, UnknownOverride, BadDefault}
 
 -- what is answered where the files don't link
 abbrev pub link_refusal : LinkRefusal → Answer
@@ -16,13 +16,15 @@ link_refusal (link.AbsentFile name) = AbsentFile name
 link_refusal (link.FileTooLarge name bytes) = FileTooLarge name bytes
 link_refusal (link.NotJson name) = NotJson name
 link_refusal (link.BadShape name path) = BadShape name path
-link_refusal (link.ImportsUnbuilt name) = ImportsUnbuilt name
 link_refusal link.TooManyFiles = TooManyFiles
+link_refusal (link.ImportClash name) = ImportClash name
 link_refusal (link.DuplicateName name) = DuplicateName name
 link_refusal (link.UnknownType name) = UnknownType name
 link_refusal (link.EndlessObject name) = EndlessObject name
 link_refusal (link.ObjectTooLarge name) = ObjectTooLarge name
 link_refusal link.UnknownChannel = UnknownChannel
+link_refusal (link.UnknownImport name) = UnknownImport name
+link_refusal (link.UnknownOverride name) = UnknownOverride name
 
 -- a manifest, or the refusal of its first default that doesn't fit
 abbrev pub where_fits : Manifest → Option (List ℕ × List ℕ) → Result Manifest Answer

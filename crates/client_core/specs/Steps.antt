@@ -16,6 +16,7 @@ use Rattle.enrol_evolver.specs.Evolution.{evolution}
 use Rattle.enrol_states.specs.Choices.{has_no_room}
 use Rattle.fml_types.specs.Coenrolling.{coenrolling}
 use Rattle.fml_types.specs.declared.manifest.Manifest.{Manifest}
+use Rattle.fml_imports.specs.Single.{single}
 use Rattle.fml_value.specs.Trees.{tree_of}
 use Rattle.fml_value.specs.Typed.{TypedValue}
 use Rattle.feature_serving.specs.Serving.{served}
@@ -27,10 +28,11 @@ use Rattle.state_codec.specs.Spelling.{spelling}
 use Rattle.state_codec.specs.Sound.{max_size}
 use Rattle.client_core.specs.declared.session.Session.{Session}
 use Rattle.client_core.specs.declared.command.Command.{Command}
-use Rattle.client_core.specs.declared.command.Command.TheVariants.{Apply, Participate, OptOut, OptIn, Reset, Show, Feature, Fetch}
+use Rattle.client_core.specs.declared.command.Command.TheVariants.{Apply, Participate, OptOut, OptIn, Reset, Show, Feature, Fetch, WriteManifest}
 use Rattle.client_core.specs.declared.command.Command.TheVariants as commands
 use Rattle.client_core.specs.declared.answer.Answer.{Answer}
 use Rattle.client_core.specs.declared.answer.Answer.TheVariants.{Okay, Fetched, Applied, Value, Shown, NoManifest, NoContext, BadContext, NoData, TooManyRecipes, UnknownFeature, OptedOutLimit, NotParticipating, NoSuchExperiment, NoSuchBranch, FeatureTaken, StateTooLarge}
+use Rattle.client_core.specs.declared.answer.Answer.TheVariants as answers
 use Rattle.client_core.specs.Choosing.{first_taker}
 use Rattle.client_core.specs.Fetching.{file_tree}
 use Rattle.client_core.specs.Manifests.{manifest_of}
@@ -131,6 +133,11 @@ abbrev pub serving : State → Session → List ℕ → Option Manifest → Outc
 serving s session name None = Refused NoManifest
 serving s session name (Some manifest) = valued s session (served manifest s name)
 
+-- `write-manifest`, of the manifest that was set last
+abbrev pub writing_manifest : State → Session → Option Manifest → Outcome
+writing_manifest s session None = Refused NoManifest
+writing_manifest s session (Some manifest) = Accepted s session (answers.Manifest (tree_from (single manifest)))
+
 -- what each command asks for
 abbrev pub outcome : Setting → State → Session → Command → Outcome
 outcome at s session (commands.Manifest file channel) = setting_manifest s session (manifest_of at.files file channel)
@@ -143,6 +150,7 @@ outcome at s session (Reset id) = resetting s session id
 outcome at s session Show = showing s session
 outcome at s session (Feature name) = serving s session name session.manifest
 outcome at s session (Fetch file) = fetching s session (file_tree file (at.files file))
+outcome at s session WriteManifest = writing_manifest s session session.manifest
 
 -- what a command leaves, and its answer
 pub record Step : Type 0 where

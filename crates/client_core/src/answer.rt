@@ -37,6 +37,8 @@ pub enum Answer {
         opted_out: SharedList<Slug>,
         rows: SharedList<Row>,
     },
+    /// The tree of the manifest as a single file.
+    Manifest(Tree),
     /// No manifest was set in this run.
     NoManifest,
     /// No context was read in this run.
@@ -56,10 +58,10 @@ pub enum Answer {
     /// The file of this name is no module of a manifest: the path of the first place that hasn't its shape, as the keys
     /// and indexes from the root, each after a `/`.
     BadShape(Text, Text),
-    /// The file of this name asks for imports, which aren't built.
-    ImportsUnbuilt(Text),
     /// The manifest has more than 64 files.
     TooManyFiles,
+    /// The file of this name is named for two channels.
+    ImportClash(Text),
     /// Two enums or objects of the manifest, or two features, have this name: the first that was met before.
     DuplicateName(Text),
     /// A type names this, which is neither an enum nor an object, or is a map's key and no enum.
@@ -70,6 +72,10 @@ pub enum Answer {
     ObjectTooLarge(Text),
     /// The channel is none of those of the manifest's first file.
     UnknownChannel,
+    /// The file of this name is imported for a channel that is none of its own.
+    UnknownImport(Text),
+    /// An import overrides the feature of this name, and the manifest has none.
+    UnknownOverride(Text),
     /// The object or feature of this name has a default that doesn't fit: the path of the first one, `/fields/NAME`,
     /// `/variables/NAME` or `/defaults/INDEX`.
     BadDefault(Text, Text),

@@ -26,4 +26,6 @@ pub enum Command {
     Show,
     /// The value that the feature of this name has, as an answer.
     Feature { name: Text },
+    /// The manifest of the run as a single file, as an answer.
+    WriteManifest,
 }

@@ -28,6 +28,7 @@ mod session;
 mod show;
 mod sized_state;
 mod state_store;
+mod write_manifest;
 
 pub use answer::Answer;
 pub use client::Client;

@@ -77,13 +77,15 @@ fn refusal_of(refusal: LinkRefusal) -> Answer
         LinkRefusal::FileTooLarge(name, length) => Answer::FileTooLarge(name, length),
         LinkRefusal::NotJson(name) => Answer::NotJson(name),
         LinkRefusal::BadShape(name, path) => Answer::BadShape(name, path),
-        LinkRefusal::ImportsUnbuilt(name) => Answer::ImportsUnbuilt(name),
         LinkRefusal::TooManyFiles => Answer::TooManyFiles,
+        LinkRefusal::ImportClash(name) => Answer::ImportClash(name),
         LinkRefusal::DuplicateName(name) => Answer::DuplicateName(name),
         LinkRefusal::UnknownType(name) => Answer::UnknownType(name),
         LinkRefusal::EndlessObject(name) => Answer::EndlessObject(name),
         LinkRefusal::ObjectTooLarge(name) => Answer::ObjectTooLarge(name),
         LinkRefusal::UnknownChannel => Answer::UnknownChannel,
+        LinkRefusal::UnknownImport(name) => Answer::UnknownImport(name),
+        LinkRefusal::UnknownOverride(name) => Answer::UnknownOverride(name),
     }
 }
 

@@ -59,7 +59,7 @@ impl Client {
         ensures typed { IfOk result (λ prepared. IsTyped (state_of self.old) (session_of self.old) command.now (answer_in prepared)) }
 
         // `context` and `fetch` ask the shelf for their file, and for no other. `manifest` asks for its file first, or for none,
-        // and then for those that it includes, of which nothing is said here. Each other command asks for none.
+        // and then for those that it includes or imports, of which nothing is said here. Each other command asks for none.
         ensures asked { HasAsked F.Shelf command.now shelf.old shelf.new }
         ensures unasked { names_file command.now ≡ false → shelf.new ≡ shelf.old }
         ensures shelf_fault { IsErrOf result StepFault.ShelfFault → IsTrue (names_file command.now) }
@@ -105,6 +105,7 @@ impl Client {
             Command::Reset { id } => Ok(self.resetting(alloc, *id)?),
             Command::Show => Ok(self.showing(alloc)?),
             Command::Feature { name } => Ok(self.serving(alloc, name)?),
+            Command::WriteManifest => Ok(self.writing_manifest(alloc)?),
         }
     }
 

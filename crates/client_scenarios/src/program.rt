@@ -2,7 +2,8 @@
 use crate::host::FailingHost;
 use host_model::{MemShelf, MemSource};
 use jexl_transforms::{
-    Transform, TransformTable, bucket_transform, date_transform, version_transform,
+    Transform, TransformTable, bucket_transform, date_transform, event_nonzero_transform,
+    event_seen_transform, event_sum_transform, version_transform,
 };
 use jexl_value::{Attributes, Value};
 use session_run::{RunStatus, nimbus};
@@ -64,11 +65,32 @@ fn answer(
             bucket_transform(alloc, attributes, subject, arguments)
         },
     )?;
+    let sum: Transform = Box::new(
+        alloc,
+        |attributes: &Attributes, subject: &Value, arguments: &[Value]| {
+            event_sum_transform(attributes, subject, arguments)
+        },
+    )?;
+    let nonzero: Transform = Box::new(
+        alloc,
+        |attributes: &Attributes, subject: &Value, arguments: &[Value]| {
+            event_nonzero_transform(attributes, subject, arguments)
+        },
+    )?;
+    let seen: Transform = Box::new(
+        alloc,
+        |attributes: &Attributes, subject: &Value, arguments: &[Value]| {
+            event_seen_transform(attributes, subject, arguments)
+        },
+    )?;
     let mut table = TransformTable::new(alloc);
-    let (Ok(()), Ok(()), Ok(())) = (
+    let (Ok(()), Ok(()), Ok(()), Ok(()), Ok(()), Ok(())) = (
         table.push(alloc, "versionCompare", version),
         table.push(alloc, "date", date),
         table.push(alloc, "bucketSample", bucket),
+        table.push(alloc, "eventSum", sum),
+        table.push(alloc, "eventCountNonZero", nonzero),
+        table.push(alloc, "eventLastSeen", seen),
     ) else {
         return Ok(RunStatus::OutOfMemory);
     };

@@ -19,7 +19,7 @@ use Rattle.enrol_states.specs.declared.status.DisqualifiedReason.TheVariants as 
 use Rattle.enrol_states.specs.declared.status.ErrorCause.{ErrorCause}
 use Rattle.enrol_states.specs.declared.status.ErrorCause.TheVariants as error
 use Rattle.client_core.specs.declared.answer.Answer.{Answer}
-use Rattle.client_core.specs.declared.answer.Answer.TheVariants.{Okay, Fetched, Applied, Value, Shown, NoManifest, NoContext, AbsentFile, FileTooLarge, NotJson, BadContext, NoData, TooManyRecipes, BadShape, ImportsUnbuilt, TooManyFiles, DuplicateName, UnknownType, EndlessObject, ObjectTooLarge, UnknownChannel, BadDefault, UnknownFeature, OptedOutLimit, NotParticipating, NoSuchExperiment, NoSuchBranch, FeatureTaken, StateTooLarge}
+use Rattle.client_core.specs.declared.answer.Answer.TheVariants.{Okay, Fetched, Applied, Value, Shown, Manifest, NoManifest, NoContext, AbsentFile, FileTooLarge, NotJson, BadContext, NoData, TooManyRecipes, BadShape, TooManyFiles, ImportClash, DuplicateName, UnknownType, EndlessObject, ObjectTooLarge, UnknownChannel, UnknownImport, UnknownOverride, BadDefault, UnknownFeature, OptedOutLimit, NotParticipating, NoSuchExperiment, NoSuchBranch, FeatureTaken, StateTooLarge}
 use Rattle.client_words.specs.declared.command.LineFault.{LineFault}
 use Rattle.client_words.specs.declared.command.LineFault.TheVariants.{LineTooLong, Blank, UnknownCommand, BadWords, BadSlug, BadId, OutOfMemory}
 
@@ -114,6 +114,7 @@ answer_lines Okay = codes "ok\n"
 answer_lines (Fetched kept skipped) = fetched_lines kept skipped
 answer_lines (Applied enrolled rows) = codes "applied " ++ decimal enrolled ++ codes " of " ++ decimal rows ++ 10 ∷ []
 answer_lines (Value tree) = codes "value " ++ text_of (json_of tree) ++ 10 ∷ []
+answer_lines (Manifest tree) = codes "manifest " ++ text_of (json_of tree) ++ 10 ∷ []
 answer_lines (Shown id experiments rollouts pending opted_out rows) = shown_lines id experiments rollouts pending opted_out rows
 answer_lines NoManifest = codes "refused NoManifest\n"
 answer_lines NoContext = codes "refused NoContext\n"
@@ -124,13 +125,15 @@ answer_lines (BadContext key) = codes "refused BadContext " ++ quoted (name_of k
 answer_lines NoData = codes "refused NoData\n"
 answer_lines (TooManyRecipes count) = codes "refused TooManyRecipes " ++ decimal count ++ 10 ∷ []
 answer_lines (BadShape name path) = codes "refused BadShape " ++ quoted name ++ codes " " ++ quoted path ++ 10 ∷ []
-answer_lines (ImportsUnbuilt name) = codes "refused ImportsUnbuilt " ++ quoted name ++ 10 ∷ []
 answer_lines TooManyFiles = codes "refused TooManyFiles\n"
+answer_lines (ImportClash name) = codes "refused ImportClash " ++ quoted name ++ 10 ∷ []
 answer_lines (DuplicateName name) = codes "refused DuplicateName " ++ name ++ 10 ∷ []
 answer_lines (UnknownType name) = codes "refused UnknownType " ++ name ++ 10 ∷ []
 answer_lines (EndlessObject name) = codes "refused EndlessObject " ++ name ++ 10 ∷ []
 answer_lines (ObjectTooLarge name) = codes "refused ObjectTooLarge " ++ name ++ 10 ∷ []
 answer_lines UnknownChannel = codes "refused UnknownChannel\n"
+answer_lines (UnknownImport name) = codes "refused UnknownImport " ++ quoted name ++ 10 ∷ []
+answer_lines (UnknownOverride name) = codes "refused UnknownOverride " ++ name ++ 10 ∷ []
 answer_lines (BadDefault owner path) = codes "refused BadDefault " ++ owner ++ codes " " ++ quoted path ++ 10 ∷ []
 answer_lines UnknownFeature = codes "refused UnknownFeature\n"
 answer_lines OptedOutLimit = codes "refused OptedOutLimit\n"

@@ -7,7 +7,7 @@ use Rattle.uuid.specs.Text.{parsed}
 use Rattle.enrol_states.specs.declared.participation.Part.{Part}
 use Rattle.enrol_states.specs.declared.participation.Part.TheVariants.{Both, Experiments, Rollouts}
 use Rattle.client_core.specs.declared.command.Command.{Command}
-use Rattle.client_core.specs.declared.command.Command.TheVariants.{Manifest, Context, Fetch, Apply, Participate, OptOut, OptIn, Reset, Show, Feature}
+use Rattle.client_core.specs.declared.command.Command.TheVariants.{Manifest, Context, Fetch, Apply, Participate, OptOut, OptIn, Reset, Show, Feature, WriteManifest}
 use Rattle.client_words.specs.declared.command.LineFault.{LineFault}
 use Rattle.client_words.specs.declared.command.LineFault.TheVariants.{LineTooLong, Blank, UnknownCommand, BadWords, BadSlug, BadId}
 
@@ -130,6 +130,7 @@ command_named name arguments =
     else if bytes_eq name (codes "reset") then resetting arguments
     else if bytes_eq name (codes "show") then alone Show arguments
     else if bytes_eq name (codes "feature") then feature_name arguments
+    else if bytes_eq name (codes "write-manifest") then alone WriteManifest arguments
     else Err UnknownCommand
 
 -- the command of these words

@@ -1,5 +1,7 @@
 // The text of an answer.
-ghost use Rattle.std.specs.Prelude.{◌≡◌, ◌≢◌, IfOk};
+ghost use Rattle.std.specs.Prelude.{◌≡◌, ◌≢◌, [], ◌∷◌, ◌++◌, IfOk};
+ghost use Rattle.json_tree.specs.Bytes.{text_of};
+ghost use Rattle.json_tree.specs.Tree.{json_of};
 ghost use Rattle.client_words.specs.Answers.{participating_in, yes_or_no, shown_lines, fetched_lines, answer_lines, fault_answer};
 ghost use Rattle.client_words.specs.Answers as spec;
 
@@ -27,7 +29,8 @@ pub fn answer_text(alloc: Global, answer: &Answer) -> Result<Text, AllocError>
         Answer::Okay => Text::new(alloc, "ok\n"),
         Answer::Fetched { kept, skipped } => fetched_text(alloc, *kept, skipped),
         Answer::Applied { enrolled, rows } => applied_text(alloc, *enrolled, *rows),
-        Answer::Value(tree) => value_text(alloc, tree),
+        Answer::Value(tree) => tree_text(alloc, "value ", tree),
+        Answer::Manifest(tree) => tree_text(alloc, "manifest ", tree),
         Answer::Shown {
             id,
             experiments,
@@ -57,15 +60,17 @@ pub fn answer_text(alloc: Global, answer: &Answer) -> Result<Text, AllocError>
             u128::from(*count),
         ),
         Answer::BadShape(name, path) => shape_text(alloc, name, path),
-        Answer::ImportsUnbuilt(name) => {
-            quoted_name(alloc, "refused ImportsUnbuilt ", name.as_str())
-        }
         Answer::TooManyFiles => Text::new(alloc, "refused TooManyFiles\n"),
+        Answer::ImportClash(name) => quoted_name(alloc, "refused ImportClash ", name.as_str()),
         Answer::DuplicateName(name) => named(alloc, "refused DuplicateName ", name),
         Answer::UnknownType(name) => named(alloc, "refused UnknownType ", name),
         Answer::EndlessObject(name) => named(alloc, "refused EndlessObject ", name),
         Answer::ObjectTooLarge(name) => named(alloc, "refused ObjectTooLarge ", name),
         Answer::UnknownChannel => Text::new(alloc, "refused UnknownChannel\n"),
+        Answer::UnknownImport(name) => {
+            quoted_name(alloc, "refused UnknownImport ", name.as_str())
+        }
+        Answer::UnknownOverride(name) => named(alloc, "refused UnknownOverride ", name),
         Answer::BadDefault(owner, path) => default_text(alloc, owner, path),
         Answer::UnknownFeature => Text::new(alloc, "refused UnknownFeature\n"),
         Answer::OptedOutLimit => Text::new(alloc, "refused OptedOutLimit\n"),
@@ -133,12 +138,11 @@ fn applied_text(alloc: Global, enrolled: usize, rows: usize) -> Result<Text, All
     Ok(Text::from_string(text))
 }
 
-/// What `feature` says.
-#[tactic(auto, unfolding(crate::specs::Answers::answer_lines))]
-fn value_text(alloc: Global, tree: &Tree) -> Result<Text, AllocError>
-    ensures { IfOk result (λ text. text ≡ answer_lines (Answer.Value tree.now)) }
+/// A tree's compact text behind a word: what `feature` and `write-manifest` say.
+fn tree_text(alloc: Global, front: &str, tree: &Tree) -> Result<Text, AllocError>
+    ensures { IfOk result (λ text. text ≡ front.now ++ text_of (json_of tree.now) ++ 10 ∷ []) }
 {
-    let mut text = String::from_str(alloc, "value ")?;
+    let mut text = String::from_str(alloc, front)?;
     text.push_str(write(alloc, tree)?.as_str())?;
     text.push_str("\n")?;
     Ok(Text::from_string(text))

@@ -98,6 +98,8 @@ fn named(
         alone(Command::Show, arguments)
     } else if name == b"feature".as_slice() {
         feature_name(alloc, line, arguments)
+    } else if name == b"write-manifest".as_slice() {
+        alone(Command::WriteManifest, arguments)
     } else {
         Err(LineFault::UnknownCommand)
     }

@@ -33,6 +33,7 @@ commands of `nimbus run`:
   reset ID               gives the client another id, with no rows and no opt-outs
   feature NAME           prints the value that the feature has
   show                   prints the state
+  write-manifest         prints the manifest as one file
 
 exit status:
    0 Done                all was done and printed

@@ -18,7 +18,8 @@ const FORMS: &str = "nimbus init ID\n\
     opt-in SLUG BRANCH\n\
     reset ID\n\
     feature NAME\n\
-    show";
+    show\n\
+    write-manifest";
 
 // A line of the text begins with this.
 fn has_line(text: &str, front: &str) -> bool {

@@ -6,7 +6,7 @@ use Rattle.uuid.specs.Text.{parsed}
 use Rattle.enrol_states.specs.Consistent.{IsId}
 use Rattle.enrol_states.specs.Statuses.{IsSlug}
 use Rattle.client_core.specs.declared.command.Command.{Command}
-use Rattle.client_core.specs.declared.command.Command.TheVariants.{Apply, Show}
+use Rattle.client_core.specs.declared.command.Command.TheVariants.{Apply, Show, WriteManifest}
 use Rattle.client_core.specs.Soundness.{IsCommand}
 use Rattle.client_words.specs.declared.command.LineFault.{LineFault}
 use Rattle.client_words.specs.Commands.{words_of, ◌>>=◌, yes_or_no_in, part_in, text_in, unless_bad, slug_in, id_read, id_in, manifest_file, context_file, fetching, alone, participation, opting_out, opting_in, resetting, feature_name, command_named, command_of_words, command_of}
@@ -104,7 +104,8 @@ named-kept name words =
     (either (bytes_eq name (codes "opt-in")) _ _ (opt_in-kept words)
     (either (bytes_eq name (codes "reset")) _ _ (reset-kept words)
     (either (bytes_eq name (codes "show")) _ _ (alone-kept Show words tt)
-    (either (bytes_eq name (codes "feature")) _ _ (feature-kept words) tt)))))))))
+    (either (bytes_eq name (codes "feature")) _ _ (feature-kept words)
+    (either (bytes_eq name (codes "write-manifest")) _ _ (alone-kept WriteManifest words tt) tt))))))))))
 
 words-kept : (words : List (List ℕ)) → Kept (command_of_words words)
 words-kept [] = tt

@@ -26,7 +26,7 @@ use Rattle.feature_serving.specs.Serving.{served}
 use Rattle.client_core.specs.declared.answer.Answer.{Answer}
 use Rattle.client_core.specs.declared.answer.Answer.TheVariants.{Okay, OptedOutLimit, NotParticipating, NoSuchBranch, StateTooLarge}
 use Rattle.client_core.specs.declared.command.Command.{Command}
-use Rattle.client_core.specs.declared.command.Command.TheVariants.{Fetch, Apply, Participate, OptOut, OptIn, Reset, Show, Feature}
+use Rattle.client_core.specs.declared.command.Command.TheVariants.{Fetch, Apply, Participate, OptOut, OptIn, Reset, Show, Feature, WriteManifest}
 use Rattle.client_core.specs.declared.command.Command.TheVariants as commands
 use Rattle.client_core.specs.declared.session.Session.{Session}
 use Rattle.client_core.specs.Choosing.{first_taker}
@@ -34,7 +34,7 @@ use Rattle.client_core.specs.Fetching.{file_tree}
 use Rattle.client_core.specs.Manifests.{manifest_of}
 use Rattle.client_core.specs.Sessions.{with_manifest}
 use Rattle.client_core.specs.Settings.{Setting}
-use Rattle.client_core.specs.Steps.{Outcome, Accepted, Refused, Step, participation, opting_out, taking, offering, choosing, opting_in, resetting, showing, fetched, fetching, context_read, reading_context, setting_manifest, applying, valued, serving, done, step}
+use Rattle.client_core.specs.Steps.{Outcome, Accepted, Refused, Step, participation, opting_out, taking, offering, choosing, opting_in, resetting, showing, fetched, fetching, context_read, reading_context, setting_manifest, applying, valued, serving, writing_manifest, done, step}
 use Rattle.client_words.specs.declared.command.LineFault.{LineFault}
 use Rattle.client_words.specs.Commands.{command_of}
 use Rattle.session_run.specs.Steps.{RunState, run_after, effect, run_at}
@@ -111,6 +111,10 @@ module _ (at : Setting) (s : State) (session : Session) where
   feature-keeps name None = tt
   feature-keeps name (Some manifest) = value-keeps (served manifest s name)
 
+  written-keeps : (manifest : Option Manifest) → Keeps (writing_manifest s session manifest)
+  written-keeps None = tt
+  written-keeps (Some manifest) = refl
+
   out-keeps : (slug : List ℕ) (full : Bool) → Keeps (if full then Refused OptedOutLimit else Accepted (after_opt_out s slug) session Okay)
   out-keeps slug true = tt
   out-keeps slug false = refl
@@ -182,6 +186,7 @@ module _ (at : Setting) (s : State) (session : Session) where
   sets_or_stays (Reset id) m is = stays (Reset id) m (λ f c e. cc) (done-keeps (resetting s session id) refl) is
   sets_or_stays Show m is = stays Show m (λ f c e. cc) (done-keeps (showing s session) refl) is
   sets_or_stays (Feature name) m is = stays (Feature name) m (λ f c e. cc) (done-keeps (serving s session name session.manifest) (feature-keeps name session.manifest)) is
+  sets_or_stays WriteManifest m is = stays WriteManifest m (λ f c e. cc) (done-keeps (writing_manifest s session session.manifest) (written-keeps session.manifest)) is
 
 -- ---- one line
 

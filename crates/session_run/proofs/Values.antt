@@ -8,7 +8,7 @@ use Rattle.json_tree.specs.declared.tree.Tree.{Tree}
 use Rattle.enrol_states.specs.Statuses.{last_moment}
 use Rattle.state_codec.specs.Sound.{IsSound}
 use Rattle.client_core.specs.declared.answer.Answer.{Answer}
-use Rattle.client_core.specs.declared.answer.Answer.TheVariants.{Okay, Fetched, Applied, Value, Shown}
+use Rattle.client_core.specs.declared.answer.Answer.TheVariants.{Okay, Fetched, Applied, Value, Shown, Manifest}
 use Rattle.client_core.specs.declared.command.Command.{Command}
 use Rattle.client_core.specs.Settings.{Setting}
 use Rattle.client_core.specs.Steps.{step}
@@ -50,6 +50,7 @@ value_in Okay text is = apart 111 (omega arith) (ap first is)
 value_in (Fetched kept skipped) text is = apart 102 (omega arith) (ap first is)
 value_in (Applied enrolled rows) text is = apart 97 (omega arith) (ap first is)
 value_in (Shown id experiments rollouts pending opted_out rows) text is = apart 105 (omega arith) (ap first is)
+value_in (Manifest tree) text is = apart 109 (omega arith) (ap first is)
 value_in refusal text is = apart 114 (omega arith) (ap first is)
 
 -- the line has a command that is answered a value

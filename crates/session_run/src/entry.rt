@@ -27,7 +27,8 @@ use std::alloc::Global;
 /// says the summary of the last state. It reads neither the source nor the shelf. START is from 0 to
 /// 18,446,744,073,709,551,615 and N from 1 to 2,000, each in decimal.
 ///
-/// The table has exactly the standard transforms of targeting: `versionCompare`, `date` and `bucketSample`.
+/// The table has exactly the standard transforms of targeting: `versionCompare`, `date`, `bucketSample`, `eventSum`,
+/// `eventCountNonZero` and `eventLastSeen`.
 ///
 /// What is promised stands in four records: `Ran` of a run, `Made` of the making of a store, `Drilled` of a drill, and
 /// `HasCauses` of each status. `Ran` holds where the source, the shelf and the host tell what they hold, `Made` and
