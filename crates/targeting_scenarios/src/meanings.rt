@@ -36,56 +36,55 @@ pub(crate) fn put(
 
 /// A row over a table of the standard transforms, of the kind `value`, `truth` or `call`.
 pub(crate) fn with_standard(alloc: Global, kind: &str, given: &str, input: &str) -> Result<String> {
-    let mut table = TransformTable::new(alloc);
     let version: Transform = Box::new(
         alloc,
         |attributes: &Attributes, subject: &Value, arguments: &[Value]| {
             version_transform(attributes, subject, arguments)
         },
     )?;
-    put(alloc, &mut table, "versionCompare", version)?;
     let date: Transform = Box::new(
         alloc,
         |attributes: &Attributes, subject: &Value, arguments: &[Value]| {
             date_transform(attributes, subject, arguments)
         },
     )?;
-    put(alloc, &mut table, "date", date)?;
     let bucket: Transform = Box::new(
         alloc,
         move |attributes: &Attributes, subject: &Value, arguments: &[Value]| {
             bucket_transform(alloc, attributes, subject, arguments)
         },
     )?;
-    put(alloc, &mut table, "bucketSample", bucket)?;
-    put_events(alloc, &mut table)?;
-    ensure!(table.names() == 6, "it has other names");
-    found(alloc, &table, kind, given, input)
-}
-
-// Puts the transforms of events at the end of a table.
-fn put_events(alloc: Global, table: &mut TransformTable) -> Result<()> {
     let sum: Transform = Box::new(
         alloc,
         |attributes: &Attributes, subject: &Value, arguments: &[Value]| {
             event_sum_transform(attributes, subject, arguments)
         },
     )?;
-    put(alloc, table, "eventSum", sum)?;
     let nonzero: Transform = Box::new(
         alloc,
         |attributes: &Attributes, subject: &Value, arguments: &[Value]| {
             event_nonzero_transform(attributes, subject, arguments)
         },
     )?;
-    put(alloc, table, "eventCountNonZero", nonzero)?;
     let seen: Transform = Box::new(
         alloc,
         |attributes: &Attributes, subject: &Value, arguments: &[Value]| {
             event_seen_transform(attributes, subject, arguments)
         },
     )?;
-    put(alloc, table, "eventLastSeen", seen)
+    let mut table = TransformTable::new(alloc);
+    let (Ok(()), Ok(()), Ok(()), Ok(()), Ok(()), Ok(())) = (
+        table.push(alloc, "versionCompare", version),
+        table.push(alloc, "date", date),
+        table.push(alloc, "bucketSample", bucket),
+        table.push(alloc, "eventSum", sum),
+        table.push(alloc, "eventCountNonZero", nonzero),
+        table.push(alloc, "eventLastSeen", seen),
+    ) else {
+        bail!("the table has no room");
+    };
+    ensure!(table.names() == 6, "it has other names");
+    found(alloc, &table, kind, given, input)
 }
 
 /// A row over a table whose closures find no memory, of the kind `wanting-value` or `wanting-call`.
