@@ -153,11 +153,11 @@ pub new_where : (rows : List StoreRow) (s : State) → needs_migration rows ≡ 
 new_where rows s none (inl is) = is
 new_where rows s none (inr old) = absurd (true_false (needs_migration rows) (ap needs_migration old.same ∙ old_is_old s) none)
 
-later_is_new : (s : State) → needs_migration (later_rows (participation s) s) ≡ false
+pub later_is_new : (s : State) → needs_migration (later_rows (participation s) s) ≡ false
 unfolding participation
 later_is_new s = later_byte (participation s) s ∙ new_byte s.experiments s.rollouts
 
-later_is_old : (s : State) → needs_migration (later_rows (bit s.experiments) s) ≡ true
+pub later_is_old : (s : State) → needs_migration (later_rows (bit s.experiments) s) ≡ true
 later_is_old s = later_byte (bit s.experiments) s ∙ old_byte s.experiments
 
 -- and of the later rows alone

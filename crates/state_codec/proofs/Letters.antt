@@ -10,11 +10,11 @@ use Rattle.row_batches.specs.declared.store_row.StoreRow.{StoreRow}
 use Rattle.state_values.specs.Statuses.{number, status_bytes}
 use Rattle.state_codec.specs.Spelling.{row, key_row, recipe_row, status_row, last_rows, pending_recipes, first_rows, later_rows, hyphenated, recipe_text, bit}
 
-all_append : (P : StoreRow → Type 0) (rs ss : List StoreRow) → AllByRecursion P rs → AllByRecursion P ss → AllByRecursion P (rs ++ ss)
+pub all_append : (P : StoreRow → Type 0) (rs ss : List StoreRow) → AllByRecursion P rs → AllByRecursion P ss → AllByRecursion P (rs ++ ss)
 all_append P [] ss r_are s_are = s_are
 all_append P (r ∷ rs) ss r_are s_are = (r_are.0, all_append P rs ss r_are.1 s_are)
 
-all_map : {A : Type 0} (P : StoreRow → Type 0) (f : A → StoreRow) (xs : List A) → ((x : A) → P (f x)) → AllByRecursion P (map f xs)
+pub all_map : {A : Type 0} (P : StoreRow → Type 0) (f : A → StoreRow) (xs : List A) → ((x : A) → P (f x)) → AllByRecursion P (map f xs)
 all_map P f [] each = tt
 all_map P f (x ∷ xs) each = (each x, all_map P f xs each)
 

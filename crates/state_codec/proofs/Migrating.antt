@@ -42,7 +42,7 @@ one_rule s changes are = subst (λ (cs : List RowChange). IsBatch (of_list cs)) 
 -- ---- the batch between the two forms
 
 -- rows that stand before both change nothing
-same_front : (front olds news : List StoreRow) → changes_between (front ++ olds) (front ++ news) ≡ changes_between olds news
+pub same_front : (front olds news : List StoreRow) → changes_between (front ++ olds) (front ++ news) ≡ changes_between olds news
 same_front [] olds news = refl
 same_front (r ∷ rs) olds news =
     (turns.same r r (rs ++ olds) (rs ++ news) ((bytes_decides r.value r.value).1 refl) (tied_itself nat_list_cmp_total r.key)).split ∙ same_front rs olds news

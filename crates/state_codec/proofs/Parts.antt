@@ -64,7 +64,7 @@ parts_where rows first later s before from form =
 
 -- ---- the place of the row of the id
 
-at_place : (rows : List StoreRow) (i : ℕ) (r : StoreRow) → i < length rows → r ≡ get_or rows i r → drop i rows ≡ r ∷ drop (i + 1) rows
+pub at_place : (rows : List StoreRow) (i : ℕ) (r : StoreRow) → i < length rows → r ≡ get_or rows i r → drop i rows ≡ r ∷ drop (i + 1) rows
 at_place rows i r within is = rw add-one (drop-cons rows i r within ∙ ap (λ x. x ∷ drop (suc i) rows) (sym is))
 
 module _ (rows : List StoreRow) (i : ℕ) (r : StoreRow) (within : i < length rows) (is : r ≡ get_or rows i r) where

@@ -50,6 +50,7 @@ pub fn state_size(state: &State) -> u128
 pub fn sizes_of(state: &State) -> StateSizes
     requires { IsConsistent state.now }
     ensures sizes { IsSizeOf state.now result }
+    ensures bound { result.total ≤ 2 ^ 100 }
     ensures records { HaveRecords state.now }
 {
     let live = recipes_size(state.live.as_slice());
@@ -69,6 +70,7 @@ pub fn sizes_after(before: StateSizes, old: &State, new: &State, recipes: Recipe
     requires new_state { IsConsistent new.now }
     requires recipes { HasLists recipes old.now new.now }
     ensures sizes { IsSizeOf new.now result }
+    ensures bound { result.total ≤ 2 ^ 100 }
     ensures records { HaveRecords new.now }
 {
     let live = live_size(before.live, old, new, recipes);

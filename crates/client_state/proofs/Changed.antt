@@ -1,0 +1,62 @@
+-- The changes between the rows of two states are a batch, and the text of all rows after it is the spelling of the next state.
+use Rattle.std.proofs.Common.{◌≡◌, ◌≤◌, ◌<◌, ◌^◌, ◌+◌, false, List, Option, Some, None, length, sym, ap, ◌∙◌, subst}
+use Rattle.std.specs.Option.{unwrap_or}
+use Rattle.enrol_states.specs.Consistent as states
+use Rattle.enrol_states.specs.declared.state.State.{State}
+use Rattle.event_counts.specs.Sound as counts
+use Rattle.event_counts.specs.declared.name_counts.NameCounts.{NameCounts}
+use Rattle.row_batches.specs.Batch.{ChangeList, IsBatch, applied, batch_text, whole_of}
+use Rattle.row_batches.specs.Between.{changes_between, between}
+use Rattle.row_batches.specs.declared.change.RowChange.{RowChange}
+use Rattle.row_batches.proofs.Sizes.{between_short}
+use Rattle.row_batches.proofs.Walks.{between_rule, applied_between}
+use Rattle.client_state.specs.Changes.{AreSoundIf, IsChangeOf, IsNextIf, enrolment_after, state_after}
+use Rattle.client_state.specs.Sound.{IsConsistent}
+use Rattle.client_state.specs.Spelling.{rows_of, spelling}
+use Rattle.client_state.specs.declared.client_state.ClientState.{ClientState}
+use Rattle.client_state.specs.declared.state_change.NextEnrolment.{NextEnrolment}
+use Rattle.client_state.specs.declared.state_change.StateChange.{StateChange}
+use Rattle.client_state.proofs.KeyOrder.{rows_rise}
+use Rattle.client_state.proofs.Room.{rows_room}
+
+-- ---- what a change leaves
+
+pub enrolment_consistent : (next : Option NextEnrolment) (e : State) → states.IsConsistent e → IsNextIf e next → states.IsConsistent (enrolment_after next e)
+enrolment_consistent None e is can = is
+enrolment_consistent (Some next) e is can = can.consistent
+
+pub events_sound : (next : Option (List NameCounts)) (ns : List NameCounts) → counts.IsSound ns → AreSoundIf next → counts.IsSound (unwrap_or next ns)
+events_sound None ns is can = is
+events_sound (Some next) ns is can = can
+
+-- the state after one of its changes is one that a client can have
+pub change_consistent : (s : ClientState) (change : StateChange) → IsConsistent s → IsChangeOf s change → IsConsistent (state_after change s)
+change_consistent s change is of =
+    record { enrolment = enrolment_consistent change.enrolment s.enrolment is.enrolment of.enrolment; events = events_sound change.events s.events is.events of.events }
+
+-- ---- the batch between two states
+
+abbrev of_list : List RowChange → ChangeList
+of_list changes = record { clear = false; changes = changes }
+
+pub is_batch : (s t : ClientState) (changes : List RowChange) → IsConsistent s → IsConsistent t → length (spelling s) < 2 ^ 32 → length (spelling t) < 2 ^ 32
+    → changes ≡ changes_between (rows_of s) (rows_of t) → IsBatch (record { clear = false; changes = changes })
+is_batch s t changes s_is t_is s_fits t_fits are =
+    subst (λ (cs : List RowChange). IsBatch (of_list cs)) (sym are)
+    (between_rule (rows_of s) (rows_of t) (rows_rise s s_is) (rows_rise t t_is) (rows_room s s_is s_fits) (rows_room t t_is t_fits))
+
+pub batch_between : (s t : ClientState) (batch : ChangeList) (changes : List RowChange) → batch ≡ record { clear = false; changes = changes } → changes ≡ changes_between (rows_of s) (rows_of t)
+    → batch ≡ between (rows_of s) (rows_of t)
+batch_between s t batch changes is same = is ∙ ap of_list same
+
+pub gives_rows : (s t : ClientState) (batch : ChangeList) → IsConsistent s → IsConsistent t → batch ≡ between (rows_of s) (rows_of t) → applied batch (rows_of s) ≡ rows_of t
+gives_rows s t batch s_is t_is is = applied_between (rows_of s) (rows_of t) batch (rows_rise s s_is) (rows_rise t t_is) is
+
+pub gives_whole : (s t : ClientState) (batch : ChangeList) → IsConsistent s → IsConsistent t → batch ≡ between (rows_of s) (rows_of t) → batch_text (whole_of (applied batch (rows_of s))) ≡ spelling t
+unfolding spelling
+gives_whole s t batch s_is t_is is = ap (λ rows. batch_text (whole_of rows)) (gives_rows s t batch s_is t_is is)
+
+pub is_short : (s t : ClientState) (batch : ChangeList) → batch ≡ between (rows_of s) (rows_of t) → length (batch_text batch) ≤ length (spelling s) + length (spelling t)
+unfolding spelling
+is_short s t batch is =
+    subst (λ (b : ChangeList). length (batch_text b) ≤ length (batch_text (whole_of (rows_of s))) + length (batch_text (whole_of (rows_of t)))) (sym is) (between_short (rows_of s) (rows_of t))

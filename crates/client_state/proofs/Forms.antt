@@ -1,0 +1,102 @@
+-- The forms of a state: both are batches of one length, and each is told from the other by the row `p`.
+use Rattle.std.proofs.Common.{◌≡◌, ◌<◌, ◌^◌, ◌++◌, ◌∷◌, [], List, ℕ, Bool, true, false, inl, inr, length, refl, sym, ap, ◌∙◌, subst, arith}
+use Rattle.std.specs.Prelude.{◌||◌}
+use Rattle.std.specs.List.{AllByRecursion}
+use Rattle.row_batches.specs.Batch.{IsBatch, batch_text, whole_of}
+use Rattle.row_batches.specs.Batches.{HaveRoom}
+use Rattle.row_batches.specs.Rows.{AreRows}
+use Rattle.row_batches.specs.declared.store_row.StoreRow.{StoreRow}
+use Rattle.row_batches.proofs.Walks.{whole_rule}
+use Rattle.event_counts.specs.Rows as count_rows
+use Rattle.event_counts.specs.declared.name_counts.NameCounts.{NameCounts}
+use Rattle.enrol_states.specs.declared.state.State.{State}
+use Rattle.state_values.specs.Values.{bit, participation}
+use Rattle.state_codec.specs.Forms.{is_old}
+use Rattle.state_codec.specs.Spelling.{first_rows, later_rows}
+use Rattle.state_codec.proofs.Forms.{later_is_new, later_is_old}
+use Rattle.state_codec.proofs.Letters.{first_all}
+use Rattle.client_state.specs.declared.client_state.ClientState.{ClientState}
+use Rattle.client_state.specs.Forms.{IsForm, IsOldForm, IsSpelled, needs_migration, old_rows, old_spelling}
+use Rattle.client_state.specs.Sound.{IsConsistent, IsSound}
+use Rattle.client_state.specs.Spelling.{rows_with, rows_of, spelling}
+use Rattle.client_state.proofs.KeyOrder.{with_rise}
+use Rattle.client_state.proofs.Room.{with_room}
+use Rattle.client_state.proofs.Lengths.{length-byte}
+
+-- ---- both are batches
+
+pub form_rises : (s : ClientState) (rows : List StoreRow) → IsConsistent s → IsForm s rows → AreRows rows
+form_rises s rows is (inl same) = subst AreRows (sym same) (with_rise (participation s.enrolment) s is)
+form_rises s rows is (inr old) = subst AreRows (sym old.same) (with_rise (bit s.enrolment.experiments) s is)
+
+abbrev size_of : List StoreRow → ℕ
+size_of rows = length (batch_text (whole_of rows))
+
+pub form_size : (s : ClientState) (rows : List StoreRow) → IsForm s rows → length (batch_text (whole_of rows)) ≡ length (spelling s)
+unfolding spelling
+form_size s rows (inl same) = ap size_of same
+form_size s rows (inr old) = ap size_of old.same ∙ length-byte (bit s.enrolment.experiments) (participation s.enrolment) s
+
+fits : (s : ClientState) (rows : List StoreRow) → IsSound s → IsForm s rows → length (batch_text (whole_of rows)) < 2 ^ 32
+fits s rows sound form = omega (arith, form_size s rows form, sound.size)
+
+pub form_room : (s : ClientState) (rows : List StoreRow) → IsSound s → IsForm s rows → HaveRoom rows
+form_room s rows sound (inl same) = subst HaveRoom (sym same) (with_room (participation s.enrolment) s sound.consistent (fits s (rows_of s) sound (inl refl)))
+form_room s rows sound (inr old) =
+    subst HaveRoom (sym old.same) (with_room (bit s.enrolment.experiments) s sound.consistent (fits s (old_rows s) sound (inr (record { one_flag = old.one_flag; same = refl }))))
+
+pub form_rule : (s : ClientState) (rows : List StoreRow) → IsSound s → IsForm s rows → IsBatch (whole_of rows)
+form_rule s rows sound form = whole_rule rows (form_rises s rows sound.consistent form) (form_room s rows sound form)
+
+-- ---- their bytes
+
+-- a form of the state that these bytes spell
+pub record Text (s : ClientState) (bytes : List ℕ) : Type 0 where
+  pub rows : List StoreRow
+  pub form : IsForm s rows
+  pub text : bytes ≡ batch_text (whole_of rows)
+
+pub text_of_form : (s : ClientState) (bytes : List ℕ) → IsSpelled s bytes → Text s bytes
+unfolding spelling old_spelling
+text_of_form s bytes (inl is) = record { rows = rows_of s; form = inl refl; text = is }
+text_of_form s bytes (inr old) = record { rows = old_rows s; form = inr (record { one_flag = old.one_flag; same = refl }); text = old.same }
+
+-- ---- the row `p` tells them apart
+
+none_in_front : (front rest : List StoreRow) → AllByRecursion (λ r. is_old r ≡ false) front → needs_migration (front ++ rest) ≡ needs_migration rest
+none_in_front [] rest none = refl
+none_in_front (r ∷ rs) rest none = ap (λ b. b || needs_migration (rs ++ rest)) none.0 ∙ none_in_front rs rest none.1
+
+first_none : (e : State) → AllByRecursion (λ r. is_old r ≡ false) (first_rows e)
+first_none e = first_all (λ (r : StoreRow). is_old r ≡ false) e (λ rest value. refl)
+
+events_none : (ns : List NameCounts) → AllByRecursion (λ r. is_old r ≡ false) (count_rows.rows_of ns)
+events_none [] = tt
+events_none (n ∷ ns) = (refl, events_none ns)
+
+with_byte : (byte : ℕ) (s : ClientState) → needs_migration (rows_with byte s) ≡ needs_migration (later_rows byte s.enrolment)
+unfolding rows_with
+with_byte byte s =
+    none_in_front (first_rows s.enrolment) (count_rows.rows_of s.events ++ later_rows byte s.enrolment) (first_none s.enrolment)
+    ∙ none_in_front (count_rows.rows_of s.events) (later_rows byte s.enrolment) (events_none s.events)
+
+pub spelled_is_new : (s : ClientState) → needs_migration (rows_of s) ≡ false
+spelled_is_new s = with_byte (participation s.enrolment) s ∙ later_is_new s.enrolment
+
+pub old_is_old : (s : ClientState) → needs_migration (old_rows s) ≡ true
+old_is_old s = with_byte (bit s.enrolment.experiments) s ∙ later_is_old s.enrolment
+
+true_false : (b : Bool) → b ≡ true → b ≡ false → ⊥
+true_false b is other = absurd cc
+
+pub old_where : (rows : List StoreRow) (s : ClientState) → needs_migration rows ≡ true → IsForm s rows → IsOldForm s rows
+old_where rows s needs (inl is) = absurd (true_false (needs_migration rows) needs (ap needs_migration is ∙ spelled_is_new s))
+old_where rows s needs (inr old) = old
+
+pub new_where : (rows : List StoreRow) (s : ClientState) → needs_migration rows ≡ false → IsForm s rows → rows ≡ rows_of s
+new_where rows s none (inl is) = is
+new_where rows s none (inr old) = absurd (true_false (needs_migration rows) (ap needs_migration old.same ∙ old_is_old s) none)
+
+-- rows are spelled or an old form, and never both
+pub apart : (s t : ClientState) (rows : List StoreRow) → rows ≡ rows_of s → IsOldForm t rows → ⊥
+apart s t rows is old = true_false (needs_migration rows) (ap needs_migration old.same ∙ old_is_old t) (ap needs_migration is ∙ spelled_is_new s)

@@ -1,0 +1,51 @@
+-- How many bytes a state is spelled in: those of its enrolment, and those of the rows of its events.
+use Rattle.std.proofs.Common.{◌≡◌, ◌+◌, ◌≤◌, ◌^◌, ◌++◌, ℕ, length, sym, subst, arith}
+use Rattle.row_batches.specs.Batch.{batch_text, puts_text, whole_of}
+use Rattle.row_batches.proofs.Sizes.{puts_size-append}
+use Rattle.event_counts.specs.Rows as count_rows
+use Rattle.state_values.specs.Values.{participation}
+use Rattle.state_codec.specs.Sizes as codec_sizes
+use Rattle.state_codec.specs.Sound as codec_sound
+use Rattle.state_codec.specs.declared.size.StateSizes.{StateSizes}
+use Rattle.state_codec.specs.Spelling as codec
+use Rattle.state_codec.specs.Spelling.{first_rows, later_rows}
+use Rattle.state_codec.proofs.Sizes as codec_lengths
+use Rattle.client_state.specs.declared.client_state.ClientState.{ClientState}
+use Rattle.client_state.specs.declared.sizes.ClientSizes.{ClientSizes}
+use Rattle.client_state.specs.Sizes.{IsSizeOf}
+use Rattle.client_state.specs.Sound.{IsSound}
+use Rattle.client_state.specs.Spelling.{rows_with, spelling}
+
+-- the bytes of the puts of the events' rows
+abbrev pub events_size : ClientState → ℕ
+events_size s = length (puts_text (count_rows.rows_of s.events))
+
+pub length-with : (byte : ℕ) (s : ClientState) → length (batch_text (whole_of (rows_with byte s))) ≡ length (batch_text (whole_of (codec.rows_with byte s.enrolment))) + events_size s
+unfolding rows_with codec.rows_with
+length-with byte s =
+    let first = first_rows s.enrolment in
+    let events = count_rows.rows_of s.events in
+    let later = later_rows byte s.enrolment in
+    omega (arith, puts_size-append first (events ++ later), puts_size-append events later, puts_size-append first later)
+
+pub length-spelling : (s : ClientState) → length (spelling s) ≡ length (codec.spelling s.enrolment) + events_size s
+unfolding spelling codec.spelling
+length-spelling s = length-with (participation s.enrolment) s
+
+-- rows are as long whatever the byte of participation is
+pub length-byte : (byte other : ℕ) (s : ClientState) → length (batch_text (whole_of (rows_with byte s))) ≡ length (batch_text (whole_of (rows_with other s)))
+length-byte byte other s = omega (arith, length-with byte s, length-with other s, codec_lengths.length-byte byte other s.enrolment)
+
+-- the enrolment of a sound state is sound
+pub enrolment_sound : (s : ClientState) → IsSound s → codec_sound.IsSound s.enrolment
+enrolment_sound s is = record { consistent = is.consistent.enrolment; records = is.records; size = omega (arith, length-spelling s, is.size) }
+
+-- the rows of the events of a sound state are short
+pub events_fit : (s : ClientState) (sizes : ClientSizes) → IsSound s → IsSizeOf s sizes → sizes.events ≤ 2 ^ 100
+events_fit s sizes is are = omega (arith, are.events, length-spelling s, is.size)
+
+-- the sizes of a state by those of its parts
+pub sizes_are : (s : ClientState) (enrolment : StateSizes) (events : ℕ) (sizes : ClientSizes) → sizes ≡ record { total = enrolment.total + events; enrolment = enrolment; events = events } → codec_sizes.IsSizeOf s.enrolment enrolment
+    → events ≡ events_size s → IsSizeOf s sizes
+sizes_are s enrolment events sizes is are events_are =
+    subst (IsSizeOf s) (sym is) (record { total = omega (arith, length-spelling s, are.total, events_are); enrolment = are; events = events_are })

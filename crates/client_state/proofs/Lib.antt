@@ -1,0 +1,11 @@
+pub mod Divided
+pub mod KeyOrder
+pub mod Joined
+pub mod Room
+pub mod Lengths
+pub mod Forms
+pub mod SectionsRead
+pub mod OneState
+pub mod Empty
+pub mod Changed
+pub mod Migrating

@@ -1,0 +1,57 @@
+-- What a command makes of a client's state: each part that it changes.
+use Rattle.std.specs.Prelude.{List, Option, Some, None, ⊤}
+use Rattle.std.specs.Option.{unwrap_or}
+use Rattle.enrol_states.specs.Consistent as states
+use Rattle.enrol_states.specs.declared.state.State.{State}
+use Rattle.event_counts.specs.Sound as counts
+use Rattle.event_counts.specs.declared.name_counts.NameCounts.{NameCounts}
+use Rattle.state_codec.specs.RecipeLists.{HasLists}
+use Rattle.state_codec.specs.declared.recipe_lists.RecipeLists.{RecipeLists}
+use Rattle.client_state.specs.declared.client_state.ClientState.{ClientState}
+use Rattle.client_state.specs.declared.state_change.NextEnrolment.{NextEnrolment}
+use Rattle.client_state.specs.declared.state_change.StateChange.{StateChange}
+
+-- ---- changes of some parts
+
+abbrev pub next_of : State → RecipeLists → NextEnrolment
+next_of e recipes = record { state = e; recipes = recipes }
+
+abbrev pub of_enrolment : State → RecipeLists → StateChange
+of_enrolment e recipes = record { enrolment = Some (next_of e recipes); events = None }
+
+abbrev pub of_events : List NameCounts → StateChange
+of_events ns = record { enrolment = None; events = Some ns }
+
+abbrev pub of_both : State → RecipeLists → List NameCounts → StateChange
+of_both e recipes ns = record { enrolment = Some (next_of e recipes); events = Some ns }
+
+-- ---- the state after a change
+
+-- the next enrolment, or that of before
+abbrev pub enrolment_after : Option NextEnrolment → State → State
+enrolment_after None e = e
+enrolment_after (Some next) e = next.state
+
+-- the state with the parts that the change has
+abbrev pub state_after : StateChange → ClientState → ClientState
+state_after change s = record { enrolment = enrolment_after change.enrolment s.enrolment; events = unwrap_or change.events s.events }
+
+-- ---- which changes a state may have
+
+-- a client can have the next enrolment, and its lists of recipes are those of before, as far as it says so
+pub record IsNext (e : State) (next : NextEnrolment) : Type 0 where
+  pub consistent : states.IsConsistent next.state
+  pub recipes : HasLists next.recipes e next.state
+
+abbrev pub IsNextIf : State → Option NextEnrolment → Type 0
+IsNextIf e None = ⊤
+IsNextIf e (Some next) = IsNext e next
+
+abbrev pub AreSoundIf : Option (List NameCounts) → Type 0
+AreSoundIf None = ⊤
+AreSoundIf (Some ns) = counts.IsSound ns
+
+-- the change is one of the state: each part that it has can be a client's
+pub record IsChangeOf (s : ClientState) (change : StateChange) : Type 0 where
+  pub enrolment : IsNextIf s.enrolment change.enrolment
+  pub events : AreSoundIf change.events

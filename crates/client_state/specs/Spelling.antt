@@ -1,0 +1,22 @@
+-- The rows of a client's state in the order of their keys, and its spelling: the batch that makes a store of them.
+use Rattle.std.specs.Prelude.{ℕ, Bool, List, ◌++◌, bytes_eq}
+use Rattle.row_batches.specs.Batch.{batch_text, whole_of}
+use Rattle.row_batches.specs.declared.store_row.StoreRow.{StoreRow}
+use Rattle.state_values.specs.Values.{participation}
+use Rattle.state_codec.specs.Spelling.{first_rows, later_rows}
+use Rattle.event_counts.specs.Rows as count_rows
+use Rattle.client_state.specs.declared.client_state.ClientState.{ClientState}
+
+-- the rows of the enrolment and of the events, where this is the byte of participation
+unfoldable pub rows_with : ℕ → ClientState → List StoreRow
+rows_with byte s = first_rows s.enrolment ++ (count_rows.rows_of s.events ++ later_rows byte s.enrolment)
+
+abbrev pub rows_of : ClientState → List StoreRow
+rows_of s = rows_with (participation s.enrolment) s
+
+unfoldable pub spelling : ClientState → List ℕ
+spelling s = batch_text (whole_of (rows_of s))
+
+-- whether the states have one spelling; then sound states are the same
+abbrev pub state_eq : ClientState → ClientState → Bool
+state_eq s t = bytes_eq (spelling s) (spelling t)

@@ -1,0 +1,119 @@
+// The batches of a client state's rows: the one that makes them, whose bytes are the state's spelling, and the one that changes them
+// to the next state's.
+ghost use Rattle.std.specs.Prelude.{◌≡◌, ◌≤◌, ◌<◌, ◌+◌, ◌^◌, [], length, IfOk};
+ghost use Rattle.std.specs.Option.{unwrap_or};
+ghost use Rattle.enrol_states.specs.Consistent as states;
+ghost use Rattle.row_batches.specs.Batch.{applied, batch_text, whole_of};
+ghost use Rattle.row_batches.specs.Between.{changes_between, between};
+ghost use Rattle.state_values.specs.Values.{participation};
+ghost use Rattle.state_codec.specs.Spelling.{first_rows, later_rows};
+ghost use Rattle.event_counts.specs.Rows as count_rows;
+ghost use Rattle.client_state.specs.Changes.{IsChangeOf, IsNextIf, enrolment_after, state_after};
+ghost use Rattle.client_state.specs.Sound.{IsConsistent};
+ghost use Rattle.client_state.specs.Spelling.{rows_of, spelling};
+
+use crate::client_state::ClientState;
+use crate::rows::{joined, rows_of};
+use crate::state_change::{NextEnrolment, StateChange};
+use enrol_states::State;
+use event_counts::Counts;
+use row_batches::{Batch, RowChange};
+use sequences::Sequence;
+use state_codec::{first_changes, later_changes};
+use std::alloc::{AllocError, Global};
+
+/// The batch that makes the state's rows: a clear of all rows, and a put of each. Its bytes are the state's spelling.
+#[tactic(auto, using(crate::proofs::Room::rows_room), unfolding(crate::specs::Spelling::spelling))]
+pub fn whole_batch(alloc: Global, state: &ClientState) -> Result<Batch, AllocError>
+    requires state { IsConsistent state.now }
+    requires size { length (spelling state.now) < 2 ^ 32 }
+    ensures batch { IfOk result (λ batch. batch ≡ whole_of (rows_of state.now)) }
+    ensures text { IfOk result (λ batch. batch_text batch ≡ spelling state.now) }
+    ensures gives { IfOk result (λ batch. applied batch [] ≡ rows_of state.now) }
+{
+    let rows = rows_of(alloc, state)?;
+    Batch::whole_of(alloc, rows)
+}
+
+/// The batch from the rows of a state to those that it has after a change: a put for each row that is new or differs, a delete for
+/// each that is gone, and nothing else. A row is made only where it changes. Parts that the change doesn't have aren't looked at,
+/// and of the enrolment no list of recipes that is as before.
+pub fn changes_to(
+    alloc: Global,
+    old: &ClientState,
+    change: &StateChange,
+) -> Result<Batch, AllocError>
+    requires old_state { IsConsistent old.now }
+    requires change { IsChangeOf old.now change.now }
+    requires old_size { length (spelling old.now) < 2 ^ 32 }
+    requires new_size { length (spelling (state_after change.now old.now)) < 2 ^ 32 }
+    ensures between { IfOk result (λ batch. batch ≡ between (rows_of old.now) (rows_of (state_after change.now old.now))) }
+    ensures gives { IfOk result (λ batch. applied batch (rows_of old.now) ≡ rows_of (state_after change.now old.now)) }
+
+    // The bytes of a clear and of a put of each row that stands after the batch are the spelling of the next state.
+    ensures whole { IfOk result (λ batch. batch_text (whole_of (applied batch (rows_of old.now))) ≡ spelling (state_after change.now old.now)) }
+    ensures size { IfOk result (λ batch. length (batch_text batch) ≤ length (spelling old.now) + length (spelling (state_after change.now old.now))) }
+{
+    let changes = row_changes(alloc, old, change)?;
+    Ok(Batch::of_changes(changes))
+}
+
+// The changes from the rows of a state to those that it has after a change.
+fn row_changes(
+    alloc: Global,
+    old: &ClientState,
+    change: &StateChange,
+) -> Result<Sequence<RowChange>, AllocError>
+    requires old_state { IsConsistent old.now }
+    requires change { IsChangeOf old.now change.now }
+    ensures { IfOk result (λ changes. changes ≡ changes_between (rows_of old.now) (rows_of (state_after change.now old.now))) }
+{
+    let first = first_row_changes(alloc, &old.enrolment, &change.enrolment)?;
+    let events = event_changes(alloc, &old.events, &change.events)?;
+    let later = later_row_changes(alloc, &old.enrolment, &change.enrolment)?;
+    joined(first, events, later)
+}
+
+// The changes of the enrolment's first rows.
+fn first_row_changes(
+    alloc: Global,
+    old: &State,
+    next: &Option<NextEnrolment>,
+) -> Result<Sequence<RowChange>, AllocError>
+    ensures { IfOk result (λ changes. changes ≡ changes_between (first_rows old.now) (first_rows (enrolment_after next.now old.now))) }
+{
+    match next {
+        Some(next) => first_changes(alloc, old, &next.state),
+        None => Ok(Sequence::new(alloc)),
+    }
+}
+
+// The changes of the counts' rows.
+fn event_changes(
+    alloc: Global,
+    old: &Counts,
+    next: &Option<Counts>,
+) -> Result<Sequence<RowChange>, AllocError>
+    ensures { IfOk result (λ changes. changes ≡ changes_between (count_rows.rows_of old.now) (count_rows.rows_of (unwrap_or next.now old.now))) }
+{
+    match next {
+        Some(next) => old.changes_to(alloc, next),
+        None => Ok(Sequence::new(alloc)),
+    }
+}
+
+// The changes of the enrolment's later rows.
+fn later_row_changes(
+    alloc: Global,
+    old: &State,
+    next: &Option<NextEnrolment>,
+) -> Result<Sequence<RowChange>, AllocError>
+    requires old_state { states.IsConsistent old.now }
+    requires next { IsNextIf old.now next.now }
+    ensures { IfOk result (λ changes. changes ≡ changes_between (later_rows (participation old.now) old.now) (later_rows (participation (enrolment_after next.now old.now)) (enrolment_after next.now old.now))) }
+{
+    match next {
+        Some(next) => later_changes(alloc, old, &next.state, next.recipes),
+        None => Ok(Sequence::new(alloc)),
+    }
+}

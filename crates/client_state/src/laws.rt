@@ -1,0 +1,21 @@
+// Laws of the definitions. The functions do nothing: their contracts are the laws.
+ghost use Rattle.client_state.specs.Laws.{EmptyPartsHaveNoRows, EqualStatesAreOne, FormsOfEnrolmentsStand, IsOneToOne, IsFormOfOne, IsSpelledByOne};
+
+/// Two sound states that have one spelling are one state. It takes no memory.
+pub fn one_spelling()
+    ensures one { IsOneToOne }
+    ensures equal { EqualStatesAreOne }
+{}
+
+/// Rows that are a sound state's, or their old form, are of no other sound state, and neither are bytes. It takes no memory.
+pub fn one_state()
+    ensures rows { IsFormOfOne }
+    ensures bytes { IsSpelledByOne }
+{}
+
+/// An empty part has no row: the rows of an enrolment alone, and their old form, are those of the state with empty parts. It takes
+/// no memory.
+pub fn empty_parts()
+    ensures rows { EmptyPartsHaveNoRows }
+    ensures forms { FormsOfEnrolmentsStand }
+{}

@@ -1,0 +1,21 @@
+//! The state of a client with its parts, the enrolment and the counts of events: its rows in a store, its one spelling, what
+//! changes its rows to those of the next state, how many bytes it is spelled in, and the state of rows.
+#![tactic(auto)]
+
+mod changes;
+mod client_state;
+mod laws;
+mod old_form;
+mod reading;
+mod rows;
+mod sections;
+mod sizes;
+mod state_change;
+
+pub use changes::{changes_to, whole_batch};
+pub use client_state::ClientState;
+pub use laws::{empty_parts, one_spelling, one_state};
+pub use old_form::{migration, needs_migration};
+pub use reading::client_state_of;
+pub use sizes::{ClientSizes, sizes_after, sizes_of};
+pub use state_change::{NextEnrolment, StateChange};

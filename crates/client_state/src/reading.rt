@@ -1,0 +1,67 @@
+// The state of rows.
+ghost use Rattle.std.specs.Prelude.{◌≡◌, ◌↔◌, List, IfOk, IsErrOf, IsTrue};
+ghost use Rattle.event_counts.specs.Rows as count_rows;
+ghost use Rattle.event_counts.specs.Sound as counts;
+ghost use Rattle.event_counts.specs.declared.name_counts.NameCounts.{NameCounts};
+ghost use Rattle.client_state.specs.declared.client_state.ClientState.{ClientState};
+ghost use Rattle.client_state.specs.Forms.{IsForm};
+ghost use Rattle.client_state.specs.Sections.{AreSoundParts, HasSections};
+ghost use Rattle.client_state.specs.Sound.{IsSound};
+
+use crate::client_state::ClientState;
+use crate::sections::{Sections, sections_of};
+use crate::sizes::sizes_of;
+use event_counts::{Counts, CountsFault, counts_of};
+use row_batches::StoreRow;
+use state_codec::{CodecFault, state_of_parts};
+use std::alloc::Global;
+
+// The most bytes that a state is spelled in.
+const MAX_SIZE: u128 = 16_777_216;
+
+/// The sound state that has exactly these rows, in this order, or of which they are the old form. `NotAState` comes exactly where
+/// there is none. No row is copied.
+pub fn client_state_of(alloc: Global, rows: &[StoreRow]) -> Result<ClientState, CodecFault>
+    ensures state { IfOk result (λ s. IsSound s × IsForm s rows.now) }
+    ensures not_a_state { IsErrOf result CodecFault.NotAState → (s : ClientState) → IsSound s → IsForm s rows.now → ⊥ }
+{
+    let state = state_in(alloc, &sections_of(rows))?;
+    if fits(&state) {
+        Ok(state)
+    } else {
+        Err(CodecFault::NotAState)
+    }
+}
+
+// The state whose parts have the sections' rows: each is sound by itself.
+fn state_in(alloc: Global, sections: &Sections) -> Result<ClientState, CodecFault>
+    ensures sound { IfOk result AreSoundParts }
+    ensures sections { IfOk result (λ s. HasSections s sections.now) }
+    ensures not_a_state { IsErrOf result CodecFault.NotAState → (s : ClientState) → AreSoundParts s → HasSections s sections.now → ⊥ }
+{
+    Ok(ClientState {
+        enrolment: state_of_parts(alloc, sections.first, sections.later)?,
+        events: counts_in(alloc, sections.events)?,
+    })
+}
+
+// Whether the spelling of the state isn't too long.
+fn fits(state: &ClientState) -> bool
+    requires { AreSoundParts state.now }
+    ensures { IsTrue result ↔ IsSound state.now }
+{
+    sizes_of(state).total <= MAX_SIZE
+}
+
+// The counts that have these rows.
+fn counts_in(alloc: Global, rows: &[StoreRow]) -> Result<Counts, CodecFault>
+    ensures sound { IfOk result counts.IsSound }
+    ensures rows { IfOk result (λ ns. rows.now ≡ count_rows.rows_of ns) }
+    ensures not_a_state { IsErrOf result CodecFault.NotAState → (ns : List NameCounts) → counts.IsSound ns → rows.now ≡ count_rows.rows_of ns → ⊥ }
+{
+    match counts_of(alloc, rows) {
+        Ok(counts) => Ok(counts),
+        Err(CountsFault::NotCounts) => Err(CodecFault::NotAState),
+        Err(CountsFault::OutOfMemory) => Err(CodecFault::OutOfMemory),
+    }
+}

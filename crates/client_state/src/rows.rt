@@ -1,0 +1,39 @@
+// The rows of a client's state, in the order of their keys.
+ghost use Rattle.std.specs.Prelude.{◌≡◌, ◌++◌, IfOk};
+ghost use Rattle.row_batches.specs.Rows.{AreRows};
+ghost use Rattle.client_state.specs.Sound.{IsConsistent};
+ghost use Rattle.client_state.specs.Spelling.{rows_of};
+
+use crate::client_state::ClientState;
+use row_batches::StoreRow;
+use sequences::Sequence;
+use state_codec::{first_rows_of, later_rows_of};
+use std::alloc::{AllocError, Global};
+
+/// The rows of the state.
+pub(crate) fn rows_of(alloc: Global, state: &ClientState) -> Result<Sequence<StoreRow>, AllocError>
+    requires { IsConsistent state.now }
+    ensures rows { IfOk result (λ rows. rows ≡ rows_of state.now) }
+    ensures order { IfOk result AreRows }
+{
+    let first = first_rows_of(alloc, &state.enrolment)?;
+    let events = state.events.rows(alloc)?;
+    let later = later_rows_of(alloc, &state.enrolment)?;
+    joined(first, events, later)
+}
+
+/// The items of three sequences, one after the other.
+pub(crate) fn joined<T: Drop>(
+    first: Sequence<T>,
+    second: Sequence<T>,
+    third: Sequence<T>,
+) -> Result<Sequence<T>, AllocError>
+    ensures { IfOk result (λ all. all ≡ first ++ (second ++ third)) }
+{
+    let mut all = first.into_vec();
+    let mut second = second.into_vec();
+    let mut third = third.into_vec();
+    all.append(&mut second)?;
+    all.append(&mut third)?;
+    Ok(Sequence::from_vec(all))
+}

@@ -1,0 +1,50 @@
+// Sections of rows, by the bytes that begin their keys.
+ghost use Rattle.std.specs.Prelude.{◌≡◌};
+ghost use Rattle.client_state.specs.Sections.{AreSections, IsSection, is_below};
+
+use row_batches::StoreRow;
+
+/// The rows of the enrolment and of the events, in the order of their keys.
+#[derive(Clone, Copy, Drop)]
+pub(crate) struct Sections<'a> {
+    /// Of the enrolment: those whose keys begin below `e`.
+    pub first: &'a [StoreRow],
+    /// Those whose keys begin with `e`, where the rows are in the order of their keys.
+    pub events: &'a [StoreRow],
+    /// Of the enrolment: all others.
+    pub later: &'a [StoreRow],
+}
+
+/// The sections of the rows. None is copied.
+pub(crate) fn sections_of(rows: &[StoreRow]) -> Sections<'_>
+    ensures { AreSections result rows.now }
+{
+    let (first, behind) = section(rows, b'e');
+    let (events, later) = section(behind, b'f');
+    Sections {
+        first,
+        events,
+        later,
+    }
+}
+
+// The rows up to the first whose key isn't below that of the byte, and those from it on.
+fn section(rows: &[StoreRow], end: u8) -> (&[StoreRow], &[StoreRow])
+    ensures { IsSection end result.0.now result.1.now rows.now }
+{
+    for place in 0..rows.len() {
+        if !is_below(rows[place].key.as_slice(), end) {
+            return rows.split_at(place);
+        }
+    }
+    (rows, &[])
+}
+
+fn is_below(key: &[u8], end: u8) -> bool
+    ensures { result ≡ is_below end key.now }
+{
+    match key {
+        [byte, ..] => *byte < end,
+        [] => true,
+    }
+}

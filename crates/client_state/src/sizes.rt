@@ -1,0 +1,92 @@
+// How many bytes a client's state is spelled in.
+ghost use Rattle.std.specs.Prelude.{◌≡◌, ◌≤◌, ◌+◌, ◌^◌, List, length};
+ghost use Rattle.std.specs.Option.{unwrap_or};
+ghost use Rattle.row_batches.specs.Batch.{puts_text};
+ghost use Rattle.state_codec.specs.Sound as codec;
+ghost use Rattle.state_codec.specs.Sizes as codec_sizes;
+ghost use Rattle.event_counts.specs.Rows as count_rows;
+ghost use Rattle.event_counts.specs.declared.name_counts.NameCounts.{NameCounts};
+ghost use Rattle.client_state.specs.Changes.{IsChangeOf, IsNextIf, enrolment_after, state_after};
+ghost use Rattle.client_state.specs.Sizes.{IsSizeOf};
+ghost use Rattle.client_state.specs.Sound.{IsConsistent, IsSound, HaveRecords};
+
+use crate::client_state::ClientState;
+use crate::state_change::{NextEnrolment, StateChange};
+use enrol_states::State;
+use event_counts::Counts;
+use state_codec::StateSizes;
+
+/// How many bytes a client's state is spelled in, and how many of them its parts take.
+#[derive(Clone, Copy)]
+pub struct ClientSizes {
+    /// Of the whole spelling.
+    pub total: u128,
+    /// Of the spelling of the enrolment.
+    pub enrolment: StateSizes,
+    /// Of the rows of counts.
+    pub events: u128,
+}
+
+/// The sizes of the state. They are counted without a text, and take no memory.
+pub fn sizes_of(state: &ClientState) -> ClientSizes
+    requires { IsConsistent state.now }
+    ensures sizes { IsSizeOf state.now result }
+    ensures records { HaveRecords state.now.enrolment }
+{
+    let enrolment = state_codec::sizes_of(&state.enrolment);
+    sizes_with(enrolment, state.events.size())
+}
+
+/// The sizes of the state after a change, by those of the state before. Parts that the change doesn't have aren't looked at, and of
+/// the enrolment's recipes only those are counted that are gone, new or differ. It takes no memory.
+pub fn sizes_after(before: ClientSizes, old: &ClientState, change: &StateChange) -> ClientSizes
+    requires before { IsSizeOf old.now before }
+    requires old_state { IsSound old.now }
+    requires change { IsChangeOf old.now change.now }
+    ensures sizes { IsSizeOf (state_after change.now old.now) result }
+    ensures records { HaveRecords (state_after change.now old.now).enrolment }
+{
+    let enrolment = enrolment_after(before.enrolment, &old.enrolment, &change.enrolment);
+    let events = events_after(before.events, &change.events);
+    sizes_with(enrolment, events)
+}
+
+// The sizes of a state by those of its parts.
+fn sizes_with(enrolment: StateSizes, events: u128) -> ClientSizes
+    requires enrolment { enrolment.total ≤ 2 ^ 100 }
+    requires events { events ≤ 2 ^ 100 }
+    ensures { result ≡ record { total = enrolment.total + events; enrolment = enrolment; events = events } }
+{
+    ClientSizes {
+        total: enrolment.total + events,
+        enrolment,
+        events,
+    }
+}
+
+// The sizes of the next enrolment, by those of the old one.
+fn enrolment_after(before: StateSizes, old: &State, next: &Option<NextEnrolment>) -> StateSizes
+    requires before { codec_sizes.IsSizeOf old.now before }
+    requires old_state { codec.IsSound old.now }
+    requires next { IsNextIf old.now next.now }
+    ensures sizes { codec_sizes.IsSizeOf (enrolment_after next.now old.now) result }
+    ensures bound { result.total ≤ 2 ^ 100 }
+    ensures records { HaveRecords (enrolment_after next.now old.now) }
+{
+    match next {
+        Some(next) => state_codec::sizes_after(before, old, &next.state, next.recipes),
+        None => before,
+    }
+}
+
+// The size of the next counts' rows, or that of before.
+fn events_after(before: u128, next: &Option<Counts>) -> u128
+    requires { before ≤ 2 ^ 100 }
+    ensures size { (old : List NameCounts) → before ≡ length (puts_text (count_rows.rows_of old)) → result ≡ length (puts_text (count_rows.rows_of (unwrap_or next.now old))) }
+    ensures bound { result ≤ 2 ^ 100 }
+{
+    match next {
+        Some(next) => next.size(),
+        None => before,
+    }
+}

@@ -1,0 +1,74 @@
+// What a command makes of a client's state.
+ghost use Rattle.std.specs.Prelude.{◌≡◌};
+ghost use Rattle.std.specs.Option.{unwrap_or};
+ghost use Rattle.client_state.specs.Changes.{enrolment_after, of_both, of_enrolment, of_events};
+
+use enrol_states::State;
+use event_counts::Counts;
+use state_codec::RecipeLists;
+
+/// What a command makes of a client's state: each part that it changes. A part that isn't there is as before.
+#[derive(Drop)]
+pub struct StateChange {
+    pub enrolment: Option<NextEnrolment>,
+    pub events: Option<Counts>,
+}
+
+/// The next enrolment, and which of its lists of recipes are those of before.
+#[derive(Drop)]
+pub struct NextEnrolment {
+    pub state: State,
+    pub recipes: RecipeLists,
+}
+
+impl StateChange {
+    /// A change to this enrolment, of which the lists of recipes are as before as far as it is said. It takes no memory.
+    pub fn of_enrolment(state: State, recipes: RecipeLists) -> StateChange
+        ensures { result ≡ of_enrolment state recipes }
+    {
+        StateChange {
+            enrolment: Some(NextEnrolment { state, recipes }),
+            events: None,
+        }
+    }
+
+    /// A change to these counts. It takes no memory.
+    pub fn of_events(events: Counts) -> StateChange
+        ensures { result ≡ of_events events }
+    {
+        StateChange {
+            enrolment: None,
+            events: Some(events),
+        }
+    }
+
+    /// A change to this enrolment and to these counts. It takes no memory.
+    pub fn of_both(state: State, recipes: RecipeLists, events: Counts) -> StateChange
+        ensures { result ≡ of_both state recipes events }
+    {
+        StateChange {
+            enrolment: Some(NextEnrolment { state, recipes }),
+            events: Some(events),
+        }
+    }
+
+    /// The next enrolment, or that of before.
+    pub(crate) fn enrolment_or<'a>(&'a self, before: &'a State) -> &'a State
+        ensures { result.now ≡ enrolment_after self.now.enrolment before.now }
+    {
+        match &self.enrolment {
+            Some(next) => &next.state,
+            None => before,
+        }
+    }
+
+    /// The next counts, or those of before.
+    pub(crate) fn events_or<'a>(&'a self, before: &'a Counts) -> &'a Counts
+        ensures { result.now ≡ unwrap_or self.now.events before.now }
+    {
+        match &self.events {
+            Some(events) => events,
+            None => before,
+        }
+    }
+}
