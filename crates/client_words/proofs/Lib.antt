@@ -1,2 +1,5 @@
+mod Counting
+pub mod Ids
 mod Joining
+pub mod Kept
 pub mod Within

@@ -18,10 +18,10 @@ use Rattle.enrol_states.specs.declared.status.DisqualifiedReason.{DisqualifiedRe
 use Rattle.enrol_states.specs.declared.status.DisqualifiedReason.TheVariants as disqualified
 use Rattle.enrol_states.specs.declared.status.ErrorCause.{ErrorCause}
 use Rattle.enrol_states.specs.declared.status.ErrorCause.TheVariants as error
-use Rattle.client_core.specs.declared.answer.Answer.{Answer}
-use Rattle.client_core.specs.declared.answer.Answer.TheVariants.{Okay, Fetched, Applied, Value, Shown, Manifest, NoManifest, NoContext, AbsentFile, FileTooLarge, NotJson, BadContext, NoData, TooManyRecipes, BadShape, TooManyFiles, ImportClash, DuplicateName, UnknownType, EndlessObject, ObjectTooLarge, UnknownChannel, UnknownImport, UnknownOverride, BadDefault, UnknownFeature, OptedOutLimit, NotParticipating, NoSuchExperiment, NoSuchBranch, FeatureTaken, StateTooLarge}
-use Rattle.client_words.specs.declared.command.LineFault.{LineFault}
-use Rattle.client_words.specs.declared.command.LineFault.TheVariants.{LineTooLong, Blank, UnknownCommand, BadWords, BadSlug, BadId, OutOfMemory}
+use Rattle.client_words.specs.declared.answer.Answer.{Answer}
+use Rattle.client_words.specs.declared.answer.Answer.TheVariants.{Okay, Fetched, Applied, Value, Shown, Manifest, NoManifest, NoContext, AbsentFile, FileTooLarge, NotJson, BadContext, NoData, TooManyRecipes, BadShape, TooManyFiles, ImportClash, DuplicateName, UnknownType, EndlessObject, ObjectTooLarge, UnknownChannel, UnknownImport, UnknownOverride, BadDefault, UnknownFeature, OptedOutLimit, NotParticipating, NoSuchExperiment, NoSuchBranch, FeatureTaken, EventLimit, StateTooLarge}
+use Rattle.client_words.specs.declared.line.LineFault.{LineFault}
+use Rattle.client_words.specs.declared.line.LineFault.TheVariants.{LineTooLong, Blank, UnknownCommand, BadWords, BadSlug, BadId, OutOfMemory}
 
 -- the text of an id: in lower case, with hyphens
 unfoldable pub hyphenated : List ℕ → List ℕ
@@ -141,6 +141,7 @@ answer_lines NotParticipating = codes "refused NotParticipating\n"
 answer_lines NoSuchExperiment = codes "refused NoSuchExperiment\n"
 answer_lines NoSuchBranch = codes "refused NoSuchBranch\n"
 answer_lines (FeatureTaken holder feature) = codes "refused FeatureTaken " ++ holder ++ codes " " ++ feature ++ 10 ∷ []
+answer_lines EventLimit = codes "refused EventLimit\n"
 answer_lines (StateTooLarge size) = codes "refused StateTooLarge " ++ decimal size ++ 10 ∷ []
 
 -- the answer to a line that has no command. A blank line has none, and want of memory ends the run without one

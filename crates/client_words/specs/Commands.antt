@@ -1,15 +1,18 @@
 -- The lines of a script, and the command of a line.
-use Rattle.std.specs.Prelude.{ℕ, ◌≤◌, nat_lt, Bool, true, false, List, [], ◌∷◌, Option, None, Some, Result, Ok, Err, map, length, slice_range, bytes_eq, codes, if◌then◌else◌}
+use Rattle.std.specs.Prelude.{ℕ, ◌≤◌, ◌&&◌, nat_lt, nat_le, IsTrue, Bool, true, false, List, [], ◌∷◌, Option, None, Some, Result, Ok, Err, map, length, slice_range, bytes_eq, codes, decimal, if◌then◌else◌}
 use Rattle.std.specs.Str.{is_utf8}
-use Rattle.plain_text.specs.Names.{bad_place}
+use Rattle.std.specs.Str.Parse.{digits_value}
+use Rattle.plain_text.specs.Names.{bad_place, is_name}
 use Rattle.plain_text.specs.Spans.{lines, words}
 use Rattle.uuid.specs.Text.{parsed}
 use Rattle.enrol_states.specs.declared.participation.Part.{Part}
 use Rattle.enrol_states.specs.declared.participation.Part.TheVariants.{Both, Experiments, Rollouts}
-use Rattle.client_core.specs.declared.command.Command.{Command}
-use Rattle.client_core.specs.declared.command.Command.TheVariants.{Manifest, Context, Fetch, Apply, Participate, OptOut, OptIn, Reset, Show, Feature, WriteManifest}
-use Rattle.client_words.specs.declared.command.LineFault.{LineFault}
-use Rattle.client_words.specs.declared.command.LineFault.TheVariants.{LineTooLong, Blank, UnknownCommand, BadWords, BadSlug, BadId}
+use Rattle.enrol_states.specs.Consistent.{IsId}
+use Rattle.enrol_states.specs.Statuses.{IsSlug}
+use Rattle.client_words.specs.declared.command.Command.{Command}
+use Rattle.client_words.specs.declared.command.Command.TheVariants.{Manifest, Context, Fetch, Apply, Participate, OptOut, OptIn, Reset, Show, Feature, WriteManifest, Event}
+use Rattle.client_words.specs.declared.line.LineFault.{LineFault}
+use Rattle.client_words.specs.declared.line.LineFault.TheVariants.{LineTooLong, Blank, UnknownCommand, BadWords, BadSlug, BadId}
 
 -- the bytes at a span
 abbrev pub bytes_at : List ℕ → ℕ × ℕ → List ℕ
@@ -117,6 +120,25 @@ feature_name [] = Err BadWords
 feature_name (word ∷ []) = text_in word >>= λ name. Ok (Feature name)
 feature_name (word ∷ next ∷ more) = Err BadWords
 
+-- the name of what a user did
+abbrev pub name_in : List ℕ → Result (List ℕ) LineFault
+name_in word = if is_name word then text_in word else Err BadWords
+
+-- the word is this number in decimal, and the number is 1 to 1,000,000
+abbrev pub is_count : ℕ → List ℕ → Bool
+is_count n word = nat_le 1 n && nat_le n 1000000 && bytes_eq word (decimal n)
+
+-- a number from 1 to 1,000,000 in decimal
+unfoldable pub count_in : List ℕ → Result ℕ LineFault
+count_in word = if is_count (digits_value 10 word) word then Ok (digits_value 10 word) else Err BadWords
+
+-- the words behind `event`: the name is told first
+abbrev pub event_count : List (List ℕ) → Result Command LineFault
+event_count [] = Err BadWords
+event_count (word ∷ []) = Err BadWords
+event_count (word ∷ next ∷ []) = name_in word >>= λ name. count_in next >>= λ count. Ok (Event name count)
+event_count (word ∷ next ∷ more ∷ rest) = Err BadWords
+
 -- the command of this name, with the words behind it
 abbrev pub command_named : List ℕ → List (List ℕ) → Result Command LineFault
 command_named name arguments =
@@ -131,6 +153,7 @@ command_named name arguments =
     else if bytes_eq name (codes "show") then alone Show arguments
     else if bytes_eq name (codes "feature") then feature_name arguments
     else if bytes_eq name (codes "write-manifest") then alone WriteManifest arguments
+    else if bytes_eq name (codes "event") then event_count arguments
     else Err UnknownCommand
 
 -- the command of these words
@@ -141,3 +164,17 @@ command_of_words (name ∷ arguments) = command_named name arguments
 -- the command of a line, or the first fault that applies
 unfoldable pub command_of : List ℕ → Result Command LineFault
 command_of line = if nat_lt 4096 (length line) then Err LineTooLong else command_of_words (words_of line)
+
+-- the text is a name, and what has it came 1 to 1,000,000 times
+pub record IsEvent (text : List ℕ) (count : ℕ) : Type 0 where
+  pub name : IsTrue (is_name text)
+  pub least : 1 ≤ count
+  pub most : count ≤ 1000000
+
+-- what is kept by the parts of a command that is read from a line: slugs are slugs, an id has sixteen bytes, and an event has a name and a count
+abbrev pub IsCommand : Command → Type 0
+IsCommand (OptOut slug) = IsSlug slug
+IsCommand (OptIn slug branch) = IsSlug slug × IsSlug branch
+IsCommand (Reset id) = IsId id
+IsCommand (Event name count) = IsEvent name count
+IsCommand command = Unit {0}

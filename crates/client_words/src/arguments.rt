@@ -1,16 +1,19 @@
 // The words behind the name of a command.
 ghost use Rattle.std.specs.Prelude.{◌≡◌, ◌⊎◌, List, ℕ, Err, All, map, length};
-ghost use Rattle.client_words.specs.Commands.{yes_or_no_in, part_in, text_in, slug_in, id_in, manifest_file, context_file, fetching, feature_name, participation, opting_out, opting_in, resetting, bytes_at, IsWithin};
+ghost use Rattle.client_words.specs.Commands.{yes_or_no_in, part_in, text_in, name_in, count_in, slug_in, id_in, manifest_file, context_file, fetching, feature_name, participation, opting_out, opting_in, resetting, event_count, bytes_at, IsWithin};
 ghost use Rattle.client_words.specs.Commands as spec;
 
-use crate::command::{LineFault, bytes_at};
-use client_core::Command;
+use crate::command::Command;
+use crate::line::{LineFault, bytes_at};
 use enrol_states::Part;
-use plain_text::{Slug, SlugFault, slug_of};
+use plain_text::{Slug, SlugFault, is_name, read_number, slug_of};
 use sequences::Text;
 use std::alloc::Global;
 use std::str;
 use uuid::Uuid;
+
+/// The most times that an event is said to have come.
+const COUNT_LIMIT: u64 = 1_000_000;
 
 /// The words behind `manifest`: the name of its first file, and the channel, both in UTF-8.
 pub(crate) fn manifest_file(
@@ -155,6 +158,23 @@ pub(crate) fn feature_name(
     Ok(Command::Feature { name })
 }
 
+/// The words behind `event`: the name of what the user did, and how many times.
+pub(crate) fn event_count(
+    alloc: Global,
+    line: &[u8],
+    arguments: &[(usize, usize)],
+) -> Result<Command, LineFault>
+    requires { All (IsWithin (length line.now)) arguments.now }
+    ensures { (result ≡ event_count (map (bytes_at line.now) arguments.now)) ⊎ (result ≡ Err LineFault.OutOfMemory) }
+{
+    let [word, next] = arguments else {
+        return Err(LineFault::BadWords);
+    };
+    let name = name_in(alloc, bytes_at(line, *word))?;
+    let count = count_in(bytes_at(line, *next))?;
+    Ok(Command::Event { name, count })
+}
+
 // ---- words
 
 /// Whether the word is `yes`, where it is that or `no`.
@@ -190,6 +210,27 @@ fn text_in(alloc: Global, word: &[u8]) -> Result<Text, LineFault>
     match str::from_utf8(word) {
         Ok(name) => Ok(Text::new(alloc, name)?),
         Err(_) => Err(LineFault::BadWords),
+    }
+}
+
+/// The name of what a user did, where the word is a name.
+fn name_in(alloc: Global, word: &[u8]) -> Result<Text, LineFault>
+    ensures { (result ≡ name_in word.now) ⊎ (result ≡ Err LineFault.OutOfMemory) }
+{
+    if !is_name(word) {
+        return Err(LineFault::BadWords);
+    }
+    text_in(alloc, word)
+}
+
+/// The number from 1 to 1,000,000 that the word is in decimal, with no sign and no leading zero.
+#[tactic(auto, unfolding(crate::specs::Commands::count_in))]
+fn count_in(word: &[u8]) -> Result<u32, LineFault>
+    ensures { result ≡ count_in word.now }
+{
+    match read_number(word) {
+        Some(count) if 1 <= count && count <= COUNT_LIMIT => Ok(count as u32),
+        _ => Err(LineFault::BadWords),
     }
 }
 

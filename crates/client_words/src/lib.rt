@@ -1,11 +1,16 @@
-//! The words of a client: the command that a line of a script is, and the text of an answer.
+//! The words of a client: what it is asked for and what it answers, the command that a line of a script is, and the text of
+//! an answer.
 #![tactic(auto)]
 
 mod answer;
 mod arguments;
 mod command;
+mod line;
 mod refusals;
 mod rows;
+mod texts;
 
-pub use answer::{answer_text, hyphenated, line_text};
-pub use command::{LINE_LIMIT, LineFault, bytes_at, read_command};
+pub use answer::Answer;
+pub use command::Command;
+pub use line::{LINE_LIMIT, LineFault, bytes_at, read_command};
+pub use texts::{answer_text, hyphenated, line_text};

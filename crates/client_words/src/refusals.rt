@@ -4,7 +4,7 @@ ghost use Rattle.std.specs.Fmt.{decimal};
 ghost use Rattle.client_words.specs.Answers.{quoted, answer_lines};
 ghost use Rattle.client_words.specs.Answers as spec;
 
-use client_core::Answer;
+use crate::answer::Answer;
 use itoa::Buffer;
 use json_tree::{Tree, write};
 use plain_text::Slug;

@@ -3,7 +3,7 @@ use Rattle.std.proofs.Common.{◌≡◌, inl, ◌∙◌, ap, sym, refl, List, �
 use Rattle.std.specs.Prelude.{IsUtf8}
 use Rattle.std.specs.Str.{is_utf8}
 use Rattle.std.proofs.lemmas.Str.{IsUtf8-from_is_utf8, is_utf8-from_IsUtf8}
-use Rattle.client_words.specs.declared.command.LineFault.TheVariants.{BadWords}
+use Rattle.client_words.specs.declared.line.LineFault.TheVariants.{BadWords}
 use Rattle.client_words.specs.Commands.{text_in}
 use Rattle.client_words.proofs.arguments.text_in.Goals as goal
 

@@ -1,0 +1,155 @@
+-- What the command of a line keeps: its slugs are slugs, its id has sixteen bytes, and an event has a name and a count.
+use Rattle.std.proofs.Common.{◌≡◌, ◌≤◌, ℕ, Bool, true, false, List, [], ◌∷◌, length, refl, Option, Some, None, Result, Ok, Err, IfOk, arith}
+use Rattle.std.specs.Prelude.{IsTrue, nat_lt, bytes_eq, codes, if◌then◌else◌}
+use Rattle.std.specs.Str.{is_utf8}
+use Rattle.std.specs.Str.Parse.{digits_value}
+use Rattle.std.proofs.lemmas.Bool.Decides.{nat_tests}
+use Rattle.plain_text.specs.Names.{bad_place, is_name}
+use Rattle.uuid.specs.Text.{parsed}
+use Rattle.enrol_states.specs.Consistent.{IsId}
+use Rattle.enrol_states.specs.Statuses.{IsSlug}
+use Rattle.client_words.specs.declared.command.Command.{Command}
+use Rattle.client_words.specs.declared.command.Command.TheVariants.{Apply, Show, WriteManifest}
+use Rattle.client_words.specs.declared.line.LineFault.{LineFault}
+use Rattle.client_words.specs.declared.line.LineFault.TheVariants.{BadWords}
+use Rattle.client_words.specs.Commands.{IsCommand, words_of, ◌>>=◌, yes_or_no_in, part_in, text_in, unless_bad, slug_in, id_read, id_in, manifest_file, context_file, fetching, alone, participation, opting_out, opting_in, resetting, feature_name, name_in, is_count, count_in, event_count, command_named, command_of_words, command_of}
+use Rattle.client_words.proofs.Ids.{IsIdIn, id_in_text}
+
+abbrev Kept : Result Command LineFault → Type 0
+Kept read = IfOk read IsCommand
+
+either : (b : Bool) (x y : Result Command LineFault) → Kept x → Kept y → Kept (if b then x else y)
+either true x y here there = here
+either false x y here there = there
+
+bound : {A : Type 0} (P : A → Type 0) (read : Result A LineFault) (f : A → Result Command LineFault) → IfOk read P → ((a : A) → P a → Kept (f a)) → Kept (read >>= f)
+bound P (Ok a) f has follows = follows a has
+bound P (Err fault) f has follows = tt
+
+-- a command of which nothing is asked
+free : {A : Type 0} (read : Result A LineFault) (f : A → Result Command LineFault) → ((a : A) → Kept (f a)) → Kept (read >>= f)
+free (Ok a) f follows = follows a
+free (Err fault) f follows = tt
+
+slug_unless : (word : List ℕ) (place : Option ℕ) → bad_place word ≡ place → IfOk (unless_bad word place) IsSlug
+slug_unless word None e = e
+slug_unless word (Some place) e = tt
+
+is_slug : (word : List ℕ) → IfOk (slug_in word) IsSlug
+unfolding slug_in
+is_slug word = slug_unless word (bad_place word) refl
+
+id_where : (found : Option (List ℕ)) → IsIdIn found → IfOk (id_read found) IsId
+id_where None is = tt
+id_where (Some id) is = is
+
+is_id : (word : List ℕ) → IfOk (id_in word) IsId
+unfolding id_in
+is_id word = id_where (parsed word) (id_in_text word)
+
+text_where : (word : List ℕ) (b : Bool) → is_utf8 word ≡ b → IsTrue (is_name word) → IfOk (if b then Ok word else Err BadWords) (λ name. IsTrue (is_name name))
+text_where word true e is = is
+text_where word false e is = tt
+
+text_is_named : (word : List ℕ) → IsTrue (is_name word) → IfOk (text_in word) (λ name. IsTrue (is_name name))
+unfolding text_in
+text_is_named word is = text_where word (is_utf8 word) refl is
+
+named_where : (word : List ℕ) (b : Bool) → is_name word ≡ b → IfOk (if b then text_in word else Err BadWords) (λ name. IsTrue (is_name name))
+named_where word true e = text_is_named word e
+named_where word false e = tt
+
+is_named : (word : List ℕ) → IfOk (name_in word) (λ name. IsTrue (is_name name))
+is_named word = named_where word (is_name word) refl
+
+abbrev IsCounted : ℕ → Type 0
+IsCounted count = (1 ≤ count) × (count ≤ 1000000)
+
+counted_where : (n : ℕ) (word : List ℕ) (b : Bool) → is_count n word ≡ b → IfOk (if b then Ok n else Err BadWords) IsCounted
+counted_where n word true e = (grind (arith, nat_tests, e), grind (arith, nat_tests, e))
+counted_where n word false e = tt
+
+is_counted : (word : List ℕ) → IfOk (count_in word) IsCounted
+unfolding count_in
+is_counted word = counted_where (digits_value 10 word) word (is_count (digits_value 10 word) word) refl
+
+-- ---- the words of a command
+
+manifest-kept : (words : List (List ℕ)) → Kept (manifest_file words)
+manifest-kept [] = tt
+manifest-kept (word ∷ []) = tt
+manifest-kept (word ∷ next ∷ []) = free (text_in word) _ (λ file. free (text_in next) _ (λ channel. tt))
+manifest-kept (word ∷ next ∷ more ∷ rest) = tt
+
+context-kept : (words : List (List ℕ)) → Kept (context_file words)
+context-kept [] = tt
+context-kept (word ∷ []) = free (text_in word) _ (λ file. tt)
+context-kept (word ∷ next ∷ more) = tt
+
+fetch-kept : (words : List (List ℕ)) → Kept (fetching words)
+fetch-kept [] = tt
+fetch-kept (word ∷ []) = free (text_in word) _ (λ file. tt)
+fetch-kept (word ∷ next ∷ more) = tt
+
+alone-kept : (command : Command) (words : List (List ℕ)) → IsCommand command → Kept (alone command words)
+alone-kept command [] is = is
+alone-kept command (word ∷ more) is = tt
+
+participate-kept : (words : List (List ℕ)) → Kept (participation words)
+participate-kept [] = tt
+participate-kept (word ∷ []) = free (yes_or_no_in word) _ (λ on. tt)
+participate-kept (word ∷ next ∷ []) = free (part_in word) _ (λ part. free (yes_or_no_in next) _ (λ on. tt))
+participate-kept (word ∷ next ∷ more ∷ rest) = tt
+
+opt_out-kept : (words : List (List ℕ)) → Kept (opting_out words)
+opt_out-kept [] = tt
+opt_out-kept (word ∷ []) = bound IsSlug (slug_in word) _ (is_slug word) (λ slug is. is)
+opt_out-kept (word ∷ next ∷ more) = tt
+
+opt_in-kept : (words : List (List ℕ)) → Kept (opting_in words)
+opt_in-kept [] = tt
+opt_in-kept (word ∷ []) = tt
+opt_in-kept (word ∷ next ∷ []) = bound IsSlug (slug_in word) _ (is_slug word) (λ slug is. bound IsSlug (slug_in next) _ (is_slug next) (λ branch also. (is, also)))
+opt_in-kept (word ∷ next ∷ more ∷ rest) = tt
+
+reset-kept : (words : List (List ℕ)) → Kept (resetting words)
+reset-kept [] = tt
+reset-kept (word ∷ []) = bound IsId (id_in word) _ (is_id word) (λ id is. is)
+reset-kept (word ∷ next ∷ more) = tt
+
+feature-kept : (words : List (List ℕ)) → Kept (feature_name words)
+feature-kept [] = tt
+feature-kept (word ∷ []) = free (text_in word) _ (λ name. tt)
+feature-kept (word ∷ next ∷ more) = tt
+
+event-kept : (words : List (List ℕ)) → Kept (event_count words)
+event-kept [] = tt
+event-kept (word ∷ []) = tt
+event-kept (word ∷ next ∷ []) =
+    bound (λ name. IsTrue (is_name name)) (name_in word) _ (is_named word) (λ name named.
+    bound IsCounted (count_in next) _ (is_counted next) (λ count counted. record { name = named; least = counted.0; most = counted.1 }))
+event-kept (word ∷ next ∷ more ∷ rest) = tt
+
+named-kept : (name : List ℕ) (words : List (List ℕ)) → Kept (command_named name words)
+named-kept name words =
+    either (bytes_eq name (codes "manifest")) _ _ (manifest-kept words)
+    (either (bytes_eq name (codes "context")) _ _ (context-kept words)
+    (either (bytes_eq name (codes "fetch")) _ _ (fetch-kept words)
+    (either (bytes_eq name (codes "apply")) _ _ (alone-kept Apply words tt)
+    (either (bytes_eq name (codes "participate")) _ _ (participate-kept words)
+    (either (bytes_eq name (codes "opt-out")) _ _ (opt_out-kept words)
+    (either (bytes_eq name (codes "opt-in")) _ _ (opt_in-kept words)
+    (either (bytes_eq name (codes "reset")) _ _ (reset-kept words)
+    (either (bytes_eq name (codes "show")) _ _ (alone-kept Show words tt)
+    (either (bytes_eq name (codes "feature")) _ _ (feature-kept words)
+    (either (bytes_eq name (codes "write-manifest")) _ _ (alone-kept WriteManifest words tt)
+    (either (bytes_eq name (codes "event")) _ _ (event-kept words) tt)))))))))))
+
+words-kept : (words : List (List ℕ)) → Kept (command_of_words words)
+words-kept [] = tt
+words-kept (name ∷ arguments) = named-kept name arguments
+
+-- the parts of a line's command are what their types keep
+pub line-kept : (line : List ℕ) → IfOk (command_of line) IsCommand
+unfolding command_of
+line-kept line = either (nat_lt 4096 (length line)) _ _ tt (words-kept (words_of line))

@@ -1,0 +1,120 @@
+// A line of a script, and its command.
+ghost use Rattle.std.specs.Prelude.{◌≡◌, ◌⊎◌, ◌∷◌, Err, IfOk, All, map, length};
+ghost use Rattle.plain_text.specs.Spans.{words};
+ghost use Rattle.client_words.specs.Commands.{command_of, command_of_words, words_of, bytes_at, IsCommand, IsWithin};
+
+use crate::arguments::{
+    alone, context_file, event_count, feature_name, fetching, manifest_file, opting_in, opting_out,
+    participation, resetting,
+};
+use crate::command::Command;
+use plain_text::words;
+use std::alloc::{AllocError, Global};
+
+/// The most bytes of a line, without its end.
+pub const LINE_LIMIT: usize = 4096;
+
+/// Why a line has no command, in the order in which the causes are tested.
+#[derive(Clone, Copy, Debug, PartialEq, Eq)]
+pub enum LineFault {
+    /// The line has more than 4,096 bytes.
+    LineTooLong,
+    /// The line has no words. It does nothing and has no answer.
+    Blank,
+    /// The first word is no command.
+    UnknownCommand,
+    /// The words behind the first are not those of the command: there are more or fewer, those behind `participate` are
+    /// others, the name of a file, a channel or a feature isn't in UTF-8, or those behind `event` aren't a name of 1 to 80
+    /// ASCII letters, digits, `-`, `_` and `.`, and a number from 1 to 1,000,000.
+    BadWords,
+    /// A word that stands for a slug fails to be one at this place: the first such word.
+    BadSlug(usize),
+    /// The word that stands for an id is none (RFC 9562).
+    BadId,
+    /// Want of memory.
+    OutOfMemory,
+}
+
+impl From<AllocError> for LineFault {
+    ghost use Rattle.std.specs.Prelude.{◌≡◌};
+    ghost use Rattle.client_words.specs.declared.line.LineFault.TheVariants.{OutOfMemory};
+
+    ghost from_gives = { λ _ fault. fault ≡ OutOfMemory };
+
+    fn from(_: AllocError) -> Self {
+        LineFault::OutOfMemory
+    }
+}
+
+/// The command of a line, or the first fault that applies. Words are separated by spaces and tabs. The slugs of the command
+/// are slugs, its id has sixteen bytes, and of an event the name is a name and the count is 1 to 1,000,000.
+#[tactic(auto, unfolding(crate::specs::Commands::command_of))]
+pub fn read_command(alloc: Global, line: &[u8]) -> Result<Command, LineFault>
+    ensures value { (result ≡ command_of line.now) ⊎ (result ≡ Err LineFault.OutOfMemory) }
+    ensures kept { IfOk result IsCommand }
+{
+    if line.len() > LINE_LIMIT {
+        return Err(LineFault::LineTooLong);
+    }
+    let spans = words(alloc, line)?;
+    command_at(alloc, line, spans.as_slice())
+}
+
+/// The command of the words at these spans of a line.
+fn command_at(alloc: Global, line: &[u8], spans: &[(usize, usize)]) -> Result<Command, LineFault>
+    requires { All (IsWithin (length line.now)) spans.now }
+    ensures { (result ≡ command_of_words (map (bytes_at line.now) spans.now)) ⊎ (result ≡ Err LineFault.OutOfMemory) }
+{
+    match spans {
+        [] => Err(LineFault::Blank),
+        [name, arguments @ ..] => named(alloc, bytes_at(line, *name), line, arguments),
+    }
+}
+
+/// The command of this name, with the words behind it.
+fn named(
+    alloc: Global,
+    name: &[u8],
+    line: &[u8],
+    arguments: &[(usize, usize)],
+) -> Result<Command, LineFault>
+    requires { All (IsWithin (length line.now)) arguments.now }
+    ensures { (result ≡ command_of_words (name.now ∷ map (bytes_at line.now) arguments.now)) ⊎ (result ≡ Err LineFault.OutOfMemory) }
+{
+    if name == b"manifest".as_slice() {
+        manifest_file(alloc, line, arguments)
+    } else if name == b"context".as_slice() {
+        context_file(alloc, line, arguments)
+    } else if name == b"fetch".as_slice() {
+        fetching(alloc, line, arguments)
+    } else if name == b"apply".as_slice() {
+        alone(Command::Apply, arguments)
+    } else if name == b"participate".as_slice() {
+        participation(line, arguments)
+    } else if name == b"opt-out".as_slice() {
+        opting_out(alloc, line, arguments)
+    } else if name == b"opt-in".as_slice() {
+        opting_in(alloc, line, arguments)
+    } else if name == b"reset".as_slice() {
+        resetting(line, arguments)
+    } else if name == b"show".as_slice() {
+        alone(Command::Show, arguments)
+    } else if name == b"feature".as_slice() {
+        feature_name(alloc, line, arguments)
+    } else if name == b"write-manifest".as_slice() {
+        alone(Command::WriteManifest, arguments)
+    } else if name == b"event".as_slice() {
+        event_count(alloc, line, arguments)
+    } else {
+        Err(LineFault::UnknownCommand)
+    }
+}
+
+/// The bytes at a span of a text.
+pub fn bytes_at(text: &[u8], span: (usize, usize)) -> &[u8]
+    requires { IsWithin (length text.now) span }
+    ensures { result.now ≡ bytes_at text.now span }
+{
+    let (start, end) = span;
+    &text[start..end]
+}

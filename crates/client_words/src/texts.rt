@@ -1,0 +1,194 @@
+// The text of an answer.
+ghost use Rattle.std.specs.Prelude.{◌≡◌, ◌≢◌, [], ◌∷◌, ◌++◌, IfOk};
+ghost use Rattle.json_tree.specs.Bytes.{text_of};
+ghost use Rattle.json_tree.specs.Tree.{json_of};
+ghost use Rattle.client_words.specs.Answers.{participating_in, yes_or_no, shown_lines, fetched_lines, answer_lines, fault_answer};
+ghost use Rattle.client_words.specs.Answers as spec;
+
+use crate::answer::Answer;
+use crate::line::LineFault;
+use crate::refusals::{
+    counted, default_text, file_length_text, named, quoted_name, shape_text, taken_text,
+};
+use crate::rows::{push_out_lines, push_row_lines, push_skipped_lines};
+use enrol_states::Row;
+use itoa::Buffer;
+use json_tree::{Tree, write};
+use plain_text::Slug;
+use recipe_reader::SkipReason;
+use sequences::{Sequence, SharedList, Text};
+use std::alloc::{AllocError, Global};
+use uuid::Uuid;
+
+/// The text of an answer to a command: whole lines.
+#[tactic(auto, unfolding(crate::specs::Answers::answer_lines))]
+pub fn answer_text(alloc: Global, answer: &Answer) -> Result<Text, AllocError>
+    ensures { IfOk result (λ text. text ≡ answer_lines answer.now) }
+{
+    match answer {
+        Answer::Okay => Text::new(alloc, "ok\n"),
+        Answer::Fetched { kept, skipped } => fetched_text(alloc, *kept, skipped),
+        Answer::Applied { enrolled, rows } => applied_text(alloc, *enrolled, *rows),
+        Answer::Value(tree) => tree_text(alloc, "value ", tree),
+        Answer::Manifest(tree) => tree_text(alloc, "manifest ", tree),
+        Answer::Shown {
+            id,
+            experiments,
+            rollouts,
+            pending,
+            opted_out,
+            rows,
+        } => shown_text(
+            alloc,
+            *id,
+            *experiments,
+            *rollouts,
+            *pending,
+            opted_out,
+            rows,
+        ),
+        Answer::NoManifest => Text::new(alloc, "refused NoManifest\n"),
+        Answer::NoContext => Text::new(alloc, "refused NoContext\n"),
+        Answer::AbsentFile(name) => quoted_name(alloc, "refused AbsentFile ", name.as_str()),
+        Answer::FileTooLarge(name, length) => file_length_text(alloc, name, *length),
+        Answer::NotJson(name) => quoted_name(alloc, "refused NotJson ", name.as_str()),
+        Answer::BadContext(key) => quoted_name(alloc, "refused BadContext ", key.name()),
+        Answer::NoData => Text::new(alloc, "refused NoData\n"),
+        Answer::TooManyRecipes(count) => counted(
+            alloc,
+            "refused TooManyRecipes ",
+            u128::from(*count),
+        ),
+        Answer::BadShape(name, path) => shape_text(alloc, name, path),
+        Answer::TooManyFiles => Text::new(alloc, "refused TooManyFiles\n"),
+        Answer::ImportClash(name) => quoted_name(alloc, "refused ImportClash ", name.as_str()),
+        Answer::DuplicateName(name) => named(alloc, "refused DuplicateName ", name),
+        Answer::UnknownType(name) => named(alloc, "refused UnknownType ", name),
+        Answer::EndlessObject(name) => named(alloc, "refused EndlessObject ", name),
+        Answer::ObjectTooLarge(name) => named(alloc, "refused ObjectTooLarge ", name),
+        Answer::UnknownChannel => Text::new(alloc, "refused UnknownChannel\n"),
+        Answer::UnknownImport(name) => {
+            quoted_name(alloc, "refused UnknownImport ", name.as_str())
+        }
+        Answer::UnknownOverride(name) => named(alloc, "refused UnknownOverride ", name),
+        Answer::BadDefault(owner, path) => default_text(alloc, owner, path),
+        Answer::UnknownFeature => Text::new(alloc, "refused UnknownFeature\n"),
+        Answer::OptedOutLimit => Text::new(alloc, "refused OptedOutLimit\n"),
+        Answer::NotParticipating => Text::new(alloc, "refused NotParticipating\n"),
+        Answer::NoSuchExperiment => Text::new(alloc, "refused NoSuchExperiment\n"),
+        Answer::NoSuchBranch => Text::new(alloc, "refused NoSuchBranch\n"),
+        Answer::FeatureTaken(holder, feature) => taken_text(alloc, holder, feature),
+        Answer::EventLimit => Text::new(alloc, "refused EventLimit\n"),
+        Answer::StateTooLarge(size) => counted(alloc, "refused StateTooLarge ", *size),
+    }
+}
+
+/// The text of the answer to a line that has no command: a whole line, or nothing for a blank one.
+pub fn line_text(alloc: Global, fault: &LineFault) -> Result<Text, AllocError>
+    requires { fault.now ≢ LineFault.OutOfMemory }
+    ensures { IfOk result (λ text. text ≡ fault_answer fault.now) }
+{
+    match fault {
+        LineFault::LineTooLong => Text::new(alloc, "refused LineTooLong\n"),
+        LineFault::Blank => Text::new(alloc, ""),
+        LineFault::UnknownCommand => Text::new(alloc, "refused UnknownCommand\n"),
+        LineFault::BadWords => Text::new(alloc, "refused BadWords\n"),
+        LineFault::BadSlug(place) => counted(alloc, "refused BadSlug ", *place as u128),
+        LineFault::BadId => Text::new(alloc, "refused BadId\n"),
+        LineFault::OutOfMemory => unreachable!(),
+    }
+}
+
+/// The text of an id, in lower case and with hyphens (RFC 9562).
+#[tactic(auto, unfolding(crate::specs::Answers::hyphenated))]
+pub fn hyphenated(alloc: Global, id: Uuid) -> Result<Text, AllocError>
+    ensures { IfOk result (λ text. text ≡ spec.hyphenated id) }
+{
+    let mut buffer = Uuid::encode_buffer();
+    Text::new(alloc, id.hyphenated().encode_lower(&mut buffer))
+}
+
+/// What `fetch` says.
+#[tactic(auto, unfolding(crate::specs::Answers::fetched_lines))]
+fn fetched_text(
+    alloc: Global,
+    kept: u32,
+    skipped: &Sequence<(u32, SkipReason)>,
+) -> Result<Text, AllocError>
+    ensures { IfOk result (λ text. text ≡ fetched_lines kept skipped.now) }
+{
+    let mut text = String::from_str(alloc, "fetched ")?;
+    text.push_str(Buffer::new().format(kept))?;
+    text.push_str(" skipped ")?;
+    text.push_str(Buffer::new().format(skipped.len()))?;
+    text.push_str("\n")?;
+    push_skipped_lines(&mut text, skipped.as_slice())?;
+    Ok(Text::from_string(text))
+}
+
+/// What `apply` says.
+#[tactic(auto, unfolding(crate::specs::Answers::answer_lines))]
+fn applied_text(alloc: Global, enrolled: usize, rows: usize) -> Result<Text, AllocError>
+    ensures { IfOk result (λ text. text ≡ answer_lines (Answer.Applied enrolled rows)) }
+{
+    let mut text = String::from_str(alloc, "applied ")?;
+    text.push_str(Buffer::new().format(enrolled))?;
+    text.push_str(" of ")?;
+    text.push_str(Buffer::new().format(rows))?;
+    text.push_str("\n")?;
+    Ok(Text::from_string(text))
+}
+
+/// A tree's compact text behind a word: what `feature` and `write-manifest` say.
+fn tree_text(alloc: Global, front: &str, tree: &Tree) -> Result<Text, AllocError>
+    ensures { IfOk result (λ text. text ≡ front.now ++ text_of (json_of tree.now) ++ 10 ∷ []) }
+{
+    let mut text = String::from_str(alloc, front)?;
+    text.push_str(write(alloc, tree)?.as_str())?;
+    text.push_str("\n")?;
+    Ok(Text::from_string(text))
+}
+
+/// What `show` says.
+#[tactic(auto, unfolding(crate::specs::Answers::shown_lines))]
+fn shown_text(
+    alloc: Global,
+    id: Uuid,
+    experiments: bool,
+    rollouts: bool,
+    pending: bool,
+    opted_out: &SharedList<Slug>,
+    rows: &SharedList<Row>,
+) -> Result<Text, AllocError>
+    ensures { IfOk result (λ text. text ≡ shown_lines id experiments rollouts pending opted_out.now rows.now) }
+{
+    let mut text = String::from_str(alloc, "id ")?;
+    text.push_str(hyphenated(alloc, id)?.as_str())?;
+    text.push_str("\nparticipating ")?;
+    text.push_str(participating_in(experiments, rollouts))?;
+    text.push_str("\npending ")?;
+    text.push_str(yes_or_no(pending))?;
+    text.push_str("\n")?;
+    push_out_lines(&mut text, opted_out.as_slice())?;
+    push_row_lines(&mut text, rows.as_slice())?;
+    text.push_str("end\n")?;
+    Ok(Text::from_string(text))
+}
+
+/// The kinds of recipes that the client takes part in: `yes` for both, `no` for none.
+fn participating_in(experiments: bool, rollouts: bool) -> &'static str
+    ensures { result.now ≡ participating_in experiments rollouts }
+{
+    match (experiments, rollouts) {
+        (true, true) => "yes",
+        (true, false) => "experiments",
+        (false, true) => "rollouts",
+        (false, false) => "no",
+    }
+}
+
+fn yes_or_no(flag: bool) -> &'static str
+    ensures { result.now ≡ yes_or_no flag }
+{
+    if flag { "yes" } else { "no" }
+}
