@@ -2,9 +2,9 @@
 use Rattle.std.proofs.Common.{◌≡◌, List, ℕ, false, [], ◌∷◌, refl, sym, subst}
 use Rattle.host_model.specs.declared.shelf.Shelf.{Ghosts}
 use Rattle.fml_link.specs.Asked.{IsAskedFrom}
-use Rattle.client_core.specs.declared.command.Command.{Command}
-use Rattle.client_core.specs.declared.command.Command.TheVariants.{Apply, Participate, OptOut, OptIn, Reset, Show, Feature, Fetch, WriteManifest}
-use Rattle.client_core.specs.declared.command.Command.TheVariants as commands
+use Rattle.client_words.specs.declared.command.Command.{Command}
+use Rattle.client_words.specs.declared.command.Command.TheVariants.{Apply, Participate, OptOut, OptIn, Reset, Show, Feature, Fetch, Event, WriteManifest}
+use Rattle.client_words.specs.declared.command.Command.TheVariants as commands
 use Rattle.client_core.specs.Commands.{names_file, HasAsked}
 
 module _ {F : Type 0} (f : Ghosts F) (shelf left : F) (command : Command) (file : List ℕ) where
@@ -29,4 +29,5 @@ none_asked f shelf (OptIn slug branch) is = record { names = []; files = refl; r
 none_asked f shelf (Reset id) is = record { names = []; files = refl; reached = refl }
 none_asked f shelf Show is = record { names = []; files = refl; reached = refl }
 none_asked f shelf (Feature name) is = record { names = []; files = refl; reached = refl }
+none_asked f shelf (Event name count) is = record { names = []; files = refl; reached = refl }
 none_asked f shelf WriteManifest is = record { names = []; files = refl; reached = refl }

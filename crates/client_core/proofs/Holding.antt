@@ -18,17 +18,17 @@ use Rattle.pair_store.proofs.Unique.{not_both_count}
 use Rattle.row_store.specs.Folding.{Fold}
 use Rattle.row_store.specs.Moments.{KeepsEitherRows}
 use Rattle.row_store.specs.Store.{StoredRows, RowsStand, RowsStandWithGate}
-use Rattle.enrol_states.specs.declared.state.State.{State}
-use Rattle.state_codec.specs.Forms.{IsForm}
-use Rattle.state_codec.specs.Sound.{IsSound}
-use Rattle.state_codec.specs.Spelling.{rows_of}
+use Rattle.client_state.specs.declared.client_state.ClientState.{ClientState}
+use Rattle.client_state.specs.Forms.{IsForm}
+use Rattle.client_state.specs.Sound.{IsSound}
+use Rattle.client_state.specs.Spelling.{rows_of}
 use Rattle.client_core.specs.declared.client.Client.{Client}
 use Rattle.client_core.specs.Clients.{state_of, end_of, IsOpenOn, HasGateOn, IsSameClient}
 use Rattle.client_core.specs.Moments.{WhileWritten}
 use Rattle.client_core.specs.OpenStore.{IsSettled, AllKept, AllStand}
 use Rattle.client_core.specs.Store.{StandsFor, KeptFor}
 
-pub stands_of_kept : (l r : List ℕ) (s : State) → KeptFor l r s → StandsFor l r s
+pub stands_of_kept : (l r : List ℕ) (s : ClientState) → KeptFor l r s → StandsFor l r s
 stands_of_kept l r s kept = record { sound = kept.sound; stored = kept.stored; form = kept.form; rows = (kept.rows.0, (kept.rows.1.0, kept.rows.1.1), kept.rows.2) }
 
 -- ---- rows that stand
@@ -40,7 +40,7 @@ module _ {H : Type 0} (h : Ghosts H) (store : StoredRows) (host : H) where
   pub ungated : RowsStandWithGate h store host → RowsStand h store host
   ungated gated = record { payloads = gated.payloads; pair = gated.pair.stands; made = gated.made }
 
-  module _ (s : State) (sound : IsSound s) (form : IsForm s store.rows) where
+  module _ (s : ClientState) (sound : IsSound s) (form : IsForm s store.rows) where
     pub rows_stand : RowsStand h store host → AllStand h host s
     rows_stand stands l r left right = record {
       sound = sound;
@@ -140,7 +140,7 @@ module _ (old new : Client) (same : IsSameClient old new) where
 -- ---- what is met
 
 -- a change of rows, seen as one of states
-pub while_written : {H : Type 0} (h : Ghosts H) (start new : H) (s t : State) → IsSound s → IsSound t → MeetsAll h start new (KeepsEitherRows h start (rows_of s) (rows_of t))
+pub while_written : {H : Type 0} (h : Ghosts H) (start new : H) (s t : ClientState) → IsSound s → IsSound t → MeetsAll h start new (KeepsEitherRows h start (rows_of s) (rows_of t))
     → MeetsAll h start new (WhileWritten (h.said start) s t)
 while_written h start new s t s_sound t_sound run =
     met_weaker h.moment h.might start new _ _ run (λ l r u met. (
@@ -185,5 +185,5 @@ module _ {H : Type 0} (h : Ghosts H) (mid new : H) (still : (side : Side) → Ke
     made = gated.made;
   }
 
-  pub kept_said : (s : State) → AllKept h mid s → AllKept h new s
+  pub kept_said : (s : ClientState) → AllKept h mid s → AllKept h new s
   kept_said s kept l r left right = kept l r (((still Left).images_same l).0 left) (((still Right).images_same r).0 right)

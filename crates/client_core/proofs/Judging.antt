@@ -1,6 +1,6 @@
 -- Which answer a call has, by what the pair of sides is.
 use Rattle.std.proofs.Common.{◌≡◌, ◌⊎◌, inl, inr, ℕ, List, refl, Result, Ok, Err, IsOk, IsErrOf}
-use Rattle.enrol_states.specs.declared.state.State.{State}
+use Rattle.client_state.specs.declared.client_state.ClientState.{ClientState}
 use Rattle.client_core.specs.declared.client.Client.{Client}
 use Rattle.client_core.specs.declared.faults.ClientFault.{ClientFault}
 use Rattle.client_core.specs.declared.faults.ClientFault.TheVariants as opening
@@ -17,7 +17,7 @@ Finds l r (Ok client) = StandsFor l r client.store.state
 Finds l r (Err fault) = OpenFinds l r fault
 
 module _ (l r : List ℕ) where
-  opened_where : (result : Result Client ClientFault) → Finds l r result → (s : State) → StandsFor l r s → IsOk result ⊎ OpenFailed result
+  opened_where : (result : Result Client ClientFault) → Finds l r result → (s : ClientState) → StandsFor l r s → IsOk result ⊎ OpenFailed result
   opened_where (Ok client) finds s stands = inl refl
   opened_where (Err opening.NoStore) finds s stands = absurd (stands_not_absent l r s stands finds)
   opened_where (Err opening.BadStore) finds s stands = absurd (finds.no_state s stands)

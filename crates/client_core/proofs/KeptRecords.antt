@@ -13,26 +13,29 @@ use Rattle.app_context.specs.declared.context.Context.{Context}
 use Rattle.app_context.specs.declared.key.ContextKey.{ContextKey}
 use Rattle.enrol_evolver.specs.Evolution.{evolution}
 use Rattle.enrol_states.specs.Choices.{has_no_room}
+use Rattle.event_counts.specs.Kept.{counted_in}
 use Rattle.enrol_states.specs.Commands.{after_opt_out}
 use Rattle.enrol_states.specs.Participation.{takes_part}
 use Rattle.enrol_states.specs.Recipes.{has_branch}
-use Rattle.enrol_states.specs.declared.state.State.{State}
-use Rattle.state_codec.specs.Sound.{max_size, AreRecords, HaveRecords}
-use Rattle.state_codec.specs.Spelling.{pending_recipes, spelling}
+use Rattle.state_codec.specs.Spelling.{pending_recipes}
+use Rattle.event_counts.specs.declared.name_counts.NameCounts.{NameCounts}
+use Rattle.client_state.specs.declared.client_state.ClientState.{ClientState}
+use Rattle.client_state.specs.Sound.{max_size, AreRecords, HaveRecords}
+use Rattle.client_state.specs.Spelling.{spelling}
 use Rattle.fml_types.specs.declared.manifest.Manifest.{Manifest}
 use Rattle.fml_value.specs.Typed.{TypedValue}
 use Rattle.feature_serving.specs.Serving.{served}
-use Rattle.client_core.specs.declared.answer.Answer.{Answer}
-use Rattle.client_core.specs.declared.answer.Answer.TheVariants.{Okay, OptedOutLimit, NotParticipating, NoSuchBranch}
-use Rattle.client_core.specs.declared.command.Command.{Command}
-use Rattle.client_core.specs.declared.command.Command.TheVariants.{Fetch, Apply, Participate, OptOut, OptIn, Reset, Show, Feature, WriteManifest}
-use Rattle.client_core.specs.declared.command.Command.TheVariants as commands
+use Rattle.client_words.specs.declared.answer.Answer.{Answer}
+use Rattle.client_words.specs.declared.answer.Answer.TheVariants.{Okay, OptedOutLimit, EventLimit, NotParticipating, NoSuchBranch}
+use Rattle.client_words.specs.declared.command.Command.{Command}
+use Rattle.client_words.specs.declared.command.Command.TheVariants.{Fetch, Apply, Participate, OptOut, OptIn, Reset, Show, Feature, Event, WriteManifest}
+use Rattle.client_words.specs.declared.command.Command.TheVariants as commands
 use Rattle.client_core.specs.declared.session.Session.{Session}
 use Rattle.client_core.specs.Choosing.{first_taker}
 use Rattle.client_core.specs.Fetching.{file_tree}
 use Rattle.client_core.specs.Manifests.{manifest_of}
 use Rattle.client_core.specs.Settings.{Setting}
-use Rattle.client_core.specs.Steps.{Outcome, Accepted, Refused, Step, taking, offering, choosing, fetched, fetching, context_read, reading_context, setting_manifest, applying, valued, serving, writing_manifest, outcome, done, step}
+use Rattle.client_core.specs.Steps.{EnrolmentOutcome, Outcome, Accepted, Refused, Step, whole, seeing, has_no_room_for, opting_out, opting_in, taking, offering, choosing, fetched, fetching, context_read, reading_context, setting_manifest, applying, valued, serving, writing_manifest, outcome, done, step}
 use Rattle.client_core.proofs.ReadFiles.{file_sound}
 use Rattle.client_core.proofs.ReadRecords.{OfPayload, payload_records}
 
@@ -44,14 +47,23 @@ live_records : (pending : Option (List Recipe)) (live : List Recipe) → AreReco
 live_records None live fetched_ones kept_ones = kept_ones
 live_records (Some recipes) live fetched_ones kept_ones = fetched_ones
 
-module _ (at : Setting) (s : State) (session : Session) (h : HaveRecords s) where
+module _ (at : Setting) (s : ClientState) (session : Session) (h : HaveRecords s.enrolment) where
   -- an accepted state has sound records
   abbrev Keeps : Outcome → Type 0
-  Keeps (Accepted t next answer) = HaveRecords t
+  Keeps (Accepted t next answer) = HaveRecords t.enrolment
   Keeps (Refused answer) = Unit {0}
 
-  done-keeps : (asked : Outcome) → Keeps asked → HaveRecords (done s session asked).state
-  done-keeps (Accepted t next answer) keeps = either_step (λ to. HaveRecords to.state) (nat_lt max_size (length (spelling t))) _ _ h keeps
+  -- and so has an accepted enrolment
+  abbrev KeepsEnrolment : EnrolmentOutcome → Type 0
+  KeepsEnrolment (Accepted e next answer) = HaveRecords e
+  KeepsEnrolment (Refused answer) = Unit {0}
+
+  whole-keeps : (counts : List NameCounts) (asked : EnrolmentOutcome) → KeepsEnrolment asked → Keeps (whole s counts asked)
+  whole-keeps counts (Accepted e next answer) keeps = keeps
+  whole-keeps counts (Refused answer) keeps = tt
+
+  done-keeps : (asked : Outcome) → Keeps asked → HaveRecords (done s session asked).state.enrolment
+  done-keeps (Accepted t next answer) keeps = either_step (λ to. HaveRecords to.state.enrolment) (nat_lt max_size (length (spelling t))) _ _ h keeps
   done-keeps (Refused answer) keeps = h
 
   context-keeps : (read : Result Context ContextKey) → Keeps (context_read s session read)
@@ -62,13 +74,13 @@ module _ (at : Setting) (s : State) (session : Session) (h : HaveRecords s) wher
   file-keeps (Ok tree) = context-keeps (context_of tree)
   file-keeps (Err refusal) = tt
 
-  payload-keeps : (read : Result Payload PayloadFault) → OfPayload read → Keeps (fetched s session read)
+  payload-keeps : (read : Result Payload PayloadFault) → OfPayload read → KeepsEnrolment (fetched s.enrolment session read)
   payload-keeps (Ok found) records = record { live = h.live; pending = records }
   payload-keeps (Err payload.NoData) records = tt
   payload-keeps (Err (payload.TooManyRecipes count)) records = tt
   payload-keeps (Err payload.OutOfMemory) records = tt
 
-  fetch-keeps : (read : Result Json Answer) → IfOk read IsSound → Keeps (fetching s session read)
+  fetch-keeps : (read : Result Json Answer) → IfOk read IsSound → KeepsEnrolment (fetching s.enrolment session read)
   fetch-keeps (Ok tree) sound = payload-keeps (payload_of tree) (payload_records tree sound)
   fetch-keeps (Err refusal) sound = tt
 
@@ -76,11 +88,11 @@ module _ (at : Setting) (s : State) (session : Session) (h : HaveRecords s) wher
   manifest-keeps (Ok manifest) = h
   manifest-keeps (Err refusal) = tt
 
-  apply-keeps : (manifest : Option Manifest) (context : Option Context) → Keeps (applying at.now s session manifest context)
+  apply-keeps : (manifest : Option Manifest) (context : Option Context) → KeepsEnrolment (applying at.now s.enrolment session manifest context)
   unfolding evolution
   apply-keeps None context = tt
   apply-keeps (Some manifest) None = tt
-  apply-keeps (Some manifest) (Some context) = record { live = live_records s.pending s.live h.pending h.live; pending = tt }
+  apply-keeps (Some manifest) (Some context) = record { live = live_records s.enrolment.pending s.enrolment.live h.pending h.live; pending = tt }
 
   value-keeps : (found : Option TypedValue) → Keeps (valued s session found)
   value-keeps None = tt
@@ -88,46 +100,51 @@ module _ (at : Setting) (s : State) (session : Session) (h : HaveRecords s) wher
 
   feature-keeps : (name : List ℕ) (manifest : Option Manifest) → Keeps (serving s session name manifest)
   feature-keeps name None = tt
-  feature-keeps name (Some manifest) = value-keeps (served manifest s name)
+  feature-keeps name (Some manifest) = value-keeps (served manifest s.enrolment name)
 
   written-keeps : (manifest : Option Manifest) → Keeps (writing_manifest s session manifest)
   written-keeps None = tt
   written-keeps (Some manifest) = h
 
-  out-keeps : (slug : List ℕ) (full : Bool) → Keeps (if full then Refused OptedOutLimit else Accepted (after_opt_out s slug) session Okay)
+  out-keeps : (slug : List ℕ) (full : Bool) → KeepsEnrolment (if full then Refused OptedOutLimit else Accepted (after_opt_out s.enrolment slug) session Okay)
   out-keeps slug true = tt
   out-keeps slug false = record { live = h.live; pending = h.pending }
 
   module _ (slug branch : List ℕ) where
-    taking-keeps : (taker : Option (List ℕ × List ℕ)) → Keeps (taking s session slug branch taker)
+    taking-keeps : (taker : Option (List ℕ × List ℕ)) → KeepsEnrolment (taking s.enrolment session slug branch taker)
     taking-keeps None = record { live = h.live; pending = h.pending }
     taking-keeps (Some taker) = tt
 
-    branch-keeps : (r : Recipe) (has : Bool) → Keeps (if has then taking s session slug branch (first_taker s r s.rows) else Refused NoSuchBranch)
-    branch-keeps r true = taking-keeps (first_taker s r s.rows)
+    branch-keeps : (r : Recipe) (has : Bool) → KeepsEnrolment (if has then taking s.enrolment session slug branch (first_taker s.enrolment r s.enrolment.rows) else Refused NoSuchBranch)
+    branch-keeps r true = taking-keeps (first_taker s.enrolment r s.enrolment.rows)
     branch-keeps r false = tt
 
-    part-keeps : (r : Recipe) (on : Bool) → Keeps (if on then offering s session slug branch r else Refused NotParticipating)
+    part-keeps : (r : Recipe) (on : Bool) → KeepsEnrolment (if on then offering s.enrolment session slug branch r else Refused NotParticipating)
     part-keeps r true = branch-keeps r (has_branch r branch)
     part-keeps r false = tt
 
-    choosing-keeps : (found : Option Recipe) → Keeps (choosing s session slug branch found)
+    choosing-keeps : (found : Option Recipe) → KeepsEnrolment (choosing s.enrolment session slug branch found)
     choosing-keeps None = tt
-    choosing-keeps (Some r) = part-keeps r (takes_part s (kind_of r))
+    choosing-keeps (Some r) = part-keeps r (takes_part s.enrolment (kind_of r))
+
+  count-keeps : (name : List ℕ) (count : ℕ) (full : Bool) → Keeps (if full then Refused EventLimit else Accepted (record s { events = counted_in name count at.now s.events }) session Okay)
+  count-keeps name count true = tt
+  count-keeps name count false = h
 
   outcome-keeps : (command : Command) → Keeps (outcome at s session command)
   outcome-keeps (commands.Manifest file channel) = manifest-keeps (manifest_of at.files file channel)
   outcome-keeps (commands.Context file) = file-keeps (file_tree file (at.files file))
-  outcome-keeps (Fetch file) = fetch-keeps (file_tree file (at.files file)) (file_sound file (at.files file))
-  outcome-keeps Apply = apply-keeps session.manifest session.context
+  outcome-keeps (Fetch file) = whole-keeps s.events (fetching s.enrolment session (file_tree file (at.files file))) (fetch-keeps (file_tree file (at.files file)) (file_sound file (at.files file)))
+  outcome-keeps Apply = whole-keeps s.events (applying at.now s.enrolment session session.manifest (seeing at.now s.events session.context)) (apply-keeps session.manifest (seeing at.now s.events session.context))
   outcome-keeps (Participate part on) = record { live = h.live; pending = h.pending }
-  outcome-keeps (OptOut slug) = out-keeps slug (has_no_room s.opted_out slug)
-  outcome-keeps (OptIn slug branch) = choosing-keeps slug branch (recipe_with slug s.live)
+  outcome-keeps (OptOut slug) = whole-keeps s.events (opting_out s.enrolment session slug) (out-keeps slug (has_no_room s.enrolment.opted_out slug))
+  outcome-keeps (OptIn slug branch) = whole-keeps s.events (opting_in s.enrolment session slug branch) (choosing-keeps slug branch (recipe_with slug s.enrolment.live))
   outcome-keeps (Reset id) = record { live = h.live; pending = h.pending }
   outcome-keeps Show = h
   outcome-keeps (Feature name) = feature-keeps name session.manifest
+  outcome-keeps (Event name count) = count-keeps name count (has_no_room_for name s.events)
   outcome-keeps WriteManifest = written-keeps session.manifest
 
-  pub step_keeps_records : (command : Command) → HaveRecords (step at s session command).state
+  pub step_keeps_records : (command : Command) → HaveRecords (step at s session command).state.enrolment
   unfolding step
   step_keeps_records command = done-keeps (outcome at s session command) (outcome-keeps command)

@@ -13,20 +13,22 @@ use Rattle.app_context.specs.declared.context.Context.{Context}
 use Rattle.app_context.specs.declared.key.ContextKey.{ContextKey}
 use Rattle.enrol_evolver.specs.Evolution.{version_of}
 use Rattle.enrol_states.specs.Choices.{has_no_room}
+use Rattle.event_counts.specs.Kept.{counted_in}
+use Rattle.event_counts.specs.declared.name_counts.NameCounts.{NameCounts}
+use Rattle.client_state.specs.declared.client_state.ClientState.{ClientState}
 use Rattle.enrol_states.specs.Commands.{after_opt_out}
 use Rattle.enrol_states.specs.Participation.{takes_part}
 use Rattle.enrol_states.specs.Recipes.{has_branch}
-use Rattle.enrol_states.specs.declared.state.State.{State}
-use Rattle.state_codec.specs.Sound.{max_size}
-use Rattle.state_codec.specs.Spelling.{spelling}
+use Rattle.client_state.specs.Sound.{max_size}
+use Rattle.client_state.specs.Spelling.{spelling}
 use Rattle.fml_types.specs.declared.manifest.Manifest.{Manifest}
 use Rattle.fml_value.specs.Typed.{TypedValue}
 use Rattle.feature_serving.specs.Serving.{served}
-use Rattle.client_core.specs.declared.answer.Answer.{Answer}
-use Rattle.client_core.specs.declared.answer.Answer.TheVariants.{Okay, OptedOutLimit, NotParticipating, NoSuchBranch}
-use Rattle.client_core.specs.declared.command.Command.{Command}
-use Rattle.client_core.specs.declared.command.Command.TheVariants.{Fetch, Apply, Participate, OptOut, OptIn, Reset, Show, Feature, WriteManifest}
-use Rattle.client_core.specs.declared.command.Command.TheVariants as commands
+use Rattle.client_words.specs.declared.answer.Answer.{Answer}
+use Rattle.client_words.specs.declared.answer.Answer.TheVariants.{Okay, OptedOutLimit, EventLimit, NotParticipating, NoSuchBranch}
+use Rattle.client_words.specs.declared.command.Command.{Command}
+use Rattle.client_words.specs.declared.command.Command.TheVariants.{Fetch, Apply, Participate, OptOut, OptIn, Reset, Show, Feature, Event, WriteManifest}
+use Rattle.client_words.specs.declared.command.Command.TheVariants as commands
 use Rattle.client_core.specs.declared.session.Session.{Session}
 use Rattle.client_core.specs.Choosing.{first_taker}
 use Rattle.client_core.specs.Fetching.{file_tree}
@@ -34,7 +36,7 @@ use Rattle.client_core.specs.Manifests.{manifest_of}
 use Rattle.client_core.specs.Sessions.{with_manifest, with_context}
 use Rattle.client_core.specs.Settings.{Setting}
 use Rattle.client_core.specs.Soundness.{HasVersion, HasLinked, IsSession, IsLawfulManifest, IsLawfulContext, IsLawful}
-use Rattle.client_core.specs.Steps.{Outcome, Accepted, Refused, Step, taking, offering, choosing, fetched, fetching, context_read, reading_context, setting_manifest, applying, valued, serving, writing_manifest, outcome, done, step}
+use Rattle.client_core.specs.Steps.{OutcomeOver, EnrolmentOutcome, Outcome, Accepted, Refused, Step, whole, seeing, has_no_room_for, opting_out, opting_in, taking, offering, choosing, fetched, fetching, context_read, reading_context, setting_manifest, applying, valued, serving, writing_manifest, outcome, done, step}
 use Rattle.client_core.proofs.LinkedManifests.{manifest_linked}
 use Rattle.client_core.proofs.ReadContexts.{context_version}
 use Rattle.client_core.proofs.ReadFiles.{file_sound}
@@ -44,10 +46,14 @@ either_step P true x y here there = here
 either_step P false x y here there = there
 
 -- what each session keeps that has a manifest that links or the context of a sound tree, where it has others than before
-module _ (P : Session → Type 0) (at : Setting) (s : State) (session : Session) (was : P session) (links : (file channel : List ℕ) (manifest : Manifest) → manifest_of at.files file channel ≡ Ok manifest → P (with_manifest session manifest)) (takes : (tree : Json) (context : Context) → IsSound tree → context_of tree ≡ Ok context → P (with_context session context)) where
-  abbrev Carries : Outcome → Type 0
+module _ (P : Session → Type 0) (at : Setting) (s : ClientState) (session : Session) (was : P session) (links : (file channel : List ℕ) (manifest : Manifest) → manifest_of at.files file channel ≡ Ok manifest → P (with_manifest session manifest)) (takes : (tree : Json) (context : Context) → IsSound tree → context_of tree ≡ Ok context → P (with_context session context)) where
+  abbrev Carries : {S : Type 0} → OutcomeOver S → Type 0
   Carries (Accepted t next answer) = P next
   Carries (Refused answer) = Unit {0}
+
+  whole-carries : (counts : List NameCounts) (asked : EnrolmentOutcome) → Carries asked → Carries (whole s counts asked)
+  whole-carries counts (Accepted e next answer) carries = carries
+  whole-carries counts (Refused answer) carries = tt
 
   done-carries : (asked : Outcome) → Carries asked → P (done s session asked).session
   done-carries (Accepted t next answer) carries = either_step (λ to. P to.session) (nat_lt max_size (length (spelling t))) _ _ was carries
@@ -61,13 +67,13 @@ module _ (P : Session → Type 0) (at : Setting) (s : State) (session : Session)
   file-carries (Ok tree) sound = context-carries tree (context_of tree) sound refl
   file-carries (Err refusal) sound = tt
 
-  payload-carries : (read : Result Payload PayloadFault) → Carries (fetched s session read)
+  payload-carries : (read : Result Payload PayloadFault) → Carries (fetched s.enrolment session read)
   payload-carries (Ok found) = was
   payload-carries (Err payload.NoData) = tt
   payload-carries (Err (payload.TooManyRecipes count)) = tt
   payload-carries (Err payload.OutOfMemory) = tt
 
-  fetch-carries : (read : Result Json Answer) → Carries (fetching s session read)
+  fetch-carries : (read : Result Json Answer) → Carries (fetching s.enrolment session read)
   fetch-carries (Ok tree) = payload-carries (payload_of tree)
   fetch-carries (Err refusal) = tt
 
@@ -75,7 +81,7 @@ module _ (P : Session → Type 0) (at : Setting) (s : State) (session : Session)
   manifest-carries file channel (Ok manifest) is = links file channel manifest is
   manifest-carries file channel (Err refusal) is = tt
 
-  apply-carries : (manifest : Option Manifest) (context : Option Context) → Carries (applying at.now s session manifest context)
+  apply-carries : (manifest : Option Manifest) (context : Option Context) → Carries (applying at.now s.enrolment session manifest context)
   apply-carries None context = tt
   apply-carries (Some manifest) None = tt
   apply-carries (Some manifest) (Some context) = was
@@ -86,44 +92,49 @@ module _ (P : Session → Type 0) (at : Setting) (s : State) (session : Session)
 
   feature-carries : (name : List ℕ) (manifest : Option Manifest) → Carries (serving s session name manifest)
   feature-carries name None = tt
-  feature-carries name (Some manifest) = value-carries (served manifest s name)
+  feature-carries name (Some manifest) = value-carries (served manifest s.enrolment name)
 
   written-carries : (manifest : Option Manifest) → Carries (writing_manifest s session manifest)
   written-carries None = tt
   written-carries (Some manifest) = was
 
-  out-carries : (slug : List ℕ) (full : Bool) → Carries (if full then Refused OptedOutLimit else Accepted (after_opt_out s slug) session Okay)
+  out-carries : (slug : List ℕ) (full : Bool) → Carries (if full then Refused OptedOutLimit else Accepted (after_opt_out s.enrolment slug) session Okay)
   out-carries slug true = tt
   out-carries slug false = was
 
   module _ (slug branch : List ℕ) where
-    taking-carries : (taker : Option (List ℕ × List ℕ)) → Carries (taking s session slug branch taker)
+    taking-carries : (taker : Option (List ℕ × List ℕ)) → Carries (taking s.enrolment session slug branch taker)
     taking-carries None = was
     taking-carries (Some taker) = tt
 
-    branch-carries : (r : Recipe) (has : Bool) → Carries (if has then taking s session slug branch (first_taker s r s.rows) else Refused NoSuchBranch)
-    branch-carries r true = taking-carries (first_taker s r s.rows)
+    branch-carries : (r : Recipe) (has : Bool) → Carries (if has then taking s.enrolment session slug branch (first_taker s.enrolment r s.enrolment.rows) else Refused NoSuchBranch)
+    branch-carries r true = taking-carries (first_taker s.enrolment r s.enrolment.rows)
     branch-carries r false = tt
 
-    part-carries : (r : Recipe) (on : Bool) → Carries (if on then offering s session slug branch r else Refused NotParticipating)
+    part-carries : (r : Recipe) (on : Bool) → Carries (if on then offering s.enrolment session slug branch r else Refused NotParticipating)
     part-carries r true = branch-carries r (has_branch r branch)
     part-carries r false = tt
 
-    choosing-carries : (found : Option Recipe) → Carries (choosing s session slug branch found)
+    choosing-carries : (found : Option Recipe) → Carries (choosing s.enrolment session slug branch found)
     choosing-carries None = tt
-    choosing-carries (Some r) = part-carries r (takes_part s (kind_of r))
+    choosing-carries (Some r) = part-carries r (takes_part s.enrolment (kind_of r))
+
+  count-carries : (name : List ℕ) (count : ℕ) (full : Bool) → Carries (if full then Refused EventLimit else Accepted (record s { events = counted_in name count at.now s.events }) session Okay)
+  count-carries name count true = tt
+  count-carries name count false = was
 
   outcome-carries : (command : Command) → Carries (outcome at s session command)
   outcome-carries (commands.Manifest file channel) = manifest-carries file channel (manifest_of at.files file channel) refl
   outcome-carries (commands.Context file) = file-carries (file_tree file (at.files file)) (file_sound file (at.files file))
-  outcome-carries (Fetch file) = fetch-carries (file_tree file (at.files file))
-  outcome-carries Apply = apply-carries session.manifest session.context
+  outcome-carries (Fetch file) = whole-carries s.events (fetching s.enrolment session (file_tree file (at.files file))) (fetch-carries (file_tree file (at.files file)))
+  outcome-carries Apply = whole-carries s.events (applying at.now s.enrolment session session.manifest (seeing at.now s.events session.context)) (apply-carries session.manifest (seeing at.now s.events session.context))
   outcome-carries (Participate part on) = was
-  outcome-carries (OptOut slug) = out-carries slug (has_no_room s.opted_out slug)
-  outcome-carries (OptIn slug branch) = choosing-carries slug branch (recipe_with slug s.live)
+  outcome-carries (OptOut slug) = whole-carries s.events (opting_out s.enrolment session slug) (out-carries slug (has_no_room s.enrolment.opted_out slug))
+  outcome-carries (OptIn slug branch) = whole-carries s.events (opting_in s.enrolment session slug branch) (choosing-carries slug branch (recipe_with slug s.enrolment.live))
   outcome-carries (Reset id) = was
   outcome-carries Show = was
   outcome-carries (Feature name) = feature-carries name session.manifest
+  outcome-carries (Event name count) = count-carries name count (has_no_room_for name s.events)
   outcome-carries WriteManifest = written-carries session.manifest
 
   step-carries : (command : Command) → P (step at s session command).session
@@ -133,12 +144,12 @@ module _ (P : Session → Type 0) (at : Setting) (s : State) (session : Session)
 version_of_tree : (tree : Json) (context : Context) → IsSound tree → context_of tree ≡ Ok context → IsUtf8 (version_of context)
 version_of_tree tree context sound is = subst (λ (read : Result Context ContextKey). IfOk read (λ c. IsUtf8 (version_of c))) is (context_version tree sound)
 
-pub step_keeps_texts : (at : Setting) (s : State) (session : Session) (command : Command) → IsSession session → IsSession (step at s session command).session
+pub step_keeps_texts : (at : Setting) (s : ClientState) (session : Session) (command : Command) → IsSession session → IsSession (step at s session command).session
 step_keeps_texts at s session command was =
     step-carries IsSession at s session was (λ file channel manifest is. record { manifest = manifest_linked at.files file channel manifest is; context = was.context })
     (λ tree context sound is. record { manifest = was.manifest; context = version_of_tree tree context sound is }) command
 
-pub step_keeps_lawful : (at : Setting) (s : State) (session : Session) (command : Command) → IsLawful session → IsLawful (step at s session command).session
+pub step_keeps_lawful : (at : Setting) (s : ClientState) (session : Session) (command : Command) → IsLawful session → IsLawful (step at s session command).session
 step_keeps_lawful at s session command was =
     step-carries IsLawful at s session was (λ file channel manifest is. record { manifest = record { files = at.files; first = file; channel = channel; links = is }; context = was.context })
     (λ tree context sound is. record { manifest = was.manifest; context = (tree, sound, is) }) command

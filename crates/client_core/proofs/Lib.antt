@@ -2,8 +2,10 @@ mod Takers
 mod Coenrolling
 mod Payloads
 mod Stepping
+mod Counting
 pub mod Asking
 pub mod OptOuts
+pub mod EventSteps
 pub mod Holding
 mod Judging
 pub mod Placing

@@ -12,15 +12,15 @@ use Rattle.row_store.specs.Moments.{KeepsEitherRows}
 use Rattle.row_store.specs.Ready.{ReadyRows, IsReadyFor, IsWritten, commit_cost}
 use Rattle.row_store.specs.Ready as rows
 use Rattle.row_store.specs.Store.{StoredRows, place}
-use Rattle.enrol_states.specs.declared.state.State.{State}
-use Rattle.state_codec.specs.Forms.{IsOldForm}
-use Rattle.state_codec.specs.Sound.{IsSound}
-use Rattle.state_codec.specs.Spelling.{rows_of, spelling}
+use Rattle.client_state.specs.declared.client_state.ClientState.{ClientState}
+use Rattle.client_state.specs.Forms.{IsOldForm}
+use Rattle.client_state.specs.Sound.{IsSound}
+use Rattle.client_state.specs.Spelling.{rows_of, spelling}
 use Rattle.client_core.specs.Migrations.{passes_mark, migration_bytes, place_migrated}
 use Rattle.client_core.specs.Moments.{IsLeftAs}
 
 -- what is written, of a batch of 9 bytes after which the rows spell the state
-module _ (store : StoredRows) (s : State) (batch : ChangeList) (payload : List ℕ) (nine : length (batch_text batch) ≡ 9) (whole : batch_text (whole_of (applied batch store.rows)) ≡ spelling s) where
+module _ (store : StoredRows) (s : ClientState) (batch : ChangeList) (payload : List ℕ) (nine : length (batch_text batch) ≡ 9) (whole : batch_text (whole_of (applied batch store.rows)) ≡ spelling s) where
   passes : IsWritten true store batch payload → passes_mark (place store) ≡ true
   passes written = lt-ltb MARK (place store + 15) (let past : MARK < place store + length (batch_text batch) + 6 = written.1 in omega (arith, past, nine))
 
@@ -42,7 +42,7 @@ module _ (store : StoredRows) (s : State) (batch : ChangeList) (payload : List �
       subst (λ (b : Bool). place store + length payload + 5 ≡ (if b then length (spelling s) + 14 else place store + 14)) (sym (within written))
       (let nine_written : length payload ≡ 9 = ap length written.0 ∙ nine in omega (arith, nine_written))
 
-module _ (store : StoredRows) (s : State) (ready : ReadyRows) (is_ready : IsReadyFor store ready) (batch : ChangeList) (is : ready.batch ≡ batch) (nine : length (batch_text batch) ≡ 9) (whole : batch_text (whole_of (applied batch store.rows)) ≡ spelling s) where
+module _ (store : StoredRows) (s : ClientState) (ready : ReadyRows) (is_ready : IsReadyFor store ready) (batch : ChangeList) (is : ready.batch ≡ batch) (nine : length (batch_text batch) ≡ 9) (whole : batch_text (whole_of (applied batch store.rows)) ≡ spelling s) where
   written_is : IsWritten ready.is_whole store batch ready.payload
   written_is = subst (λ (b : ChangeList). IsWritten ready.is_whole store b ready.payload) is is_ready.written
 
@@ -53,7 +53,7 @@ module _ (store : StoredRows) (s : State) (ready : ReadyRows) (is_ready : IsRead
   migration_place = place_is store s batch ready.payload nine whole ready.is_whole written_is
 
 -- each image is kept for the state, in the one form or in the other
-pub migration_met : {H : Type 0} (h : Ghosts H) (old new : H) (s : State) (before after : List StoreRow) → IsSound s → IsOldForm s before → after ≡ rows_of s → MeetsAll h old new (KeepsEitherRows h old before after)
+pub migration_met : {H : Type 0} (h : Ghosts H) (old new : H) (s : ClientState) (before after : List StoreRow) → IsSound s → IsOldForm s before → after ≡ rows_of s → MeetsAll h old new (KeepsEitherRows h old before after)
     → MeetsAll h old new (IsLeftAs (h.said old) s)
 migration_met h old new s before after sound is_old is_new run =
     met_weaker h.moment h.might old new _ (IsLeftAs (h.said old) s) run (λ l r u met. (

@@ -9,14 +9,14 @@ use Rattle.host_model.proofs.Meeting.{then_met, met_weaker}
 use Rattle.pair_store.specs.declared.mark.TheConstants.{MARK}
 use Rattle.pair_store.specs.Moments.{SameBehind, StaysBelow}
 use Rattle.pair_store.proofs.Beside.{both_sides}
-use Rattle.enrol_states.specs.declared.state.State.{State}
+use Rattle.client_state.specs.declared.client_state.ClientState.{ClientState}
 use Rattle.client_core.specs.Moments.{IsQuiet}
 use Rattle.client_core.specs.Store.{KeptAmong, IsAbsent}
 use Rattle.client_core.proofs.Holding.{stands_of_kept}
 use Rattle.client_core.proofs.Refusing.{stands_not_absent}
 
 -- images that are kept aren't absent
-pub kept_not_absent : (l r : List ℕ) (states : List State) → KeptAmong l r states → IsAbsent l r → ⊥
+pub kept_not_absent : (l r : List ℕ) (states : List ClientState) → KeptAmong l r states → IsAbsent l r → ⊥
 kept_not_absent l r [] among absent = among
 kept_not_absent l r (s ∷ states) (inl kept) absent = stands_not_absent l r s (stands_of_kept l r s kept) absent
 kept_not_absent l r (s ∷ states) (inr among) absent = kept_not_absent l r states among absent

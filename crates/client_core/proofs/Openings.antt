@@ -14,8 +14,8 @@ use Rattle.row_batches.specs.declared.store_row.StoreRow.{StoreRow}
 use Rattle.row_store.specs.Rows.{HasRows, HasPlace}
 use Rattle.row_store.specs.Store.{StoredRows, RowsStand, RowsStandWithGate, place}
 use Rattle.row_store.proofs.Folds.{one_map}
-use Rattle.enrol_states.specs.declared.state.State.{State}
-use Rattle.state_codec.specs.Forms.{needs_migration}
+use Rattle.client_state.specs.declared.client_state.ClientState.{ClientState}
+use Rattle.client_state.specs.Forms.{needs_migration}
 use Rattle.client_core.specs.declared.client.Client.{Client}
 use Rattle.client_core.specs.declared.faults.ClientFault.{ClientFault}
 use Rattle.client_core.specs.declared.faults.ClientFault.TheVariants.{NoStore, BadStore, DiskFault, OutOfMemory}
@@ -42,26 +42,26 @@ gate_or_none h store host stands =
     ]
 
 module _ {H : Type 0} (h : Ghosts H) (start : H) where
-  abbrev Stands : State → Type 0
+  abbrev Stands : ClientState → Type 0
   Stands s = StandsFor (h.reads start Left) (h.reads start Right) s
 
-  abbrev Kept : State → Type 0
+  abbrev Kept : ClientState → Type 0
   Kept s = KeptFor (h.reads start Left) (h.reads start Right) s
 
   -- ---- what is kept
 
-  read_kept : (s : State) (l r : List ℕ) → ((side : Side) → on side l r ≡ h.reads start side) → Kept s → KeptFor l r s
+  read_kept : (s : ClientState) (l r : List ℕ) → ((side : Side) → on side l r ≡ h.reads start side) → Kept s → KeptFor l r s
   read_kept s l r same kept = subst (λ (c : List ℕ). KeptFor l c s) (sym (same Right)) (subst (λ (c : List ℕ). KeptFor c (h.reads start Right) s) (sym (same Left)) kept)
 
   -- where what reads gave was kept for a state, it is kept for it at each moment of the second phase, and nothing is said
-  pub phase_kept : (s : State) → Kept s → (l r u : List ℕ) → IsReadOrMigrating h start l r u → IsLeftAs (h.said start) s l r u
+  pub phase_kept : (s : ClientState) → Kept s → (l r u : List ℕ) → IsReadOrMigrating h start l r u → IsLeftAs (h.said start) s l r u
   phase_kept s kept l r u (inl (inl same, text)) = (read_kept s l r same kept, text)
   phase_kept s kept l r u (inl (inr repaired, text)) = (repaired_kept h start l r repaired s kept, text)
   phase_kept s kept l r u (inr migrating) =
       let same = stands_once (h.reads start Left) (h.reads start Right) s migrating.state (stands_of_kept (h.reads start Left) (h.reads start Right) s kept) migrating.stands in
-      (subst (λ (t : State). KeptFor l r t) (sym same) (migrating.kept (subst Kept same kept)), migrating.text)
+      (subst (λ (t : ClientState). KeptFor l r t) (sym same) (migrating.kept (subst Kept same kept)), migrating.text)
 
-  among : (states : List State) (l r u : List ℕ) → KeptAmong (h.reads start Left) (h.reads start Right) states → IsReadOrMigrating h start l r u → KeptAmong l r states
+  among : (states : List ClientState) (l r u : List ℕ) → KeptAmong (h.reads start Left) (h.reads start Right) states → IsReadOrMigrating h start l r u → KeptAmong l r states
   among [] l r u kept met = kept
   among (s ∷ states) l r u (inl kept) met = inl (phase_kept s kept l r u met).0
   among (s ∷ states) l r u (inr kept) met = inr (among states l r u kept met)
@@ -70,7 +70,7 @@ module _ {H : Type 0} (h : Ghosts H) (start : H) where
   phase_text l r u (inl met) = met.1
   phase_text l r u (inr migrating) = migrating.text
 
-  module _ (read_left : h.images start Left (h.reads start Left)) (read_right : h.images start Right (h.reads start Right)) (new : H) (states : List State) (all : AllKeptAmong h start states) where
+  module _ (read_left : h.images start Left (h.reads start Left)) (read_right : h.images start Right (h.reads start Right)) (new : H) (states : List ClientState) (all : AllKeptAmong h start states) where
     now_among : (l r u : List ℕ) → NowOf h start l r u → IsLeftAmong (h.said start) states l r u
     now_among l r u now = (all l r now.0 now.1, now.2)
 
@@ -125,10 +125,10 @@ module _ {H : Type 0} (h : Ghosts H) (start : H) where
     pub found_stands : Stands found.state
     found_stands = record { sound = is.sound; stored = found.rows.rows; form = is.form; rows = rows }
 
-    found_known : (s : State) → Stands s → found.state ≡ s
+    found_known : (s : ClientState) → Stands s → found.state ≡ s
     found_known s stands = stands_once (h.reads start Left) (h.reads start Right) found.state s found_stands stands
 
-    found_rows : (s : State) (stands : Stands s) → stands.stored ≡ found.rows.rows
+    found_rows : (s : ClientState) (stands : Stands s) → stands.stored ≡ found.rows.rows
     found_rows s stands = one_map (h.reads start Left) (h.reads start Right) stands.stored found.rows.rows stands.rows rows
 
     -- what is written of it
@@ -139,22 +139,22 @@ module _ {H : Type 0} (h : Ghosts H) (start : H) where
       abbrev repair : ℕ
       repair = repair_cost (h.reads start Left) (h.reads start Right)
 
-      opens : (t : State) (at : ℕ) → t ≡ found.state → at ≡ place_opened migrates (place found.rows) found.state → OpensWith (h.reads start Left) (h.reads start Right) t at (repair + cost)
+      opens : (t : ClientState) (at : ℕ) → t ≡ found.state → at ≡ place_opened migrates (place found.rows) found.state → OpensWith (h.reads start Left) (h.reads start Right) t at (repair + cost)
       unfolding found_stands
       opens t at same placed =
-          subst (λ (s : State). OpensWith (h.reads start Left) (h.reads start Right) s at (repair + cost)) (sym same)
+          subst (λ (s : ClientState). OpensWith (h.reads start Left) (h.reads start Right) s at (repair + cost)) (sym same)
           (record { stands = found_stands; before = place found.rows; began = began; place_is = placed; written_is = refl })
 
-      bytes_are : (s : State) (at bytes : ℕ) → OpensWith (h.reads start Left) (h.reads start Right) s at bytes → bytes ≡ repair + cost
+      bytes_are : (s : ClientState) (at bytes : ℕ) → OpensWith (h.reads start Left) (h.reads start Right) s at bytes → bytes ≡ repair + cost
       bytes_are s at bytes opening =
           opening.written_is
           ∙ ap (λ (those : List StoreRow). repair + opening_bytes (needs_migration those) opening.before s) (found_rows s opening.stands)
           ∙ ap (λ (at_first : ℕ). repair + opening_bytes migrates at_first s) (one_place (h.reads start Left) (h.reads start Right) opening.before (place found.rows) opening.began began)
-          ∙ ap (λ (t : State). repair + opening_bytes migrates (place found.rows) t) (sym (found_known s opening.stands))
+          ∙ ap (λ (t : ClientState). repair + opening_bytes migrates (place found.rows) t) (sym (found_known s opening.stands))
 
       -- ---- and migrated
 
-      module _ (mid new : H) (text : h.said mid ≡ h.said start) (reading : ReadsInPhases {T = StoredState} h start mid (Ok found)) (stands : RowsStand h found.rows mid) (gate : (s : State) → Kept s → RowsStandWithGate h found.rows mid) (unneeded : (IsTrue migrates → ⊥) → new ≡ mid)
+      module _ (mid new : H) (text : h.said mid ≡ h.said start) (reading : ReadsInPhases {T = StoredState} h start mid (Ok found)) (stands : RowsStand h found.rows mid) (gate : (s : ClientState) → Kept s → RowsStandWithGate h found.rows mid) (unneeded : (IsTrue migrates → ⊥) → new ≡ mid)
           (moments : RowsStandWithGate h found.rows mid → MeetsAll h mid new (IsLeftAs (h.said mid) found.state)) (below : MeetsAll h mid new (StaysBelow h mid)) where
         migrating : IsTrue migrates → MeetsAll h mid new (IsMigrating h start)
         unfolding found_stands
@@ -185,7 +185,7 @@ module _ {H : Type 0} (h : Ghosts H) (start : H) where
 
       module _ (mid new : H) (read : h.written mid ≡ h.written start + repair) where
         -- the store is open
-        pub opened : (client : Client) → IsStored client.store → client.store.state ≡ found.state → RowsStand h client.store.rows new → ((s : State) → Kept s → RowsStandWithGate h client.store.rows new)
+        pub opened : (client : Client) → IsStored client.store → client.store.state ≡ found.state → RowsStand h client.store.rows new → ((s : ClientState) → Kept s → RowsStandWithGate h client.store.rows new)
             → (IsTrue migrates → RowsStandWithGate h client.store.rows new) → place client.store.rows ≡ place_opened migrates (place found.rows) found.state → h.written new ≡ h.written mid + cost → IsOpened h client start new
         opened client stored same stands gate gate_made placed wrote = record {
           stands = subst Stands (sym same) found_stands;

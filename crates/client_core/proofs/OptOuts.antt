@@ -12,15 +12,17 @@ use Rattle.recipe_reader.specs.declared.payload.PayloadFault.{PayloadFault}
 use Rattle.recipe_reader.specs.declared.payload.PayloadFault.TheVariants as payload
 use Rattle.recipe_reader.specs.declared.recipe.Recipe.{Recipe}
 use Rattle.enrol_states.specs.Choices.{has_no_room}
+use Rattle.event_counts.specs.Kept.{counted_in}
+use Rattle.event_counts.specs.declared.name_counts.NameCounts.{NameCounts}
+use Rattle.client_state.specs.declared.client_state.ClientState.{ClientState}
 use Rattle.enrol_states.specs.Commands.{after_opt_out, after_opt_in, after_reset, without_text}
 use Rattle.enrol_states.specs.Order.{is_in}
 use Rattle.enrol_states.specs.Participation.{takes_part}
 use Rattle.enrol_states.specs.Recipes.{has_branch}
-use Rattle.enrol_states.specs.declared.state.State.{State}
 use Rattle.enrol_states.proofs.OptOuts.{is_in-insert}
 use Rattle.enrol_states.proofs.Ordered.{same_texts}
-use Rattle.state_codec.specs.Sound.{max_size}
-use Rattle.state_codec.specs.Spelling.{spelling}
+use Rattle.client_state.specs.Sound.{max_size}
+use Rattle.client_state.specs.Spelling.{spelling}
 use Rattle.app_context.specs.Contexts.{context_of}
 use Rattle.enrol_evolver.specs.Evolution.{evolution}
 use Rattle.app_context.specs.declared.context.Context.{Context}
@@ -28,18 +30,18 @@ use Rattle.app_context.specs.declared.key.ContextKey.{ContextKey}
 use Rattle.fml_types.specs.declared.manifest.Manifest.{Manifest}
 use Rattle.fml_value.specs.Typed.{TypedValue}
 use Rattle.feature_serving.specs.Serving.{served}
-use Rattle.client_core.specs.declared.answer.Answer.{Answer}
-use Rattle.client_core.specs.declared.answer.Answer.TheVariants.{Okay, OptedOutLimit, NotParticipating, NoSuchBranch, StateTooLarge}
-use Rattle.client_core.specs.declared.command.Command.{Command}
-use Rattle.client_core.specs.declared.command.Command.TheVariants.{Fetch, Apply, Participate, OptOut, OptIn, Reset, Show, Feature, WriteManifest}
-use Rattle.client_core.specs.declared.command.Command.TheVariants as commands
+use Rattle.client_words.specs.declared.answer.Answer.{Answer}
+use Rattle.client_words.specs.declared.answer.Answer.TheVariants.{Okay, OptedOutLimit, EventLimit, NotParticipating, NoSuchBranch, StateTooLarge}
+use Rattle.client_words.specs.declared.command.Command.{Command}
+use Rattle.client_words.specs.declared.command.Command.TheVariants.{Fetch, Apply, Participate, OptOut, OptIn, Reset, Show, Feature, Event, WriteManifest}
+use Rattle.client_words.specs.declared.command.Command.TheVariants as commands
 use Rattle.client_core.specs.declared.session.Session.{Session}
 use Rattle.client_core.specs.Choosing.{first_taker}
 use Rattle.client_core.specs.Fetching.{file_tree}
 use Rattle.client_core.specs.Manifests.{manifest_of}
 use Rattle.client_core.specs.OptOuts.{BringsBack, OptOutsHold}
 use Rattle.client_core.specs.Settings.{Setting}
-use Rattle.client_core.specs.Steps.{Outcome, Accepted, Refused, Step, participation, opting_out, taking, offering, choosing, fetched, fetching, context_read, reading_context, setting_manifest, applying, valued, serving, writing_manifest, done, step}
+use Rattle.client_core.specs.Steps.{EnrolmentOutcome, Outcome, Accepted, Refused, Step, whole, enrolling, seeing, has_no_room_for, counting, participation, opting_out, taking, offering, choosing, fetched, fetching, context_read, reading_context, setting_manifest, applying, valued, serving, writing_manifest, done, step}
 
 -- ---- one slug more or less
 
@@ -81,14 +83,23 @@ either_step : (P : Step → Type 0) (b : Bool) (x y : Step) → P x → P y → 
 either_step P true x y here there = here
 either_step P false x y here there = there
 
-module _ (at : Setting) (s : State) (session : Session) (slug : List ℕ) (there : is_in s.opted_out slug ≡ true) where
+module _ (at : Setting) (s : ClientState) (session : Session) (slug : List ℕ) (there : is_in s.enrolment.opted_out slug ≡ true) where
   -- an accepted state has the slug
   abbrev Keeps : Outcome → Type 0
-  Keeps (Accepted t next answer) = is_in t.opted_out slug ≡ true
+  Keeps (Accepted t next answer) = is_in t.enrolment.opted_out slug ≡ true
   Keeps (Refused answer) = Unit {0}
 
-  done-keeps : (asked : Outcome) → Keeps asked → is_in (done s session asked).state.opted_out slug ≡ true
-  done-keeps (Accepted t next answer) keeps = either_step (λ to. is_in to.state.opted_out slug ≡ true) (nat_lt max_size (length (spelling t))) _ _ there keeps
+  -- and so has an accepted enrolment
+  abbrev KeepsEnrolment : EnrolmentOutcome → Type 0
+  KeepsEnrolment (Accepted e next answer) = is_in e.opted_out slug ≡ true
+  KeepsEnrolment (Refused answer) = Unit {0}
+
+  whole-keeps : (counts : List NameCounts) (asked : EnrolmentOutcome) → KeepsEnrolment asked → Keeps (whole s counts asked)
+  whole-keeps counts (Accepted e next answer) keeps = keeps
+  whole-keeps counts (Refused answer) keeps = tt
+
+  done-keeps : (asked : Outcome) → Keeps asked → is_in (done s session asked).state.enrolment.opted_out slug ≡ true
+  done-keeps (Accepted t next answer) keeps = either_step (λ to. is_in to.state.enrolment.opted_out slug ≡ true) (nat_lt max_size (length (spelling t))) _ _ there keeps
   done-keeps (Refused answer) keeps = there
 
   context-keeps : (read : Result Context ContextKey) → Keeps (context_read s session read)
@@ -99,13 +110,13 @@ module _ (at : Setting) (s : State) (session : Session) (slug : List ℕ) (there
   file-keeps (Ok tree) = context-keeps (context_of tree)
   file-keeps (Err refusal) = tt
 
-  payload-keeps : (read : Result Payload PayloadFault) → Keeps (fetched s session read)
+  payload-keeps : (read : Result Payload PayloadFault) → KeepsEnrolment (fetched s.enrolment session read)
   payload-keeps (Ok found) = there
   payload-keeps (Err payload.NoData) = tt
   payload-keeps (Err (payload.TooManyRecipes count)) = tt
   payload-keeps (Err payload.OutOfMemory) = tt
 
-  fetch-keeps : (read : Result Json Answer) → Keeps (fetching s session read)
+  fetch-keeps : (read : Result Json Answer) → KeepsEnrolment (fetching s.enrolment session read)
   fetch-keeps (Ok tree) = payload-keeps (payload_of tree)
   fetch-keeps (Err refusal) = tt
 
@@ -113,7 +124,7 @@ module _ (at : Setting) (s : State) (session : Session) (slug : List ℕ) (there
   manifest-keeps (Ok manifest) = there
   manifest-keeps (Err refusal) = tt
 
-  apply-keeps : (manifest : Option Manifest) (context : Option Context) → Keeps (applying at.now s session manifest context)
+  apply-keeps : (manifest : Option Manifest) (context : Option Context) → KeepsEnrolment (applying at.now s.enrolment session manifest context)
   unfolding evolution
   apply-keeps None context = tt
   apply-keeps (Some manifest) None = tt
@@ -125,77 +136,90 @@ module _ (at : Setting) (s : State) (session : Session) (slug : List ℕ) (there
 
   feature-keeps : (name : List ℕ) (manifest : Option Manifest) → Keeps (serving s session name manifest)
   feature-keeps name None = tt
-  feature-keeps name (Some manifest) = value-keeps (served manifest s name)
+  feature-keeps name (Some manifest) = value-keeps (served manifest s.enrolment name)
 
   written-keeps : (manifest : Option Manifest) → Keeps (writing_manifest s session manifest)
   written-keeps None = tt
   written-keeps (Some manifest) = there
 
-  out-keeps : (other : List ℕ) (full : Bool) → Keeps (if full then Refused OptedOutLimit else Accepted (after_opt_out s other) session Okay)
+  out-keeps : (other : List ℕ) (full : Bool) → KeepsEnrolment (if full then Refused OptedOutLimit else Accepted (after_opt_out s.enrolment other) session Okay)
   out-keeps other true = tt
-  out-keeps other false = kept-insert other slug s.opted_out there
+  out-keeps other false = kept-insert other slug s.enrolment.opted_out there
+
+  count-keeps : (name : List ℕ) (count : ℕ) (full : Bool) → Keeps (if full then Refused EventLimit else Accepted (record s { events = counted_in name count at.now s.events }) session Okay)
+  count-keeps name count true = tt
+  count-keeps name count false = there
+
+  -- what is asked of the enrolment, and done, keeps it
+  enrolment-keeps : (asked : EnrolmentOutcome) → KeepsEnrolment asked → is_in (done s session (enrolling s asked)).state.enrolment.opted_out slug ≡ true
+  enrolment-keeps asked keeps = done-keeps (enrolling s asked) (whole-keeps s.events asked keeps)
 
   -- it is kept where the command isn't done
   abbrev KeepsUnless : Bool → Outcome → Type 0
-  KeepsUnless back asked = (back ≡ true → (done s session asked).answer ≡ Okay → ⊥) → is_in (done s session asked).state.opted_out slug ≡ true
+  KeepsUnless back asked = (back ≡ true → (done s session asked).answer ≡ Okay → ⊥) → is_in (done s session asked).state.enrolment.opted_out slug ≡ true
 
-  unless_at : (t : State) (next : Session) (back large : Bool) → (back ≡ false → is_in t.opted_out slug ≡ true)
+  unless_at : (t : ClientState) (next : Session) (back large : Bool) → (back ≡ false → is_in t.enrolment.opted_out slug ≡ true)
       → let to : Step = if large then record { state = s; session = session; answer = StateTooLarge (length (spelling t)) } else record { state = t; session = next; answer = Okay } in
-      (back ≡ true → to.answer ≡ Okay → ⊥) → is_in to.state.opted_out slug ≡ true
+      (back ≡ true → to.answer ≡ Okay → ⊥) → is_in to.state.enrolment.opted_out slug ≡ true
   unless_at t next back true keeps never = there
   unless_at t next true false keeps never = absurd (never refl refl)
   unless_at t next false false keeps never = keeps refl
 
-  accepted-unless : (t : State) (next : Session) (back : Bool) → (back ≡ false → is_in t.opted_out slug ≡ true) → KeepsUnless back (Accepted t next Okay)
+  accepted-unless : (t : ClientState) (next : Session) (back : Bool) → (back ≡ false → is_in t.enrolment.opted_out slug ≡ true) → KeepsUnless back (Accepted t next Okay)
   accepted-unless t next back keeps = unless_at t next back (nat_lt max_size (length (spelling t))) keeps
 
   module _ (other branch : List ℕ) where
-    taking-unless : (taker : Option (List ℕ × List ℕ)) → KeepsUnless (bytes_eq other slug) (taking s session other branch taker)
-    taking-unless None = accepted-unless (after_opt_in s other branch) session (bytes_eq other slug) (λ apart. kept-without other slug s.opted_out apart there)
+    taking-unless : (taker : Option (List ℕ × List ℕ)) → KeepsUnless (bytes_eq other slug) (enrolling s (taking s.enrolment session other branch taker))
+    taking-unless None = accepted-unless (record s { enrolment = after_opt_in s.enrolment other branch }) session (bytes_eq other slug) (λ apart. kept-without other slug s.enrolment.opted_out apart there)
     taking-unless (Some taker) = λ never. there
 
-    branch-unless : (r : Recipe) (has : Bool) → KeepsUnless (bytes_eq other slug) (if has then taking s session other branch (first_taker s r s.rows) else Refused NoSuchBranch)
-    branch-unless r true = taking-unless (first_taker s r s.rows)
+    branch-unless : (r : Recipe) (has : Bool) → KeepsUnless (bytes_eq other slug) (enrolling s (if has then taking s.enrolment session other branch (first_taker s.enrolment r s.enrolment.rows) else Refused NoSuchBranch))
+    branch-unless r true = taking-unless (first_taker s.enrolment r s.enrolment.rows)
     branch-unless r false = λ never. there
 
-    part-unless : (r : Recipe) (on : Bool) → KeepsUnless (bytes_eq other slug) (if on then offering s session other branch r else Refused NotParticipating)
+    part-unless : (r : Recipe) (on : Bool) → KeepsUnless (bytes_eq other slug) (enrolling s (if on then offering s.enrolment session other branch r else Refused NotParticipating))
     part-unless r true = branch-unless r (has_branch r branch)
     part-unless r false = λ never. there
 
-    choosing-unless : (found : Option Recipe) → KeepsUnless (bytes_eq other slug) (choosing s session other branch found)
+    choosing-unless : (found : Option Recipe) → KeepsUnless (bytes_eq other slug) (enrolling s (choosing s.enrolment session other branch found))
     choosing-unless None = λ never. there
-    choosing-unless (Some r) = part-unless r (takes_part s (kind_of r))
+    choosing-unless (Some r) = part-unless r (takes_part s.enrolment (kind_of r))
 
-  kept : (command : Command) → (BringsBack at s session slug command → ⊥) → is_in (step at s session command).state.opted_out slug ≡ true
+  kept : (command : Command) → (BringsBack at s session slug command → ⊥) → is_in (step at s session command).state.enrolment.opted_out slug ≡ true
   unfolding step
   kept (commands.Manifest file channel) never = done-keeps (setting_manifest s session (manifest_of at.files file channel)) (manifest-keeps (manifest_of at.files file channel))
   kept (commands.Context file) never = done-keeps (reading_context s session (file_tree file (at.files file))) (file-keeps (file_tree file (at.files file)))
-  kept (Fetch file) never = done-keeps (fetching s session (file_tree file (at.files file))) (fetch-keeps (file_tree file (at.files file)))
-  kept Apply never = done-keeps (applying at.now s session session.manifest session.context) (apply-keeps session.manifest session.context)
-  kept (Participate part on) never = done-keeps (participation s session part on) there
-  kept (OptOut other) never = done-keeps (opting_out s session other) (out-keeps other (has_no_room s.opted_out other))
-  kept (OptIn other branch) never = choosing-unless other branch (recipe_with other s.live) (λ back is_done. never (back, is_done))
-  kept (Reset id) never = accepted-unless (after_reset s id) session true (λ apart. absurd cc) (λ back is_done. never (back, is_done))
+  kept (Fetch file) never = enrolment-keeps (fetching s.enrolment session (file_tree file (at.files file))) (fetch-keeps (file_tree file (at.files file)))
+  kept Apply never = enrolment-keeps (applying at.now s.enrolment session session.manifest (seeing at.now s.events session.context)) (apply-keeps session.manifest (seeing at.now s.events session.context))
+  kept (Participate part on) never = enrolment-keeps (participation s.enrolment session part on) there
+  kept (OptOut other) never = enrolment-keeps (opting_out s.enrolment session other) (out-keeps other (has_no_room s.enrolment.opted_out other))
+  kept (OptIn other branch) never = choosing-unless other branch (recipe_with other s.enrolment.live) (λ back is_done. never (back, is_done))
+  kept (Reset id) never = accepted-unless (record { enrolment = after_reset s.enrolment id; events = [] }) session true (λ apart. absurd cc) (λ back is_done. never (back, is_done))
   kept Show never = done-keeps (Accepted s session _) there
   kept (Feature name) never = done-keeps (serving s session name session.manifest) (feature-keeps name session.manifest)
+  kept (Event name count) never = done-keeps (counting at.now s session name count) (count-keeps name count (has_no_room_for name s.events))
   kept WriteManifest never = done-keeps (writing_manifest s session session.manifest) (written-keeps session.manifest)
 
 -- ---- an opt-out
 
-taken_at : (s t : State) (session next : Session) (slug : List ℕ) (large : Bool) → is_in t.opted_out slug ≡ true
+taken_at : (s t : ClientState) (session next : Session) (slug : List ℕ) (large : Bool) → is_in t.enrolment.opted_out slug ≡ true
     → let to : Step = if large then record { state = s; session = session; answer = StateTooLarge (length (spelling t)) } else record { state = t; session = next; answer = Okay } in
-    to.answer ≡ Okay → is_in to.state.opted_out slug ≡ true
+    to.answer ≡ Okay → is_in to.state.enrolment.opted_out slug ≡ true
 taken_at s t session next slug true has is_done = absurd cc
 taken_at s t session next slug false has is_done = has
 
-room_at : (s : State) (session : Session) (slug : List ℕ) (full : Bool) → (done s session (if full then Refused OptedOutLimit else Accepted (after_opt_out s slug) session Okay)).answer ≡ Okay
-    → is_in (done s session (if full then Refused OptedOutLimit else Accepted (after_opt_out s slug) session Okay)).state.opted_out slug ≡ true
-room_at s session slug true is_done = absurd cc
-room_at s session slug false is_done = taken_at s (after_opt_out s slug) session session slug (nat_lt max_size (length (spelling (after_opt_out s slug)))) (is_in-inserted slug s.opted_out) is_done
+-- the state with the slug opted out
+abbrev out_of : ClientState → List ℕ → ClientState
+out_of s slug = record s { enrolment = after_opt_out s.enrolment slug }
 
-taken : (at : Setting) (s : State) (session : Session) (slug : List ℕ) → (step at s session (OptOut slug)).answer ≡ Okay → is_in (step at s session (OptOut slug)).state.opted_out slug ≡ true
+room_at : (s : ClientState) (session : Session) (slug : List ℕ) (full : Bool) → (done s session (enrolling s (if full then Refused OptedOutLimit else Accepted (after_opt_out s.enrolment slug) session Okay))).answer ≡ Okay
+    → is_in (done s session (enrolling s (if full then Refused OptedOutLimit else Accepted (after_opt_out s.enrolment slug) session Okay))).state.enrolment.opted_out slug ≡ true
+room_at s session slug true is_done = absurd cc
+room_at s session slug false is_done = taken_at s (out_of s slug) session session slug (nat_lt max_size (length (spelling (out_of s slug)))) (is_in-inserted slug s.enrolment.opted_out) is_done
+
+taken : (at : Setting) (s : ClientState) (session : Session) (slug : List ℕ) → (step at s session (OptOut slug)).answer ≡ Okay → is_in (step at s session (OptOut slug)).state.enrolment.opted_out slug ≡ true
 unfolding step
-taken at s session slug is_done = room_at s session slug (has_no_room s.opted_out slug) is_done
+taken at s session slug is_done = room_at s session slug (has_no_room s.enrolment.opted_out slug) is_done
 
 pub opt_outs_hold : OptOutsHold
 opt_outs_hold = record { taken = taken; kept = λ at s session slug command there never. kept at s session slug there command never }

@@ -1,7 +1,7 @@
 -- What a change of state writes, and where the next record begins then.
 use Rattle.std.proofs.Common.{◌≡◌, ◌≢◌, ℕ, ◌+◌, ◌<◌, ◌≤◌, Bool, true, false, List, length, refl, sym, ap, ◌∙◌, subst}
 use Rattle.std.specs.Prelude.{if◌then◌else◌}
-use Rattle.std.specs.Bool.{Decides}
+use Rattle.std.specs.Cmp.Lexicographic.{bytes_decides}
 use Rattle.std.proofs.lemmas.Bool.{le-ltb, lt-ltb}
 use Rattle.pair_store.specs.declared.mark.TheConstants.{MARK}
 use Rattle.row_batches.specs.Batch.{ChangeList, batch_text, applied, whole_of}
@@ -10,53 +10,60 @@ use Rattle.row_batches.proofs.Walks.{applied_between}
 use Rattle.row_store.specs.Ready.{ReadyRows, IsWritten, commit_cost}
 use Rattle.row_store.specs.Ready as rows
 use Rattle.row_store.specs.Store.{place}
-use Rattle.enrol_states.specs.Equal.{state_eq}
-use Rattle.enrol_states.specs.Equals.{state_Decides}
-use Rattle.enrol_states.specs.declared.state.State.{State}
-use Rattle.state_codec.specs.Sound.{IsSound}
-use Rattle.state_codec.specs.Spelling.{rows_of, spelling}
-use Rattle.state_codec.proofs.KeyOrder.{rows_rise}
+use Rattle.client_state.specs.declared.client_state.ClientState.{ClientState}
+use Rattle.client_state.specs.Sound.{IsSound}
+use Rattle.client_state.specs.Spelling.{rows_of, spelling, state_eq}
+use Rattle.client_state.proofs.KeyOrder.{rows_rise}
+use Rattle.client_state.proofs.OneState.{one_spelling}
 use Rattle.client_core.specs.declared.prepared.Change.{Change}
 use Rattle.client_core.specs.Places.{row_changes, change_size, passes_mark, makes_checkpoint, bytes_for, place_after}
 use Rattle.client_core.specs.Prepared.{IsChangeOf}
 use Rattle.client_core.specs.Stored.{StoredState, IsStored}
 
-test_false : (b : Bool) (P : Type 0) → Decides b P → (P → ⊥) → b ≡ false
-test_false true P decides never = absurd (never (decides.0 refl))
-test_false false P decides never = refl
+test_false : (b : Bool) → (b ≡ true → ⊥) → b ≡ false
+test_false true never = absurd (never refl)
+test_false false never = refl
+
+-- a state has its own spelling
+pub eq_itself : (s : ClientState) → state_eq s s ≡ true
+eq_itself s = (bytes_decides (spelling s) (spelling s)).1 refl
+
+-- sound states that aren't the same have other spellings
+pub eq_apart : (s t : ClientState) → IsSound s → IsSound t → s ≢ t → state_eq s t ≡ false
+eq_apart s t s_sound t_sound other = test_false (state_eq s t) (λ is. other (one_spelling s t s_sound t_sound ((bytes_decides (spelling s) (spelling t)).0 is)))
 
 -- ---- no change
 
-pub place_same : (place : ℕ) (s : State) → place ≡ place_after place s s
+pub place_same : (place : ℕ) (s : ClientState) → place ≡ place_after place s s
 unfolding place_after
-place_same place s = subst (λ (b : Bool). place ≡ (if b then place else (if passes_mark place s s then length (spelling s) + 14 else place + change_size s s + 5))) (sym ((state_Decides s s).1 refl)) refl
+place_same place s = subst (λ (b : Bool). place ≡ (if b then place else (if passes_mark place s s then length (spelling s) + 14 else place + change_size s s + 5))) (sym (eq_itself s)) refl
 
-pub bytes_same : (place : ℕ) (s : State) → 0 ≡ bytes_for place s s
+pub bytes_same : (place : ℕ) (s : ClientState) → 0 ≡ bytes_for place s s
 unfolding bytes_for
-bytes_same place s = subst (λ (b : Bool). 0 ≡ (if b then 0 else (if passes_mark place s s then length (spelling s) + 16 else change_size s s + 6))) (sym ((state_Decides s s).1 refl)) refl
+bytes_same place s = subst (λ (b : Bool). 0 ≡ (if b then 0 else (if passes_mark place s s then length (spelling s) + 16 else change_size s s + 6))) (sym (eq_itself s)) refl
 
-pub no_checkpoint : (place : ℕ) (s : State) → false ≡ makes_checkpoint place s s
-no_checkpoint place s = subst (λ (b : Bool). false ≡ (if b then false else passes_mark place s s)) (sym ((state_Decides s s).1 refl)) refl
+pub no_checkpoint : (place : ℕ) (s : ClientState) → false ≡ makes_checkpoint place s s
+no_checkpoint place s = subst (λ (b : Bool). false ≡ (if b then false else passes_mark place s s)) (sym (eq_itself s)) refl
 
 -- ---- a change
 
-whole_size : (t : State) → length (batch_text (whole_of (rows_of t))) ≡ length (spelling t)
+whole_size : (t : ClientState) → length (batch_text (whole_of (rows_of t))) ≡ length (spelling t)
 unfolding spelling
 whole_size t = refl
 
 -- the changed rows make the new state's rows of those of the old one
-pub changes_give : (s t : State) (batch : ChangeList) → IsSound s → IsSound t → batch ≡ row_changes s t → applied batch (rows_of s) ≡ rows_of t
+pub changes_give : (s t : ClientState) (batch : ChangeList) → IsSound s → IsSound t → batch ≡ row_changes s t → applied batch (rows_of s) ≡ rows_of t
 changes_give s t batch s_sound t_sound same = applied_between (rows_of s) (rows_of t) batch (rows_rise s s_sound.consistent) (rows_rise t t_sound.consistent) same
 
-module _ (stored : StoredState) (t : State) (batch : ChangeList) (payload : List ℕ) (other : stored.state ≢ t) (same : batch ≡ row_changes stored.state t) (gives : applied batch stored.rows.rows ≡ rows_of t) where
-  abbrev s : State
+module _ (stored : StoredState) (t : ClientState) (batch : ChangeList) (payload : List ℕ) (s_sound : IsSound stored.state) (t_sound : IsSound t) (other : stored.state ≢ t) (same : batch ≡ row_changes stored.state t) (gives : applied batch stored.rows.rows ≡ rows_of t) where
+  abbrev s : ClientState
   s = stored.state
 
   abbrev at : ℕ
   at = place stored.rows
 
   apart : state_eq s t ≡ false
-  apart = test_false (state_eq s t) (s ≡ t) (state_Decides s t) other
+  apart = eq_apart s t s_sound t_sound other
 
   passes : IsWritten true stored.rows batch payload → passes_mark at s t ≡ true
   passes written = lt-ltb MARK (at + change_size s t + 6) (subst (λ (b : ChangeList). MARK < at + length (batch_text b) + 6) same written.1)
@@ -98,10 +105,10 @@ module _ (stored : StoredState) (change : Change) (is_stored : IsStored stored) 
   change_gives = ap (applied change.ready.batch) is_stored.same ∙ changes_give stored.state change.state change.ready.batch is_stored.sound is.sound is.batch
 
   pub change_checkpoint : change.ready.is_whole ≡ makes_checkpoint (place stored.rows) stored.state change.state
-  change_checkpoint = checkpoint_is stored change.state change.ready.batch change.ready.payload is.other is.batch change_gives change.ready.is_whole is.ready.written
+  change_checkpoint = checkpoint_is stored change.state change.ready.batch change.ready.payload is_stored.sound is.sound is.other is.batch change_gives change.ready.is_whole is.ready.written
 
   pub change_bytes : commit_cost change.ready ≡ bytes_for (place stored.rows) stored.state change.state
-  change_bytes = bytes_are stored change.state change.ready.batch change.ready.payload is.other is.batch change_gives change.ready.is_whole is.ready.written
+  change_bytes = bytes_are stored change.state change.ready.batch change.ready.payload is_stored.sound is.sound is.other is.batch change_gives change.ready.is_whole is.ready.written
 
   pub change_place : rows.place_after change.ready (place stored.rows) ≡ place_after (place stored.rows) stored.state change.state
-  change_place = place_is stored change.state change.ready.batch change.ready.payload is.other is.batch change_gives change.ready.is_whole is.ready.written
+  change_place = place_is stored change.state change.ready.batch change.ready.payload is_stored.sound is.sound is.other is.batch change_gives change.ready.is_whole is.ready.written

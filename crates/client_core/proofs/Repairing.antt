@@ -17,7 +17,7 @@ use Rattle.pair_store.specs.Repair.{IsRepaired}
 use Rattle.pair_store.proofs.Beside.{on_of}
 use Rattle.pair_store.proofs.Turning.{first_open}
 use Rattle.pair_store.proofs.Unique.{open_not_shut, not_both_next}
-use Rattle.enrol_states.specs.declared.state.State.{State}
+use Rattle.client_state.specs.declared.client_state.ClientState.{ClientState}
 use Rattle.client_core.specs.Moments.{IsLeftAmong}
 use Rattle.client_core.specs.OpenStore.{AllKeptAmong}
 use Rattle.client_core.specs.Store.{KeptFor, KeptAmong}
@@ -95,7 +95,7 @@ module _ {H : Type 0} (h : Ghosts H) (start : H) (l r : List ℕ) (repaired : Is
   pub repaired_list : (payloads : List (List ℕ)) → HasList (h.reads start Left) (h.reads start Right) payloads → HasList l r payloads
   repaired_list payloads has = has_list (h.reads start Left) (h.reads start Right) l r repaired.side later_is as_before_is payloads has
 
-  pub repaired_kept : (s : State) → KeptFor (h.reads start Left) (h.reads start Right) s → KeptFor l r s
+  pub repaired_kept : (s : ClientState) → KeptFor (h.reads start Left) (h.reads start Right) s → KeptFor l r s
   repaired_kept s kept = record {
     sound = kept.sound;
     stored = kept.stored;
@@ -103,13 +103,13 @@ module _ {H : Type 0} (h : Ghosts H) (start : H) (l r : List ℕ) (repaired : Is
     rows = (kept.rows.0, has_kept_list (h.reads start Left) (h.reads start Right) l r repaired.side later_is as_before_is kept.rows.0 kept.rows.1, kept.rows.2);
   }
 
-  pub repaired_among : (states : List State) → KeptAmong (h.reads start Left) (h.reads start Right) states → KeptAmong l r states
+  pub repaired_among : (states : List ClientState) → KeptAmong (h.reads start Left) (h.reads start Right) states → KeptAmong l r states
   repaired_among [] among = among
   repaired_among (s ∷ states) (inl kept) = inl (repaired_kept s kept)
   repaired_among (s ∷ states) (inr among) = inr (repaired_among states among)
 
 -- each image that an opening may leave is kept among the states of which each was kept
-pub opening_among : {H : Type 0} (h : Ghosts H) (start : H) (states : List State) → h.images start Left (h.reads start Left) → h.images start Right (h.reads start Right) → AllKeptAmong h start states
+pub opening_among : {H : Type 0} (h : Ghosts H) (start : H) (states : List ClientState) → h.images start Left (h.reads start Left) → h.images start Right (h.reads start Right) → AllKeptAmong h start states
     → (l r u : List ℕ) → IsOpening h start l r u → KeptAmong l r states
 opening_among h start states left right all l r u (inl now) = all l r now.0 now.1
 opening_among h start states left right all l r u (inr (repaired, text)) = repaired_among h start l r repaired states (all (h.reads start Left) (h.reads start Right) left right)
@@ -120,7 +120,7 @@ opening_quiet h start l r u (inl now) = now.2
 opening_quiet h start l r u (inr (repaired, text)) = text
 
 -- at each moment of it each image is kept among them
-pub opening_left : {H : Type 0} (h : Ghosts H) (start new : H) (states : List State) → h.images start Left (h.reads start Left) → h.images start Right (h.reads start Right) → AllKeptAmong h start states
+pub opening_left : {H : Type 0} (h : Ghosts H) (start new : H) (states : List ClientState) → h.images start Left (h.reads start Left) → h.images start Right (h.reads start Right) → AllKeptAmong h start states
     → MeetsAll h start new (IsOpening h start) → MeetsAll h start new (IsLeftAmong (h.said start) states)
 opening_left h start new states left right all run =
     met_weaker h.moment h.might start new _ _ run (λ l r u met. (opening_among h start states left right all l r u met, opening_quiet h start l r u met))

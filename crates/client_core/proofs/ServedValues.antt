@@ -1,5 +1,5 @@
 -- A step is answered a value only where a feature is asked for, and that is the served one.
-use Rattle.std.proofs.Common.{◌≡◌, ℕ, Bool, true, false, List, length, Option, Some, None, Result, Ok, Err, refl, sym, ap, ◌∙◌, subst}
+use Rattle.std.proofs.Common.{◌≡◌, ℕ, Bool, true, false, List, [], length, Option, Some, None, Result, Ok, Err, refl, sym, ap, ◌∙◌, subst}
 use Rattle.std.specs.Prelude.{nat_lt, nat_le, if◌then◌else◌}
 use Rattle.json_tree.specs.Bytes.{tree_of, max_depth}
 use Rattle.json_tree.specs.Json.{Json, depth}
@@ -25,17 +25,19 @@ use Rattle.app_context.specs.Contexts.{context_of}
 use Rattle.app_context.specs.declared.context.Context.{Context}
 use Rattle.app_context.specs.declared.key.ContextKey.{ContextKey}
 use Rattle.enrol_states.specs.Choices.{has_no_room}
+use Rattle.event_counts.specs.Kept.{counted_in}
+use Rattle.event_counts.specs.declared.name_counts.NameCounts.{NameCounts}
+use Rattle.client_state.specs.declared.client_state.ClientState.{ClientState}
 use Rattle.enrol_states.specs.Commands.{after_opt_out}
 use Rattle.enrol_states.specs.Participation.{takes_part}
 use Rattle.enrol_states.specs.Recipes.{has_branch}
-use Rattle.enrol_states.specs.declared.state.State.{State}
-use Rattle.state_codec.specs.Sound.{max_size}
-use Rattle.state_codec.specs.Spelling.{spelling}
-use Rattle.client_core.specs.declared.answer.Answer.{Answer}
-use Rattle.client_core.specs.declared.answer.Answer.TheVariants.{Okay, Value, FileTooLarge, NotJson, OptedOutLimit, NotParticipating, NoSuchBranch, StateTooLarge}
-use Rattle.client_core.specs.declared.command.Command.{Command}
-use Rattle.client_core.specs.declared.command.Command.TheVariants.{Fetch, Apply, Participate, OptOut, OptIn, Reset, Show, Feature, WriteManifest}
-use Rattle.client_core.specs.declared.command.Command.TheVariants as commands
+use Rattle.client_state.specs.Sound.{max_size}
+use Rattle.client_state.specs.Spelling.{spelling}
+use Rattle.client_words.specs.declared.answer.Answer.{Answer}
+use Rattle.client_words.specs.declared.answer.Answer.TheVariants.{Okay, Value, FileTooLarge, NotJson, OptedOutLimit, EventLimit, NotParticipating, NoSuchBranch, StateTooLarge}
+use Rattle.client_words.specs.declared.command.Command.{Command}
+use Rattle.client_words.specs.declared.command.Command.TheVariants.{Fetch, Apply, Participate, OptOut, OptIn, Reset, Show, Feature, Event, WriteManifest}
+use Rattle.client_words.specs.declared.command.Command.TheVariants as commands
 use Rattle.client_core.specs.declared.session.Session.{Session}
 use Rattle.client_core.specs.Choosing.{first_taker}
 use Rattle.client_core.specs.Fetching.{max_file, shallow_tree, file_tree}
@@ -43,7 +45,7 @@ use Rattle.client_core.specs.Manifests.{IsLinked, link_refusal, where_fits, chec
 use Rattle.client_core.specs.ServedValues.{IsServed, ValuesAreServed, IsTyped, ValuesHaveTypes}
 use Rattle.client_core.specs.Settings.{Setting}
 use Rattle.client_core.specs.Soundness.{IsGiven, IsLawfulManifest}
-use Rattle.client_core.specs.Steps.{Outcome, Accepted, Refused, Step, participation, opting_out, taking, offering, choosing, opting_in, resetting, showing, fetched, fetching, context_read, reading_context, setting_manifest, applying, valued, serving, writing_manifest, done, step}
+use Rattle.client_core.specs.Steps.{OutcomeOver, EnrolmentOutcome, Outcome, Accepted, Refused, Step, whole, seeing, has_no_room_for, counting, participation, opting_out, taking, offering, choosing, opting_in, resetting, showing, fetched, fetching, context_read, reading_context, setting_manifest, applying, valued, serving, writing_manifest, done, step}
 use Rattle.fml_reader.specs.Trees.{tree_from}
 use Rattle.client_core.proofs.LinkedManifests.{manifest_linked}
 use Rattle.client_core.proofs.SoundValues.{records_sound}
@@ -110,10 +112,14 @@ either_step P false x y here there = there
 
 -- ---- the commands that are answered no value
 
-module _ (at : Setting) (s : State) (session : Session) where
-  abbrev NoValue : Outcome → Type 0
+module _ (at : Setting) (s : ClientState) (session : Session) where
+  abbrev NoValue : {S : Type 0} → OutcomeOver S → Type 0
   NoValue (Accepted t next answer) = is_value answer ≡ false
   NoValue (Refused answer) = is_value answer ≡ false
+
+  whole-none : (counts : List NameCounts) (asked : EnrolmentOutcome) → NoValue asked → NoValue (whole s counts asked)
+  whole-none counts (Accepted e next answer) none = none
+  whole-none counts (Refused answer) none = none
 
   done-none : (asked : Outcome) → NoValue asked → is_value (done s session asked).answer ≡ false
   done-none (Accepted t next answer) none = either_step (λ to. is_value to.answer ≡ false) (nat_lt max_size (length (spelling t))) _ _ refl none
@@ -131,17 +137,17 @@ module _ (at : Setting) (s : State) (session : Session) where
   file-none (Ok tree) plain = context-none (context_of tree)
   file-none (Err refusal) plain = plain
 
-  payload-none : (read : Result Payload PayloadFault) → NoValue (fetched s session read)
+  payload-none : (read : Result Payload PayloadFault) → NoValue (fetched s.enrolment session read)
   payload-none (Ok found) = refl
   payload-none (Err payload.NoData) = refl
   payload-none (Err (payload.TooManyRecipes count)) = refl
   payload-none (Err payload.OutOfMemory) = refl
 
-  fetch-none : (read : Result Json Answer) → RefusesPlainly read → NoValue (fetching s session read)
+  fetch-none : (read : Result Json Answer) → RefusesPlainly read → NoValue (fetching s.enrolment session read)
   fetch-none (Ok tree) plain = payload-none (payload_of tree)
   fetch-none (Err refusal) plain = plain
 
-  apply-none : (manifest : Option Manifest) (context : Option Context) → NoValue (applying at.now s session manifest context)
+  apply-none : (manifest : Option Manifest) (context : Option Context) → NoValue (applying at.now s.enrolment session manifest context)
   apply-none None context = refl
   apply-none (Some manifest) None = refl
   apply-none (Some manifest) (Some context) = refl
@@ -150,29 +156,37 @@ module _ (at : Setting) (s : State) (session : Session) where
   written-none None = refl
   written-none (Some manifest) = refl
 
-  out-none : (slug : List ℕ) (full : Bool) → NoValue (if full then Refused OptedOutLimit else Accepted (after_opt_out s slug) session Okay)
+  out-none : (slug : List ℕ) (full : Bool) → NoValue (if full then Refused OptedOutLimit else Accepted (after_opt_out s.enrolment slug) session Okay)
   out-none slug true = refl
   out-none slug false = refl
 
   module _ (slug branch : List ℕ) where
-    taking-none : (taker : Option (List ℕ × List ℕ)) → NoValue (taking s session slug branch taker)
+    taking-none : (taker : Option (List ℕ × List ℕ)) → NoValue (taking s.enrolment session slug branch taker)
     taking-none None = refl
     taking-none (Some taker) = refl
 
-    branch-none : (r : Recipe) (has : Bool) → NoValue (if has then taking s session slug branch (first_taker s r s.rows) else Refused NoSuchBranch)
-    branch-none r true = taking-none (first_taker s r s.rows)
+    branch-none : (r : Recipe) (has : Bool) → NoValue (if has then taking s.enrolment session slug branch (first_taker s.enrolment r s.enrolment.rows) else Refused NoSuchBranch)
+    branch-none r true = taking-none (first_taker s.enrolment r s.enrolment.rows)
     branch-none r false = refl
 
-    part-none : (r : Recipe) (on : Bool) → NoValue (if on then offering s session slug branch r else Refused NotParticipating)
+    part-none : (r : Recipe) (on : Bool) → NoValue (if on then offering s.enrolment session slug branch r else Refused NotParticipating)
     part-none r true = branch-none r (has_branch r branch)
     part-none r false = refl
 
-    choosing-none : (found : Option Recipe) → NoValue (choosing s session slug branch found)
+    choosing-none : (found : Option Recipe) → NoValue (choosing s.enrolment session slug branch found)
     choosing-none None = refl
-    choosing-none (Some r) = part-none r (takes_part s (kind_of r))
+    choosing-none (Some r) = part-none r (takes_part s.enrolment (kind_of r))
+
+  count-none : (name : List ℕ) (count : ℕ) (full : Bool) → NoValue (if full then Refused EventLimit else Accepted (record s { events = counted_in name count at.now s.events }) session Okay)
+  count-none name count true = refl
+  count-none name count false = refl
 
   never : (asked : Outcome) (tree : Tree) → NoValue asked → (done s session asked).answer ≡ Value tree → ⊥
   never asked tree none is = absurd (let clash = ap is_value is in let plain = done-none asked none in cc)
+
+  -- where the enrolment is asked for
+  never_whole : (counts : List NameCounts) (asked : EnrolmentOutcome) (tree : Tree) → NoValue asked → (done s session (whole s counts asked)).answer ≡ Value tree → ⊥
+  never_whole counts asked tree none is = never (whole s counts asked) tree (whole-none counts asked none) is
 
   -- ---- `feature`
 
@@ -180,23 +194,23 @@ module _ (at : Setting) (s : State) (session : Session) where
     abbrev Asked : Command → Type 0
     Asked command = (other : List ℕ) × (command ≡ Feature other) × IsServed s session other tree
 
-    served_as : (manifest : Manifest) → session.manifest ≡ Some manifest → (value : TypedValue) → served manifest s name ≡ Some value → tree_from (values.tree_of value) ≡ tree → Asked (Feature name)
+    served_as : (manifest : Manifest) → session.manifest ≡ Some manifest → (value : TypedValue) → served manifest s.enrolment name ≡ Some value → tree_from (values.tree_of value) ≡ tree → Asked (Feature name)
     served_as manifest set value serves is =
         (name, refl, record { manifest = manifest; set = set; value = value; serves = serves; spelled = ap json_of (sym is) ∙ value_of_tree (values.tree_of value) })
 
-    valued_at : (manifest : Manifest) → session.manifest ≡ Some manifest → (value : TypedValue) → served manifest s name ≡ Some value → (large : Bool)
+    valued_at : (manifest : Manifest) → session.manifest ≡ Some manifest → (value : TypedValue) → served manifest s.enrolment name ≡ Some value → (large : Bool)
         → let to : Step = if large then record { state = s; session = session; answer = StateTooLarge (length (spelling s)) } else record { state = s; session = session; answer = Value (tree_from (values.tree_of value)) } in
         to.answer ≡ Value tree → Asked (Feature name)
     valued_at manifest set value serves true is = absurd (let clash = ap is_value is in cc)
     valued_at manifest set value serves false is = served_as manifest set value serves (ap tree_in is)
 
-    found_at : (manifest : Manifest) → session.manifest ≡ Some manifest → (value : Option TypedValue) → served manifest s name ≡ value → (done s session (valued s session value)).answer ≡ Value tree → Asked (Feature name)
+    found_at : (manifest : Manifest) → session.manifest ≡ Some manifest → (value : Option TypedValue) → served manifest s.enrolment name ≡ value → (done s session (valued s session value)).answer ≡ Value tree → Asked (Feature name)
     found_at manifest set None serves is = absurd (let clash = ap is_value is in cc)
     found_at manifest set (Some value) serves is = valued_at manifest set value serves (nat_lt max_size (length (spelling s))) is
 
     set_at : (manifest : Option Manifest) → session.manifest ≡ manifest → (done s session (serving s session name manifest)).answer ≡ Value tree → Asked (Feature name)
     set_at None set is = absurd (let clash = ap is_value is in cc)
-    set_at (Some manifest) set is = found_at manifest set (served manifest s name) refl is
+    set_at (Some manifest) set is = found_at manifest set (served manifest s.enrolment name) refl is
 
   values_at : (command : Command) (tree : Tree) → (step at s session command).answer ≡ Value tree → (name : List ℕ) × (command ≡ Feature name) × IsServed s session name tree
   unfolding step
@@ -204,14 +218,16 @@ module _ (at : Setting) (s : State) (session : Session) where
       absurd (never (setting_manifest s session (manifest_of at.files file channel)) tree (manifest-none (manifest_of at.files file channel) (manifest-plain at.files file channel)) is)
   values_at (commands.Context file) tree is =
       absurd (never (reading_context s session (file_tree file (at.files file))) tree (file-none (file_tree file (at.files file)) (file-plain file (at.files file))) is)
-  values_at (Fetch file) tree is = absurd (never (fetching s session (file_tree file (at.files file))) tree (fetch-none (file_tree file (at.files file)) (file-plain file (at.files file))) is)
-  values_at Apply tree is = absurd (never (applying at.now s session session.manifest session.context) tree (apply-none session.manifest session.context) is)
-  values_at (Participate part on) tree is = absurd (never (participation s session part on) tree refl is)
-  values_at (OptOut slug) tree is = absurd (never (opting_out s session slug) tree (out-none slug (has_no_room s.opted_out slug)) is)
-  values_at (OptIn slug branch) tree is = absurd (never (opting_in s session slug branch) tree (choosing-none slug branch (recipe_with slug s.live)) is)
-  values_at (Reset id) tree is = absurd (never (resetting s session id) tree refl is)
+  values_at (Fetch file) tree is = absurd (never_whole s.events (fetching s.enrolment session (file_tree file (at.files file))) tree (fetch-none (file_tree file (at.files file)) (file-plain file (at.files file))) is)
+  values_at Apply tree is =
+      absurd (never_whole s.events (applying at.now s.enrolment session session.manifest (seeing at.now s.events session.context)) tree (apply-none session.manifest (seeing at.now s.events session.context)) is)
+  values_at (Participate part on) tree is = absurd (never_whole s.events (participation s.enrolment session part on) tree refl is)
+  values_at (OptOut slug) tree is = absurd (never_whole s.events (opting_out s.enrolment session slug) tree (out-none slug (has_no_room s.enrolment.opted_out slug)) is)
+  values_at (OptIn slug branch) tree is = absurd (never_whole s.events (opting_in s.enrolment session slug branch) tree (choosing-none slug branch (recipe_with slug s.enrolment.live)) is)
+  values_at (Reset id) tree is = absurd (never_whole [] (resetting s.enrolment session id) tree refl is)
   values_at Show tree is = absurd (never (showing s session) tree refl is)
   values_at (Feature name) tree is = set_at name tree session.manifest refl is
+  values_at (Event name count) tree is = absurd (never (counting at.now s session name count) tree (count-none name count (has_no_room_for name s.events)) is)
   values_at WriteManifest tree is = absurd (never (writing_manifest s session session.manifest) tree (written-none session.manifest) is)
 
 pub values_are_served : ValuesAreServed
@@ -220,7 +236,7 @@ values_are_served at s session command tree is = values_at at s session command 
 -- ---- the type
 
 -- a feature's value
-module _ (s : State) (session : Session) (name : List ℕ) (manifest : Manifest) (set : session.manifest ≡ Some manifest) (value : TypedValue) (serves : served manifest s name ≡ Some value) (tree : Tree) (spelled : json_of tree ≡ values.tree_of value) where
+module _ (s : ClientState) (session : Session) (name : List ℕ) (manifest : Manifest) (set : session.manifest ≡ Some manifest) (value : TypedValue) (serves : served manifest s.enrolment name ≡ Some value) (tree : Tree) (spelled : json_of tree ≡ values.tree_of value) where
   pub typed_answer : (answer : Answer) → answer ≡ Value tree → HasFeatureType manifest name value → IsTyped s session (Feature name) answer
   typed_answer answer is typed = subst (λ (a : Answer). IsTyped s session (Feature name) a) (sym is)
       (record { served = record { manifest = manifest; set = set; value = value; serves = serves; spelled = spelled }; typed = typed })
@@ -234,4 +250,4 @@ values_have_types at s session command tree sound lawful is =
     let it = found.2 in
     let given : IsGiven it.manifest = subst IsLawfulManifest it.set lawful.manifest in
     let linked : IsLinked it.manifest = manifest_linked given.files given.first given.channel it.manifest given.links in
-    (found.0, found.1, record { served = it; typed = served_typed it.manifest s found.0 it.value linked.sound (records_sound s.live sound.records.live) it.serves })
+    (found.0, found.1, record { served = it; typed = served_typed it.manifest s.enrolment found.0 it.value linked.sound (records_sound s.enrolment.live sound.records.live) it.serves })

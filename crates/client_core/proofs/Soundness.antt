@@ -15,35 +15,41 @@ use Rattle.app_context.specs.declared.context.Context.{Context}
 use Rattle.app_context.specs.declared.key.ContextKey.{ContextKey}
 use Rattle.enrol_evolver.proofs.Consistency.{evolved}
 use Rattle.enrol_states.specs.Choices.{has_no_room}
+use Rattle.event_counts.specs.Kept.{counted_in}
+use Rattle.event_counts.specs.Sound as counts
+use Rattle.event_counts.specs.declared.name_counts.NameCounts.{NameCounts}
+use Rattle.event_counts.proofs.Soundness.{sound_none}
+use Rattle.client_state.specs.declared.client_state.ClientState.{ClientState}
 use Rattle.enrol_states.specs.Commands.{after_opt_out}
-use Rattle.enrol_states.specs.Consistent.{IsConsistent}
+use Rattle.enrol_states.specs.Consistent as states
 use Rattle.enrol_states.specs.Participation.{takes_part}
 use Rattle.enrol_states.specs.Recipes.{has_branch}
 use Rattle.enrol_states.specs.Statuses.{last_moment, IsSlug}
-use Rattle.enrol_states.specs.declared.state.State.{State}
 use Rattle.enrol_states.proofs.Enrolments as enrolments
 use Rattle.enrol_states.proofs.Fresh.{reset-consistent}
 use Rattle.enrol_states.proofs.OptOuts as opt_outs
 use Rattle.enrol_states.proofs.Participations as participations
-use Rattle.state_codec.specs.Sound.{max_size, IsSound}
-use Rattle.state_codec.specs.Spelling.{spelling}
+use Rattle.client_state.specs.Sound.{max_size, IsConsistent, IsSound}
+use Rattle.client_state.specs.Spelling.{spelling}
 use Rattle.fml_types.specs.Coenrolling.{coenrolling}
 use Rattle.fml_types.specs.declared.manifest.Manifest.{Manifest}
 use Rattle.fml_value.specs.Typed.{TypedValue}
 use Rattle.feature_serving.specs.Serving.{served}
-use Rattle.client_core.specs.declared.answer.Answer.{Answer}
-use Rattle.client_core.specs.declared.answer.Answer.TheVariants.{Okay, OptedOutLimit, NotParticipating, NoSuchBranch, StateTooLarge}
-use Rattle.client_core.specs.declared.command.Command.{Command}
-use Rattle.client_core.specs.declared.command.Command.TheVariants.{Fetch, Apply, Participate, OptOut, OptIn, Reset, Show, Feature, WriteManifest}
-use Rattle.client_core.specs.declared.command.Command.TheVariants as commands
+use Rattle.client_words.specs.declared.answer.Answer.{Answer}
+use Rattle.client_words.specs.declared.answer.Answer.TheVariants.{Okay, OptedOutLimit, EventLimit, NotParticipating, NoSuchBranch, StateTooLarge}
+use Rattle.client_words.specs.declared.command.Command.{Command}
+use Rattle.client_words.specs.declared.command.Command.TheVariants.{Fetch, Apply, Participate, OptOut, OptIn, Reset, Show, Feature, Event, WriteManifest}
+use Rattle.client_words.specs.declared.command.Command.TheVariants as commands
 use Rattle.client_core.specs.declared.session.Session.{Session}
 use Rattle.client_core.specs.Choosing.{first_taker}
 use Rattle.client_core.specs.Fetching.{file_tree}
 use Rattle.client_core.specs.Manifests.{manifest_of}
 use Rattle.client_core.specs.Settings.{Setting}
-use Rattle.client_core.specs.Soundness.{IsCommand, HasVersion, HasLinked, IsSession, IsLawful, Line, IsLine, all_after, StepsStaySound}
-use Rattle.client_core.specs.Steps.{Outcome, Accepted, Refused, Step, participation, opting_out, taking, offering, choosing, opting_in, resetting, showing, fetched, fetching, context_read, reading_context, setting_manifest, applying, valued, serving, writing_manifest, outcome, done, step}
+use Rattle.client_core.specs.Soundness.{HasVersion, HasLinked, IsSession, IsLawful, Line, IsLine, all_after, StepsStaySound}
+use Rattle.client_words.specs.Commands.{IsCommand, IsEvent}
+use Rattle.client_core.specs.Steps.{EnrolmentOutcome, Outcome, Accepted, Refused, Step, whole, enrolling, seeing, has_no_room_for, counting, participation, opting_out, taking, offering, choosing, opting_in, resetting, showing, fetched, fetching, context_read, reading_context, setting_manifest, applying, valued, serving, writing_manifest, outcome, done, step}
 use Rattle.client_core.proofs.Coenrolling.{coenrolling_names, coenrolling_rise}
+use Rattle.client_core.proofs.Counting.{counted_sound}
 use Rattle.client_core.proofs.KeptRecords.{step_keeps_records}
 use Rattle.client_core.proofs.Lawfulness.{step_keeps_texts, step_keeps_lawful, lawful_texts}
 use Rattle.client_core.proofs.Payloads.{payload_kept}
@@ -56,11 +62,20 @@ either_step P false x y here there = there
 
 -- ---- the state
 
-module _ (at : Setting) (s : State) (session : Session) (c : IsConsistent s) where
+module _ (at : Setting) (s : ClientState) (session : Session) (c : IsConsistent s) where
   -- an accepted state is consistent
   abbrev Keeps : Outcome → Type 0
   Keeps (Accepted t next answer) = IsConsistent t
   Keeps (Refused answer) = Unit {0}
+
+  -- and so is an accepted enrolment
+  abbrev KeepsEnrolment : EnrolmentOutcome → Type 0
+  KeepsEnrolment (Accepted e next answer) = states.IsConsistent e
+  KeepsEnrolment (Refused answer) = Unit {0}
+
+  whole-keeps : (ns : List NameCounts) → counts.IsSound ns → (asked : EnrolmentOutcome) → KeepsEnrolment asked → Keeps (whole s ns asked)
+  whole-keeps ns sound (Accepted e next answer) keeps = record { enrolment = keeps; events = sound }
+  whole-keeps ns sound (Refused answer) keeps = tt
 
   done-keeps : (asked : Outcome) → Keeps asked → IsConsistent (done s session asked).state
   done-keeps (Accepted t next answer) keeps = either_step (λ to. IsConsistent to.state) (nat_lt max_size (length (spelling t))) _ _ c keeps
@@ -74,13 +89,13 @@ module _ (at : Setting) (s : State) (session : Session) (c : IsConsistent s) whe
   file-keeps (Ok tree) = context-keeps (context_of tree)
   file-keeps (Err refusal) = tt
 
-  payload-keeps : (tree : Json) (read : Result Payload PayloadFault) → payload_of tree ≡ read → Keeps (fetched s session read)
-  payload-keeps tree (Ok found) is = pending_consistent s found.recipes c (payload_kept tree found is)
+  payload-keeps : (tree : Json) (read : Result Payload PayloadFault) → payload_of tree ≡ read → KeepsEnrolment (fetched s.enrolment session read)
+  payload-keeps tree (Ok found) is = pending_consistent s.enrolment found.recipes c.enrolment (payload_kept tree found is)
   payload-keeps tree (Err payload.NoData) is = tt
   payload-keeps tree (Err (payload.TooManyRecipes count)) is = tt
   payload-keeps tree (Err payload.OutOfMemory) is = tt
 
-  fetch-keeps : (read : Result Json Answer) → Keeps (fetching s session read)
+  fetch-keeps : (read : Result Json Answer) → KeepsEnrolment (fetching s.enrolment session read)
   fetch-keeps (Ok tree) = payload-keeps tree (payload_of tree) refl
   fetch-keeps (Err refusal) = tt
 
@@ -88,11 +103,15 @@ module _ (at : Setting) (s : State) (session : Session) (c : IsConsistent s) whe
   manifest-keeps (Ok manifest) = c
   manifest-keeps (Err refusal) = tt
 
-  apply-keeps : at.now ≤ last_moment → (manifest : Option Manifest) → HasLinked manifest → (context : Option Context) → HasVersion context → Keeps (applying at.now s session manifest context)
+  apply-keeps : at.now ≤ last_moment → (manifest : Option Manifest) → HasLinked manifest → (context : Option Context) → HasVersion context → KeepsEnrolment (applying at.now s.enrolment session manifest context)
   apply-keeps moment None linked context text = tt
   apply-keeps moment (Some manifest) linked None text = tt
   apply-keeps moment (Some manifest) linked (Some context) text =
-      evolved s context (coenrolling manifest.features) at.now c (coenrolling_names manifest.features linked.sound.names) (coenrolling_rise manifest.features linked.order) moment text
+      evolved s.enrolment context (coenrolling manifest.features) at.now c.enrolment (coenrolling_names manifest.features linked.sound.names) (coenrolling_rise manifest.features linked.order) moment text
+
+  seen-version : (context : Option Context) → HasVersion context → HasVersion (seeing at.now s.events context)
+  seen-version None text = tt
+  seen-version (Some context) text = text
 
   value-keeps : (found : Option TypedValue) → Keeps (valued s session found)
   value-keeps None = tt
@@ -100,67 +119,79 @@ module _ (at : Setting) (s : State) (session : Session) (c : IsConsistent s) whe
 
   feature-keeps : (name : List ℕ) (manifest : Option Manifest) → Keeps (serving s session name manifest)
   feature-keeps name None = tt
-  feature-keeps name (Some manifest) = value-keeps (served manifest s name)
+  feature-keeps name (Some manifest) = value-keeps (served manifest s.enrolment name)
 
   written-keeps : (manifest : Option Manifest) → Keeps (writing_manifest s session manifest)
   written-keeps None = tt
   written-keeps (Some manifest) = c
 
-  out-keeps : (slug : List ℕ) → IsSlug slug → (full : Bool) → has_no_room s.opted_out slug ≡ full → Keeps (if full then Refused OptedOutLimit else Accepted (after_opt_out s slug) session Okay)
+  out-keeps : (slug : List ℕ) → IsSlug slug → (full : Bool) → has_no_room s.enrolment.opted_out slug ≡ full → KeepsEnrolment (if full then Refused OptedOutLimit else Accepted (after_opt_out s.enrolment slug) session Okay)
   out-keeps slug is_slug true e = tt
-  out-keeps slug is_slug false e = opt_outs.consistent s slug is_slug e c
+  out-keeps slug is_slug false e = opt_outs.consistent s.enrolment slug is_slug e c.enrolment
 
   module _ (slug branch : List ℕ) (is_slug : IsSlug slug) (is_branch : IsSlug branch) where
-    module _ (r : Recipe) (found : recipe_with slug s.live ≡ Some r) (on : takes_part s (kind_of r) ≡ true) where
-      taking-keeps : has_branch r branch ≡ true → (taker : Option (List ℕ × List ℕ)) → first_taker s r s.rows ≡ taker → Keeps (taking s session slug branch taker)
-      taking-keeps has None free = enrolments.consistent s slug branch r is_slug is_branch (record { recipe = found; participating = on; offered = has }) (free_where s r free) c
+    module _ (r : Recipe) (found : recipe_with slug s.enrolment.live ≡ Some r) (on : takes_part s.enrolment (kind_of r) ≡ true) where
+      taking-keeps : has_branch r branch ≡ true → (taker : Option (List ℕ × List ℕ)) → first_taker s.enrolment r s.enrolment.rows ≡ taker → KeepsEnrolment (taking s.enrolment session slug branch taker)
+      taking-keeps has None free = enrolments.consistent s.enrolment slug branch r is_slug is_branch (record { recipe = found; participating = on; offered = has }) (free_where s.enrolment r free) c.enrolment
       taking-keeps has (Some taker) taken = tt
 
-      branch-keeps : (has : Bool) → has_branch r branch ≡ has → Keeps (if has then taking s session slug branch (first_taker s r s.rows) else Refused NoSuchBranch)
-      branch-keeps true has = taking-keeps has (first_taker s r s.rows) refl
+      branch-keeps : (has : Bool) → has_branch r branch ≡ has → KeepsEnrolment (if has then taking s.enrolment session slug branch (first_taker s.enrolment r s.enrolment.rows) else Refused NoSuchBranch)
+      branch-keeps true has = taking-keeps has (first_taker s.enrolment r s.enrolment.rows) refl
       branch-keeps false has = tt
 
-    part-keeps : (r : Recipe) → recipe_with slug s.live ≡ Some r → (on : Bool) → takes_part s (kind_of r) ≡ on → Keeps (if on then offering s session slug branch r else Refused NotParticipating)
+    part-keeps : (r : Recipe) → recipe_with slug s.enrolment.live ≡ Some r → (on : Bool) → takes_part s.enrolment (kind_of r) ≡ on → KeepsEnrolment (if on then offering s.enrolment session slug branch r else Refused NotParticipating)
     part-keeps r found true on = branch-keeps r found on (has_branch r branch) refl
     part-keeps r found false on = tt
 
-    choosing-keeps : (found : Option Recipe) → recipe_with slug s.live ≡ found → Keeps (choosing s session slug branch found)
+    choosing-keeps : (found : Option Recipe) → recipe_with slug s.enrolment.live ≡ found → KeepsEnrolment (choosing s.enrolment session slug branch found)
     choosing-keeps None e = tt
-    choosing-keeps (Some r) e = part-keeps r e (takes_part s (kind_of r)) refl
+    choosing-keeps (Some r) e = part-keeps r e (takes_part s.enrolment (kind_of r)) refl
+
+  count-keeps : (name : List ℕ) (count : ℕ) → IsEvent name count → at.now ≤ last_moment → (full : Bool) → has_no_room_for name s.events ≡ full
+      → Keeps (if full then Refused EventLimit else Accepted (record s { events = counted_in name count at.now s.events }) session Okay)
+  count-keeps name count is moment true e = tt
+  count-keeps name count is moment false e = record { enrolment = c.enrolment; events = counted_sound name count at.now s.events c.events is.name moment e }
+
+  enrolment-keeps : (asked : EnrolmentOutcome) → KeepsEnrolment asked → IsConsistent (done s session (enrolling s asked)).state
+  enrolment-keeps asked keeps = done-keeps (enrolling s asked) (whole-keeps s.events c.events asked keeps)
 
   consistent : (command : Command) → at.now ≤ last_moment → IsCommand command → IsSession session → IsConsistent (step at s session command).state
   unfolding step
   consistent (commands.Manifest file channel) moment is texts = done-keeps (setting_manifest s session (manifest_of at.files file channel)) (manifest-keeps (manifest_of at.files file channel))
   consistent (commands.Context file) moment is texts = done-keeps (reading_context s session (file_tree file (at.files file))) (file-keeps (file_tree file (at.files file)))
-  consistent (Fetch file) moment is texts = done-keeps (fetching s session (file_tree file (at.files file))) (fetch-keeps (file_tree file (at.files file)))
-  consistent Apply moment is texts = done-keeps (applying at.now s session session.manifest session.context) (apply-keeps moment session.manifest texts.manifest session.context texts.context)
-  consistent (Participate part on) moment is texts = done-keeps (participation s session part on) (participations.consistent s part on c)
-  consistent (OptOut slug) moment is texts = done-keeps (opting_out s session slug) (out-keeps slug is (has_no_room s.opted_out slug) refl)
-  consistent (OptIn slug branch) moment is texts = done-keeps (opting_in s session slug branch) (choosing-keeps slug branch is.0 is.1 (recipe_with slug s.live) refl)
-  consistent (Reset id) moment is texts = done-keeps (resetting s session id) (reset-consistent s id is c)
+  consistent (Fetch file) moment is texts = enrolment-keeps (fetching s.enrolment session (file_tree file (at.files file))) (fetch-keeps (file_tree file (at.files file)))
+  consistent Apply moment is texts =
+      let seen = seeing at.now s.events session.context in
+      enrolment-keeps (applying at.now s.enrolment session session.manifest seen) (apply-keeps moment session.manifest texts.manifest seen (seen-version session.context texts.context))
+  consistent (Participate part on) moment is texts = enrolment-keeps (participation s.enrolment session part on) (participations.consistent s.enrolment part on c.enrolment)
+  consistent (OptOut slug) moment is texts = enrolment-keeps (opting_out s.enrolment session slug) (out-keeps slug is (has_no_room s.enrolment.opted_out slug) refl)
+  consistent (OptIn slug branch) moment is texts = enrolment-keeps (opting_in s.enrolment session slug branch) (choosing-keeps slug branch is.0 is.1 (recipe_with slug s.enrolment.live) refl)
+  consistent (Reset id) moment is texts =
+      done-keeps (whole s [] (resetting s.enrolment session id)) (whole-keeps [] (sound_none [] refl) (resetting s.enrolment session id) (reset-consistent s.enrolment id is c.enrolment))
   consistent Show moment is texts = done-keeps (showing s session) c
   consistent (Feature name) moment is texts = done-keeps (serving s session name session.manifest) (feature-keeps name session.manifest)
+  consistent (Event name count) moment is texts = done-keeps (counting at.now s session name count) (count-keeps name count is moment (has_no_room_for name s.events) refl)
   consistent WriteManifest moment is texts = done-keeps (writing_manifest s session session.manifest) (written-keeps session.manifest)
 
 -- ---- the size
 
-small_at : (s t : State) (session next : Session) (answer : Answer) (large : Bool) → nat_lt max_size (length (spelling t)) ≡ large → length (spelling s) ≤ max_size
+small_at : (s t : ClientState) (session next : Session) (answer : Answer) (large : Bool) → nat_lt max_size (length (spelling t)) ≡ large → length (spelling s) ≤ max_size
     → let to : Step = if large then record { state = s; session = session; answer = StateTooLarge (length (spelling t)) } else record { state = t; session = next; answer = answer } in
     length (spelling to.state) ≤ max_size
 small_at s t session next answer true e small = small
 small_at s t session next answer false e small = ltb-false max_size (length (spelling t)) e
 
-small : (s : State) (session : Session) (asked : Outcome) → length (spelling s) ≤ max_size → length (spelling (done s session asked).state) ≤ max_size
+small : (s : ClientState) (session : Session) (asked : Outcome) → length (spelling s) ≤ max_size → length (spelling (done s session asked).state) ≤ max_size
 small s session (Accepted t next answer) most = small_at s t session next answer (nat_lt max_size (length (spelling t))) refl most
 small s session (Refused answer) most = most
 
-size : (at : Setting) (s : State) (session : Session) (command : Command) → length (spelling s) ≤ max_size → length (spelling (step at s session command).state) ≤ max_size
+size : (at : Setting) (s : ClientState) (session : Session) (command : Command) → length (spelling s) ≤ max_size → length (spelling (step at s session command).state) ≤ max_size
 unfolding step
 size at s session command most = small s session (outcome at s session command) most
 
 -- ---- sound states and lawful sessions
 
-one : (at : Setting) (s : State) (session : Session) (command : Command) → at.now ≤ last_moment → IsCommand command → IsLawful session → IsSound s → IsSound (step at s session command).state × IsLawful (step at s session command).session
+one : (at : Setting) (s : ClientState) (session : Session) (command : Command) → at.now ≤ last_moment → IsCommand command → IsLawful session → IsSound s → IsSound (step at s session command).state × IsLawful (step at s session command).session
 one at s session command moment is lawful sound = (
   record {
     consistent = consistent at s session sound.consistent command moment is (lawful_texts session lawful);
@@ -170,7 +201,7 @@ one at s session command moment is lawful sound = (
   step_keeps_lawful at s session command lawful,
 )
 
-all : (s : State) (session : Session) (lines : List Line) → All IsLine lines → IsLawful session → IsSound s → IsSound (all_after (s, session) lines).0 × IsLawful (all_after (s, session) lines).1
+all : (s : ClientState) (session : Session) (lines : List Line) → All IsLine lines → IsLawful session → IsSound s → IsSound (all_after (s, session) lines).0 × IsLawful (all_after (s, session) lines).1
 all s session [] are lawful sound = (sound, lawful)
 all s session (line ∷ lines) are lawful sound =
     let is = All-head IsLine line lines are in

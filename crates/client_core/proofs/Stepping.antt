@@ -3,7 +3,8 @@ use Rattle.std.proofs.Common.{◌≡◌, List, ap, Some}
 use Rattle.recipe_reader.specs.declared.recipe.Recipe.{Recipe}
 use Rattle.enrol_states.specs.declared.state.State.{State}
 use Rattle.enrol_states.specs.Consistent.{IsConsistent, AreKept}
-use Rattle.client_core.specs.declared.command.Command.{Command}
+use Rattle.client_state.specs.declared.client_state.ClientState.{ClientState}
+use Rattle.client_words.specs.declared.command.Command.{Command}
 use Rattle.client_core.specs.declared.session.Session.{Session}
 use Rattle.client_core.specs.Settings.{Setting}
 use Rattle.client_core.specs.Steps.{Outcome, outcome, done, step}
@@ -34,7 +35,7 @@ pending_consistent s recipes was kept = record {
 
 -- ---- the step of each command
 
-module _ (at : Setting) (s : State) (session : Session) (command : Command) where
+module _ (at : Setting) (s : ClientState) (session : Session) (command : Command) where
   pub step-of : (asked : Outcome) → asked ≡ outcome at s session command → done s session asked ≡ step at s session command
   unfolding step
   step-of asked same = ap (done s session) same

@@ -15,10 +15,10 @@ use Rattle.row_batches.proofs.Walks.{empty_between}
 use Rattle.row_store.specs.Moments.{KeepsEitherRows}
 use Rattle.row_store.specs.Rows.{HasRows, HasKeptRows, HasPlace}
 use Rattle.row_store.specs.Store.{StoredRows, RowsStandWithGate, place}
-use Rattle.enrol_states.specs.declared.state.State.{State}
-use Rattle.state_codec.specs.Sound.{IsSound}
-use Rattle.state_codec.specs.Spelling.{rows_of}
-use Rattle.state_codec.proofs.KeyOrder.{rows_rise}
+use Rattle.client_state.specs.declared.client_state.ClientState.{ClientState}
+use Rattle.client_state.specs.Sound.{IsSound}
+use Rattle.client_state.specs.Spelling.{rows_of}
+use Rattle.client_state.proofs.KeyOrder.{rows_rise}
 use Rattle.client_core.specs.declared.faults.ClientFault.{ClientFault}
 use Rattle.client_core.specs.declared.faults.ClientFault.TheVariants as opening
 use Rattle.client_core.specs.declared.prepared.Change.{Change}
@@ -33,7 +33,7 @@ use Rattle.client_core.proofs.Uniqueness.{one_of_rows}
 
 -- what was kept still has its gate
 pub gate_in : {H : Type 0} (h : Ghosts H) (l r : List ℕ) (host : H) (rows : StoredRows) (result : Result StoredState ClientFault) → IfOk result (λ found. found.rows ≡ rows)
-    → ((others : List StoreRow) → HasKeptRows l r others → RowsStandWithGate h rows host) → IfOk result (λ found. (s : State) → KeptFor l r s → RowsStandWithGate h found.rows host)
+    → ((others : List StoreRow) → HasKeptRows l r others → RowsStandWithGate h rows host) → IfOk result (λ found. (s : ClientState) → KeptFor l r s → RowsStandWithGate h found.rows host)
 gate_in h l r host rows (Ok found) is gate = λ s kept. subst (λ (x : StoredRows). RowsStandWithGate h x host) (sym is) (gate kept.stored kept.rows)
 gate_in h l r host rows (Err fault) is gate = tt
 
@@ -96,7 +96,7 @@ none_applied : (batch : ChangeList) (rows : List StoreRow) → batch.clear ≡ f
 none_applied batch rows keeps none =
     ap (λ (cs : List RowChange). after_changes cs (if batch.clear then [] else rows)) none ∙ ap (λ (clear : Bool). if clear then [] else rows) keeps
 
-module _ (s t : State) (s_sound : IsSound s) (t_sound : IsSound t) (batch : ChangeList) (same : batch ≡ row_changes s t) where
+module _ (s t : ClientState) (s_sound : IsSound s) (t_sound : IsSound t) (batch : ChangeList) (same : batch ≡ row_changes s t) where
   -- where nothing changes, the states are one
   pub same_state : applied batch (rows_of s) ≡ rows_of t → batch.changes ≡ [] → s ≡ t
   same_state gives none = one_of_rows s t s_sound t_sound (sym (none_applied batch (rows_of s) (ap (λ (b : ChangeList). b.clear) same) none) ∙ gives)

@@ -7,12 +7,12 @@ use Rattle.row_batches.specs.Batch.{whole_of, applied}
 use Rattle.row_batches.specs.declared.store_row.StoreRow.{StoreRow}
 use Rattle.row_batches.proofs.Walks.{applied_whole}
 use Rattle.row_store.specs.Folding.{IsBatchOf, Fold}
-use Rattle.enrol_states.specs.declared.state.State.{State}
-use Rattle.state_codec.specs.Sound.{IsSound}
-use Rattle.state_codec.proofs.Forms.{Text, text_of_form, form_rises, form_rule}
+use Rattle.client_state.specs.declared.client_state.ClientState.{ClientState}
+use Rattle.client_state.specs.Sound.{IsSound}
+use Rattle.client_state.proofs.Forms.{Text, text_of_form, form_rises, form_rule}
 use Rattle.client_core.specs.WholeStates.{SpellStates, WholeStatesStand}
 
-module _ (s : State) (sound : IsSound s) (payload : List ℕ) (spelled : Text s payload) where
+module _ (s : ClientState) (sound : IsSound s) (payload : List ℕ) (spelled : Text s payload) where
   -- such a payload is a batch that makes a form of the state of any rows
   is_whole : IsBatchOf payload (whole_of spelled.rows)
   is_whole = record { rules = form_rule s spelled.rows sound spelled.form; bytes = spelled.text }
@@ -20,7 +20,7 @@ module _ (s : State) (sound : IsSound s) (payload : List ℕ) (spelled : Text s 
   makes : (any : List StoreRow) → applied (whole_of spelled.rows) any ≡ spelled.rows
   makes any = applied_whole spelled.rows any (form_rises s spelled.rows sound.consistent spelled.form)
 
-folds : (payloads : List (List ℕ)) (s : State) (last : List ℕ) (before : List StoreRow) → SpellStates payloads → IsSound s → (spelled : Text s last) → Fold (payloads ++ last ∷ []) before spelled.rows
+folds : (payloads : List (List ℕ)) (s : ClientState) (last : List ℕ) (before : List StoreRow) → SpellStates payloads → IsSound s → (spelled : Text s last) → Fold (payloads ++ last ∷ []) before spelled.rows
 folds [] s last before are sound spelled = (whole_of spelled.rows, is_whole s sound last spelled, makes s sound last spelled before)
 folds (payload ∷ payloads) s last before are sound spelled =
     let first = text_of_form are.0.0 payload are.0.2 in

@@ -2,15 +2,15 @@
 use Rattle.std.specs.Prelude.{◌≡◌, ℕ}
 use Rattle.host_model.specs.declared.host.Host.{Ghosts}
 use Rattle.row_store.specs.Store.{RowsStand, RowsStandWithGate, place}
-use Rattle.enrol_states.specs.declared.state.State.{State}
+use Rattle.client_state.specs.declared.client_state.ClientState.{ClientState}
 use Rattle.client_core.specs.declared.client.Client.{Client}
-use Rattle.client_core.specs.declared.command.Command.{Command}
+use Rattle.client_words.specs.declared.command.Command.{Command}
 use Rattle.client_core.specs.declared.session.Session.{Session}
 use Rattle.client_core.specs.Settings.{Setting}
 use Rattle.client_core.specs.Steps.{Step, step}
 use Rattle.client_core.specs.Stored.{IsStored, IsSameStored}
 
-abbrev pub state_of : Client → State
+abbrev pub state_of : Client → ClientState
 state_of client = client.store.state
 
 abbrev pub session_of : Client → Session

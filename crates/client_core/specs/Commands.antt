@@ -3,8 +3,8 @@ use Rattle.std.specs.Prelude.{◌≡◌, ℕ, Bool, true, false, List, [], ◌�
 use Rattle.host_model.specs.declared.shelf.Shelf.{Ghosts}
 use Rattle.host_model.specs.Shelf.{IsReached}
 use Rattle.fml_link.specs.Asked.{BeginWith}
-use Rattle.client_core.specs.declared.command.Command.{Command}
-use Rattle.client_core.specs.declared.command.Command.TheVariants as commands
+use Rattle.client_words.specs.declared.command.Command.{Command}
+use Rattle.client_words.specs.declared.command.Command.TheVariants as commands
 
 abbrev pub names_file : Command → Bool
 names_file (commands.Manifest file channel) = true

@@ -2,8 +2,8 @@
 use Rattle.std.specs.Prelude.{ℕ, nat_lt, nat_le, List, length, Option, None, Some, Result, Ok, Err, if◌then◌else◌}
 use Rattle.json_tree.specs.Json.{Json, depth}
 use Rattle.json_tree.specs.Bytes.{tree_of, max_depth}
-use Rattle.client_core.specs.declared.answer.Answer.{Answer}
-use Rattle.client_core.specs.declared.answer.Answer.TheVariants.{AbsentFile, FileTooLarge, NotJson}
+use Rattle.client_words.specs.declared.answer.Answer.{Answer}
+use Rattle.client_words.specs.declared.answer.Answer.TheVariants.{AbsentFile, FileTooLarge, NotJson}
 
 -- the most bytes of a file
 abbrev pub max_file : ℕ

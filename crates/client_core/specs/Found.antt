@@ -6,26 +6,27 @@ use Rattle.json_tree.specs.declared.tree.Tree.{Tree}
 use Rattle.recipe_reader.specs.declared.payload.Payload.{Payload}
 use Rattle.app_context.specs.declared.context.Context.{Context}
 use Rattle.enrol_states.specs.declared.state.State.{State}
-use Rattle.client_core.specs.declared.answer.Answer.{Answer}
-use Rattle.client_core.specs.declared.answer.Answer.TheVariants.{Fetched}
+use Rattle.client_state.specs.declared.client_state.ClientState.{ClientState}
+use Rattle.client_words.specs.declared.answer.Answer.{Answer}
+use Rattle.client_words.specs.declared.answer.Answer.TheVariants.{Fetched}
 use Rattle.client_core.specs.declared.session.Session.{Session}
-use Rattle.client_core.specs.Steps.{Outcome, Accepted, Refused, context_read}
+use Rattle.client_core.specs.Steps.{EnrolmentOutcome, Outcome, Accepted, Refused, context_read}
 
 -- it is the tree of this reading, or its refusal
 abbrev pub IsTree : Result Tree Answer → Result Json Answer → Type 0
 IsTree (Ok tree) read = read ≡ Ok (json_of tree)
 IsTree (Err refusal) read = read ≡ Err refusal
 
--- the state with these recipes pending, and the answer
-abbrev pub accepted : State → Session → Payload → Outcome
-accepted s session payload = Accepted (record s { pending = Some payload.recipes }) session (Fetched (length payload.recipes) payload.skipped)
+-- the enrolment with these recipes pending, and the answer
+abbrev pub accepted : State → Session → Payload → EnrolmentOutcome
+accepted e session payload = Accepted (record e { pending = Some payload.recipes }) session (Fetched (length payload.recipes) payload.skipped)
 
 -- what is asked for with this payload, or this refusal
-abbrev pub outcome_of : State → Session → Result Payload Answer → Outcome
-outcome_of s session (Ok payload) = accepted s session payload
-outcome_of s session (Err refusal) = Refused refusal
+abbrev pub outcome_of : State → Session → Result Payload Answer → EnrolmentOutcome
+outcome_of e session (Ok payload) = accepted e session payload
+outcome_of e session (Err refusal) = Refused refusal
 
 -- what is asked for with this context, or this refusal
-abbrev pub context_outcome : State → Session → Result Context Answer → Outcome
+abbrev pub context_outcome : ClientState → Session → Result Context Answer → Outcome
 context_outcome s session (Ok context) = context_read s session (Ok context)
 context_outcome s session (Err refusal) = Refused refusal

@@ -2,6 +2,7 @@ pub mod Asked
 pub mod Choosing
 pub mod Clients
 pub mod Commands
+pub mod EventSteps
 pub mod Faults
 pub mod Fetching
 pub mod Finds
@@ -9,6 +10,7 @@ pub mod Found
 pub mod Manifests
 pub mod Migrations
 pub mod Moments
+pub mod NewStates
 pub mod OpenStore
 pub mod Openings
 pub mod OptOuts

@@ -7,8 +7,8 @@ use Rattle.fml_link.specs.Linking.{linked}
 use Rattle.fml_link.specs.declared.fault.LinkRefusal.{LinkRefusal}
 use Rattle.fml_link.specs.declared.fault.LinkRefusal.TheVariants as link
 use Rattle.fml_merge.specs.Faults.{bad_default}
-use Rattle.client_core.specs.declared.answer.Answer.{Answer}
-use Rattle.client_core.specs.declared.answer.Answer.TheVariants.{AbsentFile, FileTooLarge, NotJson, BadShape, TooManyFiles, ImportClash, DuplicateName, UnknownType, EndlessObject, ObjectTooLarge, UnknownChannel, UnknownImport, UnknownOverride, BadDefault}
+use Rattle.client_words.specs.declared.answer.Answer.{Answer}
+use Rattle.client_words.specs.declared.answer.Answer.TheVariants.{AbsentFile, FileTooLarge, NotJson, BadShape, TooManyFiles, ImportClash, DuplicateName, UnknownType, EndlessObject, ObjectTooLarge, UnknownChannel, UnknownImport, UnknownOverride, BadDefault}
 
 -- what is answered where the files don't link
 abbrev pub link_refusal : LinkRefusal → Answer

@@ -4,7 +4,7 @@ use Rattle.host_model.specs.declared.side.Side.{Side}
 use Rattle.host_model.specs.declared.side.Side.TheVariants.{Left, Right}
 use Rattle.host_model.specs.declared.host.Host.{Ghosts}
 use Rattle.host_model.specs.Hosts.{IsDurable}
-use Rattle.enrol_states.specs.declared.state.State.{State}
+use Rattle.client_state.specs.declared.client_state.ClientState.{ClientState}
 use Rattle.client_core.specs.Store.{StandsFor, KeptFor, KeptAmong}
 
 -- each image of either side is what reads give
@@ -12,17 +12,17 @@ abbrev pub IsSettled : {H : Type 0} → Ghosts H → H → Type 0
 IsSettled h host = (side : Side) → IsDurable h host side
 
 -- each pair of images is kept for s
-abbrev pub AllKept : {H : Type 0} → Ghosts H → H → State → Type 0
+abbrev pub AllKept : {H : Type 0} → Ghosts H → H → ClientState → Type 0
 AllKept h host s = (l r : List ℕ) → h.images host Left l → h.images host Right r → KeptFor l r s
 
 -- each for s or for t
-abbrev pub AllKeptEither : {H : Type 0} → Ghosts H → H → State → State → Type 0
+abbrev pub AllKeptEither : {H : Type 0} → Ghosts H → H → ClientState → ClientState → Type 0
 AllKeptEither h host s t = (l r : List ℕ) → h.images host Left l → h.images host Right r → KeptFor l r s ⊎ KeptFor l r t
 
 -- each for one of these states
-abbrev pub AllKeptAmong : {H : Type 0} → Ghosts H → H → List State → Type 0
+abbrev pub AllKeptAmong : {H : Type 0} → Ghosts H → H → List ClientState → Type 0
 AllKeptAmong h host states = (l r : List ℕ) → h.images host Left l → h.images host Right r → KeptAmong l r states
 
 -- each pair of images stands for s
-abbrev pub AllStand : {H : Type 0} → Ghosts H → H → State → Type 0
+abbrev pub AllStand : {H : Type 0} → Ghosts H → H → ClientState → Type 0
 AllStand h host s = (l r : List ℕ) → h.images host Left l → h.images host Right r → StandsFor l r s

@@ -6,8 +6,8 @@ use Rattle.host_model.specs.Hosts.{NowOf, MeetsAll}
 use Rattle.pair_store.specs.Moments.{IsOpening, IsReadOrRepaired}
 use Rattle.pair_store.specs.Moments as sides
 use Rattle.pair_store.specs.Repair.{repair_cost, IsUnwritten, IsLeftByOpening}
-use Rattle.enrol_states.specs.declared.state.State.{State}
-use Rattle.state_codec.specs.Forms.{needs_migration}
+use Rattle.client_state.specs.declared.client_state.ClientState.{ClientState}
+use Rattle.client_state.specs.Forms.{needs_migration}
 use Rattle.client_core.specs.declared.client.Client.{Client}
 use Rattle.client_core.specs.declared.faults.ClientFault.{ClientFault}
 use Rattle.client_core.specs.declared.faults.ClientFault.TheVariants.{NoStore, BadStore, DiskFault, OutOfMemory}
@@ -21,7 +21,7 @@ use Rattle.client_core.specs.Store.{StandsFor, KeptFor, IsAbsent, IsBad}
 
 -- the rows that reads gave at the start are the old form of a state, and are written anew. Where that pair was kept for the state, this one is
 pub record IsMigrating {H : Type 0} (h : Ghosts H) (start : H) (l r u : List ℕ) : Type 0 where
-  pub state : State
+  pub state : ClientState
   pub stands : StandsFor (h.reads start Left) (h.reads start Right) state
   pub old : IsTrue (needs_migration stands.stored)
   pub kept : KeptFor (h.reads start Left) (h.reads start Right) state → KeptFor l r state
@@ -51,13 +51,13 @@ ReadsInPhases h start new result = (IsErrOf result DiskFault × MeetsAll h start
 -- the store is open: the client has the state for which the pair stood that reads gave
 pub record IsOpened {H : Type 0} (h : Ghosts H) (client : Client) (start new : H) : Type 0 where
   pub stands : StandsFor (h.reads start Left) (h.reads start Right) (state_of client)
-  pub known : (s : State) → StandsFor (h.reads start Left) (h.reads start Right) s → state_of client ≡ s
+  pub known : (s : ClientState) → StandsFor (h.reads start Left) (h.reads start Right) s → state_of client ≡ s
   pub open_on : IsOpenOn h client new
   -- each image is what reads give
   pub settled : IsSettled h new
   -- a byte stands where the next record begins, if one stood there before or a migration was needed
-  pub gate : (s : State) → KeptFor (h.reads start Left) (h.reads start Right) s → HasGateOn h client new
-  pub gate_made : (s : State) (found : StandsFor (h.reads start Left) (h.reads start Right) s) → IsTrue (needs_migration found.stored) → HasGateOn h client new
+  pub gate : (s : ClientState) → KeptFor (h.reads start Left) (h.reads start Right) s → HasGateOn h client new
+  pub gate_made : (s : ClientState) (found : StandsFor (h.reads start Left) (h.reads start Right) s) → IsTrue (needs_migration found.stored) → HasGateOn h client new
   -- how many bytes were written, and where the next record begins
   pub bytes : ℕ
   pub opens : OpensWith (h.reads start Left) (h.reads start Right) (state_of client) (end_of client) bytes
@@ -80,8 +80,8 @@ pub record IsUnopened {H : Type 0} (h : Ghosts H) (fault : ClientFault) (start n
   pub finds : OpenFinds (h.reads start Left) (h.reads start Right) fault
   pub leaves : OpenLeaves h start new fault
   -- what the opening would write, at most; and only a repair where no state stands
-  pub most : (s : State) (place bytes : ℕ) → OpensWith (h.reads start Left) (h.reads start Right) s place bytes → h.written new ≤ h.written start + bytes
-  pub none : ((s : State) → StandsFor (h.reads start Left) (h.reads start Right) s → ⊥) → IsOnlyRepaired h start new
+  pub most : (s : ClientState) (place bytes : ℕ) → OpensWith (h.reads start Left) (h.reads start Right) s place bytes → h.written new ≤ h.written start + bytes
+  pub none : ((s : ClientState) → StandsFor (h.reads start Left) (h.reads start Right) s → ⊥) → IsOnlyRepaired h start new
 
 abbrev pub OpenEnds : {H : Type 0} → Ghosts H → H → H → Result Client ClientFault → Type 0
 OpenEnds h start new (Ok client) = IsOpened h client start new
@@ -89,6 +89,6 @@ OpenEnds h start new (Err fault) = IsUnopened h fault start new
 
 -- which answer each pair has, unless the disk failed or memory was wanting
 pub record OpenJudges {T : Type 0} (l r : List ℕ) (result : Result T ClientFault) : Type 0 where
-  pub opened : (s : State) → StandsFor l r s → IsOk result ⊎ OpenFailed result
+  pub opened : (s : ClientState) → StandsFor l r s → IsOk result ⊎ OpenFailed result
   pub no_store : IsAbsent l r → IsErrOf result NoStore ⊎ OpenFailed result
   pub bad_store : IsBad l r → IsErrOf result BadStore ⊎ OpenFailed result

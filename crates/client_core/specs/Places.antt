@@ -3,34 +3,33 @@ use Rattle.std.specs.Prelude.{ℕ, Bool, false, nat_lt, ◌+◌, length, if◌th
 use Rattle.pair_store.specs.declared.mark.TheConstants.{MARK}
 use Rattle.row_batches.specs.Batch.{ChangeList, batch_text}
 use Rattle.row_batches.specs.Between.{between}
-use Rattle.enrol_states.specs.Equal.{state_eq}
-use Rattle.enrol_states.specs.declared.state.State.{State}
-use Rattle.state_codec.specs.Spelling.{rows_of, spelling}
+use Rattle.client_state.specs.declared.client_state.ClientState.{ClientState}
+use Rattle.client_state.specs.Spelling.{rows_of, spelling, state_eq}
 
 -- the changed rows from s to t
-abbrev pub row_changes : State → State → ChangeList
+abbrev pub row_changes : ClientState → ClientState → ChangeList
 row_changes s t = between (rows_of s) (rows_of t)
 
 -- how many bytes they take
-abbrev pub change_size : State → State → ℕ
+abbrev pub change_size : ClientState → ClientState → ℕ
 change_size s t = length (batch_text (row_changes s t))
 
 -- a record of them at this place would end, with the gate behind it, past the mark: byte 33,554,432
-abbrev pub passes_mark : ℕ → State → State → Bool
+abbrev pub passes_mark : ℕ → ClientState → ClientState → Bool
 passes_mark place s t = nat_lt MARK (place + change_size s t + 6)
 
 -- then the whole of t is written, on the other side
-abbrev pub makes_checkpoint : ℕ → State → State → Bool
+abbrev pub makes_checkpoint : ℕ → ClientState → ClientState → Bool
 makes_checkpoint place s t = if state_eq s t then false else passes_mark place s t
 
 -- how many bytes a change from s to t writes at this place: none where there is none
-unfoldable pub bytes_for : ℕ → State → State → ℕ
+unfoldable pub bytes_for : ℕ → ClientState → ClientState → ℕ
 bytes_for place s t = if state_eq s t then 0 else (if passes_mark place s t then length (spelling t) + 16 else change_size s t + 6)
 
 -- where the next record begins then
-unfoldable pub place_after : ℕ → State → State → ℕ
+unfoldable pub place_after : ℕ → ClientState → ClientState → ℕ
 place_after place s t = if state_eq s t then place else (if passes_mark place s t then length (spelling t) + 14 else place + change_size s t + 5)
 
 -- how many bytes the making of a store with this state writes
-abbrev pub making_bytes : State → ℕ
+abbrev pub making_bytes : ClientState → ℕ
 making_bytes s = length (spelling s) + 17

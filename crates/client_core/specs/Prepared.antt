@@ -1,9 +1,9 @@
 -- What contracts see of a step that is prepared.
 use Rattle.std.specs.Prelude.{◌≡◌, ◌≢◌, Bool, false, Option, None, Some}
 use Rattle.row_store.specs.Ready.{IsReadyFor}
-use Rattle.enrol_states.specs.declared.state.State.{State}
-use Rattle.state_codec.specs.Sound.{IsSound}
-use Rattle.client_core.specs.declared.answer.Answer.{Answer}
+use Rattle.client_state.specs.declared.client_state.ClientState.{ClientState}
+use Rattle.client_state.specs.Sound.{IsSound}
+use Rattle.client_words.specs.declared.answer.Answer.{Answer}
 use Rattle.client_core.specs.declared.client.Client.{Client}
 use Rattle.client_core.specs.declared.prepared.Change.{Change}
 use Rattle.client_core.specs.declared.prepared.Prepared.{Prepared}
@@ -14,12 +14,12 @@ use Rattle.client_core.specs.Steps.{Step}
 use Rattle.client_core.specs.Stored.{StoredState}
 
 -- the state of a change, or that of before
-abbrev pub changed : State → Option Change → State
+abbrev pub changed : ClientState → Option Change → ClientState
 changed s None = s
 changed s (Some change) = change.state
 
 -- the state that the step leaves
-abbrev pub next_state : Client → Prepared → State
+abbrev pub next_state : Client → Prepared → ClientState
 next_state client prepared = changed client.store.state prepared.change
 
 -- the session that the step leaves

@@ -5,26 +5,18 @@ use Rattle.json_tree.specs.Json.{Json}
 use Rattle.app_context.specs.Contexts.{context_of}
 use Rattle.app_context.specs.declared.context.Context.{Context}
 use Rattle.enrol_evolver.specs.Evolution.{version_of}
-use Rattle.enrol_states.specs.Consistent.{IsId, IsConsistent}
-use Rattle.enrol_states.specs.Statuses.{last_moment, IsSlug}
-use Rattle.enrol_states.specs.declared.state.State.{State}
-use Rattle.state_codec.specs.Sound.{max_size, IsSound}
-use Rattle.state_codec.specs.Spelling.{spelling}
+use Rattle.enrol_states.specs.Statuses.{last_moment}
+use Rattle.client_state.specs.declared.client_state.ClientState.{ClientState}
+use Rattle.client_state.specs.Sound.{max_size, IsConsistent, IsSound}
+use Rattle.client_state.specs.Spelling.{spelling}
 use Rattle.fml_types.specs.declared.manifest.Manifest.{Manifest}
-use Rattle.client_core.specs.declared.command.Command.{Command}
-use Rattle.client_core.specs.declared.command.Command.TheVariants.{OptOut, OptIn, Reset}
+use Rattle.client_words.specs.declared.command.Command.{Command}
+use Rattle.client_words.specs.Commands.{IsCommand}
 use Rattle.client_core.specs.declared.session.Session.{Session}
 use Rattle.client_core.specs.Manifests.{IsLinked, manifest_of}
 use Rattle.client_core.specs.Sessions.{no_session}
 use Rattle.client_core.specs.Settings.{Setting}
 use Rattle.client_core.specs.Steps.{step}
-
--- what the types of a command's parts keep: slugs are slugs, and an id has sixteen bytes
-abbrev pub IsCommand : Command → Type 0
-IsCommand (OptOut slug) = IsSlug slug
-IsCommand (OptIn slug branch) = IsSlug slug × IsSlug branch
-IsCommand (Reset id) = IsId id
-IsCommand command = Unit {0}
 
 -- what the type of a context's texts keeps, of the one that an apply puts into the state
 abbrev pub HasVersion : Option Context → Type 0
@@ -74,16 +66,16 @@ abbrev pub IsLine : Line → Type 0
 IsLine line = (line.0.now ≤ last_moment) × IsCommand line.1
 
 -- the state and the session that these commands leave
-abbrev pub all_after : State × Session → List Line → State × Session
+abbrev pub all_after : ClientState × Session → List Line → ClientState × Session
 all_after run [] = run
 all_after run (line ∷ lines) = let to = step line.0 run.0 run.1 line.1 in all_after (to.state, to.session) lines
 
 -- a step from a sound state and a lawful session gives such a state and such a session, and so do many; each part keeps itself, where the others may not hold
 pub record StepsStaySound : Type 0 where
-  pub one : (at : Setting) (s : State) (session : Session) (command : Command) → at.now ≤ last_moment → IsCommand command → IsLawful session → IsSound s → IsSound (step at s session command).state × IsLawful (step at s session command).session
-  pub all : (s : State) (session : Session) (lines : List Line) → All IsLine lines → IsLawful session → IsSound s → IsSound (all_after (s, session) lines).0 × IsLawful (all_after (s, session) lines).1
-  pub session : (at : Setting) (s : State) (session : Session) (command : Command) → IsLawful session → IsLawful (step at s session command).session
+  pub one : (at : Setting) (s : ClientState) (session : Session) (command : Command) → at.now ≤ last_moment → IsCommand command → IsLawful session → IsSound s → IsSound (step at s session command).state × IsLawful (step at s session command).session
+  pub all : (s : ClientState) (session : Session) (lines : List Line) → All IsLine lines → IsLawful session → IsSound s → IsSound (all_after (s, session) lines).0 × IsLawful (all_after (s, session) lines).1
+  pub session : (at : Setting) (s : ClientState) (session : Session) (command : Command) → IsLawful session → IsLawful (step at s session command).session
   pub begun : IsLawful no_session
-  pub consistent : (at : Setting) (s : State) (session : Session) (command : Command) → at.now ≤ last_moment → IsCommand command → IsSession session → IsConsistent s → IsConsistent (step at s session command).state
-  pub texts : (at : Setting) (s : State) (session : Session) (command : Command) → IsSession session → IsSession (step at s session command).session
-  pub size : (at : Setting) (s : State) (session : Session) (command : Command) → length (spelling s) ≤ max_size → length (spelling (step at s session command).state) ≤ max_size
+  pub consistent : (at : Setting) (s : ClientState) (session : Session) (command : Command) → at.now ≤ last_moment → IsCommand command → IsSession session → IsConsistent s → IsConsistent (step at s session command).state
+  pub texts : (at : Setting) (s : ClientState) (session : Session) (command : Command) → IsSession session → IsSession (step at s session command).session
+  pub size : (at : Setting) (s : ClientState) (session : Session) (command : Command) → length (spelling s) ≤ max_size → length (spelling (step at s session command).state) ≤ max_size

@@ -1,15 +1,15 @@
 -- How contracts see a state and the store that holds it.
 use Rattle.std.specs.Prelude.{◌≡◌}
 use Rattle.row_store.specs.Store.{StoredRows}
-use Rattle.enrol_states.specs.declared.state.State.{State}
-use Rattle.state_codec.specs.Forms.{IsForm}
-use Rattle.state_codec.specs.Sound.{IsSound}
-use Rattle.state_codec.specs.Spelling.{rows_of}
+use Rattle.client_state.specs.declared.client_state.ClientState.{ClientState}
+use Rattle.client_state.specs.Forms.{IsForm}
+use Rattle.client_state.specs.Sound.{IsSound}
+use Rattle.client_state.specs.Spelling.{rows_of}
 
 -- the rows that are stored, and the state whose rows they are
 pub record StoredState : Type 0 where
   pub rows : StoredRows
-  pub state : State
+  pub state : ClientState
 
 -- what each keeps: the state is sound, and these are its rows
 pub record IsStored (stored : StoredState) : Type 0 where

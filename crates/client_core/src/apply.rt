@@ -1,4 +1,4 @@
-// `apply`: enrolments follow the recipes.
+// `apply`: enrolments follow the recipes. Targeting sees the counts of events at the moment.
 ghost use Rattle.std.specs.Prelude.{◌≡◌, ◌≤◌, ℕ, List, count_by, IfOk};
 ghost use Rattle.app_context.specs.declared.context.Context.{Context};
 ghost use Rattle.enrol_evolver.specs.Evolution.{evolution};
@@ -7,11 +7,12 @@ ghost use Rattle.enrol_states.specs.Statuses.{is_enrolled};
 ghost use Rattle.jexl_transforms.specs.Table.{HasStandardNames};
 ghost use Rattle.state_codec.specs.RecipeLists.{HasLists};
 ghost use Rattle.client_core.specs.Asked.{asked_outcome, FollowsFrom};
-ghost use Rattle.client_core.specs.Steps.{applying, applied_answer};
+ghost use Rattle.client_core.specs.Steps.{applying, applied_answer, enrolling, seeing};
 
-use crate::answer::Answer;
 use crate::asked::Asked;
 use crate::client::Client;
+use app_context::with_events;
+use client_words::Answer;
 use enrol_evolver::evolve;
 use enrol_states::{Row, State};
 use jexl_transforms::TransformTable;
@@ -31,7 +32,7 @@ impl Client {
         requires moment { now ≤ last_moment }
         requires table { HasStandardNames table.now }
         ensures asks { IfOk result (λ asked. asked_outcome (state_of self.now) (session_of self.now) asked
-            ≡ applying now (state_of self.now) (session_of self.now) (session_of self.now).manifest (session_of self.now).context) }
+            ≡ enrolling (state_of self.now) (applying now (state_of self.now).enrolment (session_of self.now) (session_of self.now).manifest (seeing now (state_of self.now).events (session_of self.now).context))) }
         ensures follows { IfOk result (λ asked. FollowsFrom (state_of self.now) asked) }
     {
         let Some(linked) = &self.session.manifest else {
@@ -40,15 +41,12 @@ impl Client {
         let Some(context) = &self.session.context else {
             return Ok(Asked::Refused(Answer::NoContext));
         };
+        let context = with_events(context, &self.events().view(alloc, now)?)?;
         let coenrolling = linked.coenrolling(alloc)?;
-        let next = evolve(alloc, self.state(), context, coenrolling, table, now)?;
-        let recipes = applied_lists(self.state());
+        let next = evolve(alloc, self.enrolment(), &context, coenrolling, table, now)?;
+        let recipes = applied_lists(self.enrolment());
         let answer = applied_answer(&next);
-        Ok(Asked::NewState {
-            next,
-            recipes,
-            answer,
-        })
+        Ok(Asked::enrolled(next, recipes, answer))
     }
 }
 

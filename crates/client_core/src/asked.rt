@@ -1,8 +1,10 @@
 // What a command asks for.
 ghost use Rattle.std.specs.Prelude.{◌≡◌};
+ghost use Rattle.client_state.specs.Changes.{of_enrolment};
 
-use crate::answer::Answer;
 use crate::session::SessionChange;
+use client_state::StateChange;
+use client_words::Answer;
 use enrol_states::State;
 use state_codec::RecipeLists;
 
@@ -11,8 +13,7 @@ use state_codec::RecipeLists;
 pub(crate) enum Asked {
     /// A new state, in the same session.
     NewState {
-        next: State,
-        recipes: RecipeLists,
+        change: StateChange,
         answer: Answer,
     },
     /// The same state.
@@ -25,6 +26,16 @@ pub(crate) enum Asked {
 }
 
 impl Asked {
+    /// A new enrolment, in the same session.
+    pub(crate) fn enrolled(enrolment: State, recipes: RecipeLists, answer: Answer) -> Asked
+        ensures { result ≡ Asked.NewState (of_enrolment enrolment recipes) answer }
+    {
+        Asked::NewState {
+            change: StateChange::of_enrolment(enrolment, recipes),
+            answer,
+        }
+    }
+
     /// All stays as it is.
     pub(crate) fn same(answer: Answer) -> Asked
         ensures { result ≡ Asked.SameState SessionChange.Stays answer }

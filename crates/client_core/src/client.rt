@@ -4,7 +4,7 @@ ghost use Rattle.gate_journal.specs.Costs.{HasCost};
 ghost use Rattle.host_model.specs.Causes.{HasCause};
 ghost use Rattle.host_model.specs.Hosts.{MeetsAll};
 ghost use Rattle.pair_store.specs.Moments.{StaysBelow};
-ghost use Rattle.state_codec.specs.Sound.{IsSound};
+ghost use Rattle.client_state.specs.Sound.{IsConsistent, IsSound};
 ghost use Rattle.client_core.specs.Moments.{WhileWritten};
 ghost use Rattle.client_core.specs.OpenStore.{IsSettled, AllKept, AllKeptEither, AllStand};
 ghost use Rattle.client_core.specs.Places.{place_after, bytes_for, makes_checkpoint};
@@ -13,7 +13,9 @@ ghost use Rattle.client_core.specs.Sessions.{changed_by};
 use crate::prepared::{Change, Prepared};
 use crate::session::{Session, SessionChange};
 use crate::state_store::StateStore;
+use client_state::ClientState;
 use enrol_states::State;
+use event_counts::Counts;
 use host_model::{DiskFailed, Host};
 
 /// A client: its state with the store that holds it, and the session of the run.
@@ -31,11 +33,27 @@ impl Client {
     ghost use Rattle.client_core.specs.Prepared.{IsMadeOn, IsChangeOf, next_state, next_session, is_checkpoint};
 
     /// The state. It takes no memory.
-    pub fn state(&self) -> &State
+    pub fn state(&self) -> &ClientState
         ensures state { result.now ≡ state_of self.now }
         ensures sound { IsSound (state_of self.now) }
     {
         self.store.state()
+    }
+
+    /// The counts of events. It takes no memory.
+    pub fn events(&self) -> &Counts
+        ensures events { result.now ≡ (state_of self.now).events }
+        ensures consistent { IsConsistent (state_of self.now) }
+    {
+        &self.state().events
+    }
+
+    /// The enrolment. It takes no memory.
+    pub(crate) fn enrolment(&self) -> &State
+        ensures enrolment { result.now ≡ (state_of self.now).enrolment }
+        ensures consistent { IsConsistent (state_of self.now) }
+    {
+        &self.state().enrolment
     }
 
     /// Takes a prepared step over: the changed rows are written, where there are some. It takes no memory, and makes no call

@@ -3,19 +3,19 @@ ghost use Rattle.std.specs.Prelude.{◌≡◌, ◌≤◌, List, ℕ, IfOk, IsErr
 ghost use Rattle.json_tree.specs.Tree.{json_of};
 ghost use Rattle.host_model.specs.Causes.{Rose};
 ghost use Rattle.app_context.specs.Contexts.{context_of};
-ghost use Rattle.enrol_states.specs.declared.state.State.{State};
+ghost use Rattle.client_state.specs.declared.client_state.ClientState.{ClientState};
 ghost use Rattle.client_core.specs.declared.session.Session.{Session};
 ghost use Rattle.client_core.specs.Asked.{asked_outcome, FollowsFrom};
 ghost use Rattle.client_core.specs.Fetching.{file_tree};
 ghost use Rattle.client_core.specs.Found.{context_outcome};
 ghost use Rattle.client_core.specs.Steps.{context_read, reading_context};
 
-use crate::answer::Answer;
 use crate::asked::Asked;
 use crate::faults::StepFault;
 use crate::files::read_tree;
 use crate::session::SessionChange;
 use app_context::{Context, ContextFault, read_context};
+use client_words::Answer;
 use host_model::Shelf;
 use json_tree::Tree;
 use sequences::Text;
@@ -27,9 +27,9 @@ pub(crate) fn reading_context<F: Shelf>(
     shelf: &mut F,
     file: &Text,
 ) -> Result<Asked, StepFault>
-    ensures asks { F.tells → IfOk result (λ asked. (s : State) (session : Session)
+    ensures asks { F.tells → IfOk result (λ asked. (s : ClientState) (session : Session)
         → asked_outcome s session asked ≡ reading_context s session (file_tree file.now (F.file shelf.old file.now))) }
-    ensures follows { IfOk result (λ asked. (s : State) → FollowsFrom s asked) }
+    ensures follows { IfOk result (λ asked. (s : ClientState) → FollowsFrom s asked) }
     ensures files { F.tells → (name : List ℕ) → F.file shelf.new name ≡ F.file shelf.old name }
     ensures asked { F.asks shelf.old file.now shelf.new }
     ensures cause { IsErrOf result StepFault.ShelfFault → Rose (F.faults shelf.old) (F.faults shelf.new) }
@@ -50,7 +50,7 @@ fn read_context_file<F: Shelf>(
     shelf: &mut F,
     name: &Text,
 ) -> Result<Result<Context, Answer>, StepFault>
-    ensures found { F.tells → IfOk result (λ found. (s : State) (session : Session)
+    ensures found { F.tells → IfOk result (λ found. (s : ClientState) (session : Session)
         → reading_context s session (file_tree name.now (F.file shelf.old name.now)) ≡ context_outcome s session found) }
     ensures files { F.tells → (other : List ℕ) → F.file shelf.new other ≡ F.file shelf.old other }
     ensures asked { F.asks shelf.old name.now shelf.new }
@@ -65,7 +65,7 @@ fn read_context_file<F: Shelf>(
 
 /// The context of a tree, or the refusal of the command.
 fn context_in(alloc: Global, tree: &Tree) -> Result<Result<Context, Answer>, AllocError>
-    ensures { IfOk result (λ found. (s : State) (session : Session) → context_read s session (context_of (json_of tree.now)) ≡ context_outcome s session found) }
+    ensures { IfOk result (λ found. (s : ClientState) (session : Session) → context_read s session (context_of (json_of tree.now)) ≡ context_outcome s session found) }
 {
     match read_context(alloc, tree) {
         Ok(context) => Ok(Ok(context)),

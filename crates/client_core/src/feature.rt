@@ -1,13 +1,13 @@
 // What a feature has.
 ghost use Rattle.std.specs.Prelude.{◌≡◌, IfOk};
-ghost use Rattle.client_core.specs.declared.command.Command.TheVariants.{Feature};
+ghost use Rattle.client_words.specs.declared.command.Command.TheVariants.{Feature};
 ghost use Rattle.client_core.specs.Asked.{asked_outcome, answer_for, FollowsFrom};
 ghost use Rattle.client_core.specs.ServedValues.{IsTyped};
 ghost use Rattle.client_core.specs.Steps.{serving};
 
-use crate::answer::Answer;
 use crate::asked::Asked;
 use crate::client::Client;
+use client_words::Answer;
 use feature_serving::{ServeFault, served};
 use fml_value::to_tree;
 use sequences::Text;
@@ -26,7 +26,7 @@ impl Client {
         let Some(linked) = &self.session.manifest else {
             return Ok(Asked::Refused(Answer::NoManifest));
         };
-        match served(alloc, linked.manifest(), self.state(), name.as_str()) {
+        match served(alloc, linked.manifest(), self.enrolment(), name.as_str()) {
             Ok(value) => {
                 let tree = to_tree(alloc, &value)?;
                 Ok(Asked::same(Answer::Value(tree)))

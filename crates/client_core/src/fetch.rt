@@ -4,18 +4,19 @@ ghost use Rattle.json_tree.specs.Tree.{json_of};
 ghost use Rattle.recipe_reader.specs.Payloads.{payload_of};
 ghost use Rattle.host_model.specs.Causes.{Rose};
 ghost use Rattle.enrol_states.specs.declared.state.State.{State};
-ghost use Rattle.enrol_states.specs.Consistent.{IsConsistent, AreKept};
+ghost use Rattle.enrol_states.specs.Consistent.{AreKept};
+ghost use Rattle.client_state.specs.Sound.{IsConsistent};
 ghost use Rattle.client_core.specs.declared.session.Session.{Session};
 ghost use Rattle.client_core.specs.Asked.{asked_outcome, FollowsFrom};
 ghost use Rattle.client_core.specs.Fetching.{file_tree};
 ghost use Rattle.client_core.specs.Found.{accepted, outcome_of};
-ghost use Rattle.client_core.specs.Steps.{fetched, fetching};
+ghost use Rattle.client_core.specs.Steps.{fetched, fetching, enrolling};
 
-use crate::answer::Answer;
 use crate::asked::Asked;
 use crate::faults::StepFault;
 use crate::files::read_tree;
-use enrol_states::State;
+use client_state::ClientState;
+use client_words::Answer;
 use host_model::Shelf;
 use json_tree::Tree;
 use recipe_reader::{Payload, PayloadFault, read_payload};
@@ -26,13 +27,13 @@ use std::alloc::{AllocError, Global};
 /// What `fetch` asks for in this state.
 pub(crate) fn fetching<F: Shelf>(
     alloc: Global,
-    state: &State,
+    state: &ClientState,
     shelf: &mut F,
     file: &Text,
 ) -> Result<Asked, StepFault>
     requires { IsConsistent state.now }
     ensures asks { F.tells → IfOk result (λ asked. (session : Session)
-        → asked_outcome state.now session asked ≡ fetching state.now session (file_tree file.now (F.file shelf.old file.now))) }
+        → asked_outcome state.now session asked ≡ enrolling state.now (fetching state.now.enrolment session (file_tree file.now (F.file shelf.old file.now)))) }
     ensures follows { IfOk result (λ asked. FollowsFrom state.now asked) }
     ensures files { F.tells → (name : List ℕ) → F.file shelf.new name ≡ F.file shelf.old name }
     ensures asked { F.asks shelf.old file.now shelf.new }
@@ -46,21 +47,18 @@ pub(crate) fn fetching<F: Shelf>(
 }
 
 /// The state with the recipes of a payload pending.
-fn with_pending(state: &State, payload: Payload) -> Result<Asked, AllocError>
+fn with_pending(state: &ClientState, payload: Payload) -> Result<Asked, AllocError>
     requires consistent { IsConsistent state.now }
     requires kept { AreKept payload.recipes }
-    ensures asks { IfOk result (λ asked. (session : Session) → asked_outcome state.now session asked ≡ accepted state.now session payload) }
+    ensures asks { IfOk result (λ asked. (session : Session) → asked_outcome state.now session asked ≡ enrolling state.now (accepted state.now.enrolment session payload)) }
     ensures follows { IfOk result (λ asked. FollowsFrom state.now asked) }
 {
     let Payload { recipes, skipped } = payload;
     let kept = recipes.as_slice().len() as u32;
-    let mut next = state.clone()?;
+    let mut next = state.enrolment.clone()?;
     next.pending = Some(recipes);
-    Ok(Asked::NewState {
-        next,
-        recipes: RecipeLists::LiveAsBefore,
-        answer: Answer::Fetched { kept, skipped },
-    })
+    let answer = Answer::Fetched { kept, skipped };
+    Ok(Asked::enrolled(next, RecipeLists::LiveAsBefore, answer))
 }
 
 /// The payload of the file of this name, or the refusal of the command.
@@ -69,8 +67,8 @@ fn fetch<F: Shelf>(
     shelf: &mut F,
     name: &Text,
 ) -> Result<Result<Payload, Answer>, StepFault>
-    ensures found { F.tells → IfOk result (λ found. (s : State) (session : Session)
-        → fetching s session (file_tree name.now (F.file shelf.old name.now)) ≡ outcome_of s session found) }
+    ensures found { F.tells → IfOk result (λ found. (e : State) (session : Session)
+        → fetching e session (file_tree name.now (F.file shelf.old name.now)) ≡ outcome_of e session found) }
     ensures kept { IfOk result (λ found. IfOk found (λ payload. AreKept payload.recipes)) }
     ensures files { F.tells → (other : List ℕ) → F.file shelf.new other ≡ F.file shelf.old other }
     ensures asked { F.asks shelf.old name.now shelf.new }
@@ -85,7 +83,7 @@ fn fetch<F: Shelf>(
 
 /// The payload of a tree, or the refusal of the command.
 fn payload_in(alloc: Global, tree: &Tree) -> Result<Result<Payload, Answer>, AllocError>
-    ensures found { IfOk result (λ found. (s : State) (session : Session) → fetched s session (payload_of (json_of tree.now)) ≡ outcome_of s session found) }
+    ensures found { IfOk result (λ found. (e : State) (session : Session) → fetched e session (payload_of (json_of tree.now)) ≡ outcome_of e session found) }
     ensures kept { IfOk result (λ found. IfOk found (λ payload. AreKept payload.recipes)) }
 {
     match read_payload(alloc, tree) {

@@ -5,8 +5,8 @@ ghost use Rattle.host_model.specs.Causes.{Rose};
 ghost use Rattle.client_core.specs.Fetching.{shallow_tree, file_tree};
 ghost use Rattle.client_core.specs.Found.{IsTree};
 
-use crate::answer::Answer;
 use crate::faults::StepFault;
+use client_words::Answer;
 use host_model::{Shelf, ShelfAnswer};
 use json_tree::{Tree, TreeFault, read};
 use sequences::Text;

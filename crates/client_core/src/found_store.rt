@@ -9,10 +9,10 @@ ghost use Rattle.pair_store.specs.Repair.{repair_cost, IsUnwritten, IsLeftByOpen
 ghost use Rattle.pair_store.specs.Store.{IsClosedOn};
 ghost use Rattle.row_store.specs.Rows.{HasRows, HasPlace};
 ghost use Rattle.row_store.specs.Store.{RowsStand, RowsStandWithGate, place};
-ghost use Rattle.enrol_states.specs.declared.state.State.{State};
-ghost use Rattle.state_codec.specs.Forms.{IsForm, IsOldForm, needs_migration};
-ghost use Rattle.state_codec.specs.Sound.{IsSound};
-ghost use Rattle.state_codec.specs.Spelling.{rows_of};
+ghost use Rattle.client_state.specs.declared.client_state.ClientState.{ClientState};
+ghost use Rattle.client_state.specs.Forms.{IsForm, IsOldForm, needs_migration};
+ghost use Rattle.client_state.specs.Sound.{IsSound};
+ghost use Rattle.client_state.specs.Spelling.{rows_of};
 ghost use Rattle.client_core.specs.Migrations.{migration_bytes, place_migrated, opening_bytes, place_opened};
 ghost use Rattle.client_core.specs.Moments.{IsLeftAs};
 ghost use Rattle.client_core.specs.Openings.{ReadsInPhases};
@@ -22,9 +22,10 @@ ghost use Rattle.client_core.specs.Stored.{IsStored, IsFound};
 use crate::faults::ClientFault;
 use crate::sized_state::SizedState;
 use crate::state_store::StateStore;
+use client_state::{client_state_of, migration, needs_migration};
 use host_model::Host;
 use row_store::RowStore;
-use state_codec::{CodecFault, migration, needs_migration, state_of};
+use state_codec::CodecFault;
 use std::alloc::Global;
 use std::marker::Model;
 
@@ -54,7 +55,7 @@ impl FoundStore {
     pub(crate) fn open<H: Host>(alloc: Global, host: &mut H) -> Result<FoundStore, ClientFault>
         ensures opened { H.tells → IfOk result (λ found. RowsStand H.Host found.rows host.new) }
         ensures found { IfOk result IsFound }
-        ensures gate { H.tells → IfOk result (λ found. (s : State) → KeptFor (H.reads host.old Left) (H.reads host.old Right) s → RowsStandWithGate H.Host found.rows host.new) }
+        ensures gate { H.tells → IfOk result (λ found. (s : ClientState) → KeptFor (H.reads host.old Left) (H.reads host.old Right) s → RowsStandWithGate H.Host found.rows host.new) }
         ensures place { H.tells → IfOk result (λ found. HasPlace (H.reads host.old Left) (H.reads host.old Right) (place found.rows)) }
         ensures rows { H.tells → IfOk result (λ found. HasRows (H.reads host.old Left) (H.reads host.old Right) found.rows.rows) }
         ensures no_store { H.tells → IsErrOf result ClientFault.NoStore → IsAbsent (H.reads host.old Left) (H.reads host.old Right) }
@@ -115,10 +116,10 @@ impl FoundStore {
 fn state_in(alloc: Global, rows: RowStore) -> Result<FoundStore, ClientFault>
     ensures rows { IfOk result (λ found. found.rows ≡ rows) }
     ensures found { IfOk result IsFound }
-    ensures none { IsErrOf result ClientFault.BadStore → (s : State) → IsSound s → IsForm s rows.rows → ⊥ }
+    ensures none { IsErrOf result ClientFault.BadStore → (s : ClientState) → IsSound s → IsForm s rows.rows → ⊥ }
     ensures no_other { (IsErrOf result ClientFault.NoStore → ⊥) × (IsErrOf result ClientFault.DiskFault → ⊥) }
 {
-    match state_of(alloc, rows.rows()) {
+    match client_state_of(alloc, rows.rows()) {
         Ok(state) => Ok(FoundStore {
             rows,
             state: SizedState::new(state),

@@ -1,6 +1,7 @@
 // The laws of stores. Each function does nothing: its contract is the law.
 ghost use Rattle.std.specs.Prelude.{◌≡◌, ℕ, List};
-ghost use Rattle.enrol_states.specs.declared.state.State.{State};
+ghost use Rattle.client_state.specs.declared.client_state.ClientState.{ClientState};
+ghost use Rattle.client_core.specs.EventSteps.{EventsFollow};
 ghost use Rattle.client_core.specs.OptOuts.{OptOutsHold};
 ghost use Rattle.client_core.specs.ServedValues.{ValuesAreServed, ValuesHaveTypes};
 ghost use Rattle.client_core.specs.Soundness.{StepsStaySound};
@@ -9,8 +10,8 @@ ghost use Rattle.client_core.specs.WholeStates.{WholeStatesStand};
 
 /// A pair of sides stands for one state at most, and so it is kept for one at most.
 pub fn one_state()
-    ensures stands { (l r : List ℕ) (s t : State) → StandsFor l r s → StandsFor l r t → s ≡ t }
-    ensures kept { (l r : List ℕ) (s t : State) → KeptFor l r s → KeptFor l r t → s ≡ t }
+    ensures stands { (l r : List ℕ) (s t : ClientState) → StandsFor l r s → StandsFor l r t → s ≡ t }
+    ensures kept { (l r : List ℕ) (s t : ClientState) → KeptFor l r s → KeptFor l r t → s ≡ t }
 {}
 
 /// A slug stays opted out, and so nothing of it is enrolled, until a command that is done brings it back: an opt-in of
@@ -24,6 +25,11 @@ pub fn opt_outs_hold()
 /// their kinds, their features or what may be shared. Nothing is asked of what files hold.
 pub fn steps_stay_sound()
     ensures { StepsStaySound }
+{}
+
+/// A step counts an event that it answers `Okay`, forgets the counts at a reset that it answers so, and else leaves them.
+pub fn events_follow()
+    ensures { EventsFollow }
 {}
 
 /// A step is answered a value only where it asks for a feature, and that is the tree of the value which the session's

@@ -2,12 +2,11 @@
 //! answered. The store holds the rows of the state, and a command writes the rows that it changes.
 #![tactic(auto)]
 
-mod answer;
 mod apply;
 mod asked;
 mod client;
-mod command;
 mod context;
+mod event;
 mod faults;
 mod feature;
 mod fetch;
@@ -30,13 +29,11 @@ mod sized_state;
 mod state_store;
 mod write_manifest;
 
-pub use answer::Answer;
 pub use client::Client;
-pub use command::Command;
 pub use faults::{ClientFault, MakeFault, StepFault};
 pub use laws::{
-    one_state, opt_outs_hold, steps_stay_sound, values_are_served, values_have_types,
-    whole_states_stand,
+    events_follow, one_state, opt_outs_hold, steps_stay_sound, values_are_served,
+    values_have_types, whole_states_stand,
 };
 pub use prepared::Prepared;
 pub use session::Session;

@@ -6,14 +6,15 @@ ghost use Rattle.host_model.specs.Causes.{Rose};
 ghost use Rattle.host_model.specs.Hosts.{MeetsAll};
 ghost use Rattle.pair_store.specs.Moments.{IsOpening, StaysBelow};
 ghost use Rattle.pair_store.specs.Repair.{repair_cost, IsLeftByOpening};
-ghost use Rattle.enrol_states.specs.declared.state.State.{State};
-ghost use Rattle.enrol_states.specs.State.{fresh, last_moment};
+ghost use Rattle.client_state.specs.declared.client_state.ClientState.{ClientState};
+ghost use Rattle.enrol_states.specs.State.{last_moment};
 ghost use Rattle.row_store.specs.Rows.{HasRows};
 ghost use Rattle.row_batches.specs.Batch.{whole_of, applied, batch_text};
-ghost use Rattle.state_codec.specs.Sound.{IsSound};
-ghost use Rattle.state_codec.specs.Spelling.{rows_of, spelling};
+ghost use Rattle.client_state.specs.Sound.{IsSound};
+ghost use Rattle.client_state.specs.Spelling.{rows_of, spelling};
 ghost use Rattle.client_core.specs.Finds.{MakeFinds, MakeFailed};
 ghost use Rattle.client_core.specs.Moments.{IsQuiet, IsLeftAmong};
+ghost use Rattle.client_core.specs.NewStates.{fresh};
 ghost use Rattle.client_core.specs.OpenStore.{AllKept, AllKeptAmong, IsSettled};
 ghost use Rattle.client_core.specs.Places.{making_bytes};
 ghost use Rattle.client_core.specs.Store.{IsStore, IsAbsent, IsBad};
@@ -21,11 +22,11 @@ ghost use Rattle.client_core.specs.Store.{IsStore, IsAbsent, IsBad};
 use crate::client::Client;
 use crate::faults::{ClientFault, MakeFault};
 use crate::found_store::FoundStore;
+use client_state::{ClientState, whole_batch};
 use enrol_states::State;
 use host_model::Host;
 use row_batches::Batch;
 use row_store::RowStore;
-use state_codec::whole_batch;
 use std::alloc::{AllocError, Global};
 use uuid::Uuid;
 
@@ -58,7 +59,7 @@ impl Client {
         ensures memory { IsErrOf result MakeFault.OutOfMemory → H.tells → MeetsAll H.Host host.old host.new (IsOpening H.Host host.old) }
         ensures memory_cost { IsErrOf result MakeFault.OutOfMemory → H.tells
             → H.written host.new ≤ H.written host.old + repair_cost (H.reads host.old Left) (H.reads host.old Right) }
-        ensures left { H.tells → (states : List State) → AllKeptAmong H.Host host.old states
+        ensures left { H.tells → (states : List ClientState) → AllKeptAmong H.Host host.old states
             → MeetsAll H.Host host.old host.new (IsLeftAmong (H.said host.old) states) }
 
         ensures cost { H.tells → IsAbsent (H.reads host.old Left) (H.reads host.old Right)
@@ -89,6 +90,7 @@ fn first_rows(alloc: Global, id: Uuid, now: u64) -> Result<Batch, AllocError>
     ensures text { IfOk result (λ batch. batch_text batch ≡ spelling (fresh id now)) }
     ensures gives { IfOk result (λ batch. applied batch [] ≡ rows_of (fresh id now)) }
 {
-    let state = State::new(alloc, id, now);
+    let enrolment = State::new(alloc, id, now);
+    let state = ClientState::new(alloc, enrolment);
     whole_batch(alloc, &state)
 }

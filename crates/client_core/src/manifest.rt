@@ -4,17 +4,17 @@ ghost use Rattle.host_model.specs.Causes.{Rose};
 ghost use Rattle.fml_types.specs.Sound.{IsSoundManifest};
 ghost use Rattle.fml_link.specs.Asked.{IsAskedFrom};
 ghost use Rattle.fml_merge.specs.Faults.{bad_default};
-ghost use Rattle.enrol_states.specs.declared.state.State.{State};
+ghost use Rattle.client_state.specs.declared.client_state.ClientState.{ClientState};
 ghost use Rattle.client_core.specs.declared.session.Session.{Session};
 ghost use Rattle.client_core.specs.Asked.{asked_outcome, FollowsFrom};
 ghost use Rattle.client_core.specs.Manifests.{link_refusal, where_fits, manifest_of};
 ghost use Rattle.client_core.specs.Steps.{setting_manifest};
 
-use crate::answer::Answer;
 use crate::asked::Asked;
 use crate::faults::StepFault;
 use crate::linked_manifest::LinkedManifest;
 use crate::session::SessionChange;
+use client_words::Answer;
 use fml_link::{LinkFault, LinkRefusal, link};
 use fml_merge::{DefaultFault, check_defaults};
 use fml_types::Manifest;
@@ -29,9 +29,9 @@ pub(crate) fn setting_manifest<F: Shelf>(
     file: &Text,
     channel: &Text,
 ) -> Result<Asked, StepFault>
-    ensures asks { F.tells → IfOk result (λ asked. (s : State) (session : Session)
+    ensures asks { F.tells → IfOk result (λ asked. (s : ClientState) (session : Session)
         → asked_outcome s session asked ≡ setting_manifest s session (manifest_of (F.file shelf.old) file.now channel.now)) }
-    ensures follows { IfOk result (λ asked. (s : State) → FollowsFrom s asked) }
+    ensures follows { IfOk result (λ asked. (s : ClientState) → FollowsFrom s asked) }
     ensures files { F.tells → (name : List ℕ) → F.file shelf.new name ≡ F.file shelf.old name }
     ensures asked { IsAskedFrom F.asks file.now shelf.old shelf.new }
     ensures cause { IsErrOf result StepFault.ShelfFault → Rose (F.faults shelf.old) (F.faults shelf.new) }

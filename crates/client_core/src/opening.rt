@@ -4,8 +4,8 @@ ghost use Rattle.host_model.specs.declared.side.Side.TheVariants.{Left, Right};
 ghost use Rattle.host_model.specs.Causes.{Rose};
 ghost use Rattle.host_model.specs.Hosts.{MeetsAll};
 ghost use Rattle.pair_store.specs.Moments.{StaysBelow};
-ghost use Rattle.enrol_states.specs.declared.state.State.{State};
-ghost use Rattle.state_codec.specs.Sound.{IsSound};
+ghost use Rattle.client_state.specs.declared.client_state.ClientState.{ClientState};
+ghost use Rattle.client_state.specs.Sound.{IsSound};
 ghost use Rattle.client_core.specs.Moments.{IsLeftAmong};
 ghost use Rattle.client_core.specs.OpenStore.{AllKeptAmong};
 ghost use Rattle.client_core.specs.Sessions.{no_session};
@@ -35,7 +35,7 @@ impl Client {
         // What each image is at each moment: until both sides are synced, and from then on. So each is kept for one of the
         // states for which each was kept.
         ensures phases { H.tells → OpensInPhases H.Host host.old host.new result }
-        ensures left { H.tells → (states : List State) → AllKeptAmong H.Host host.old states
+        ensures left { H.tells → (states : List ClientState) → AllKeptAmong H.Host host.old states
             → MeetsAll H.Host host.old host.new (IsLeftAmong (H.said host.old) states) }
         ensures below { H.tells → MeetsAll H.Host host.old host.new (StaysBelow H.Host host.old) }
         ensures text { H.tells → H.said host.new ≡ H.said host.old }

@@ -1,11 +1,11 @@
 // `opt-in`: the client is enrolled in a branch that its user chose.
 ghost use Rattle.std.specs.Prelude.{◌≡◌, IfOk};
 ghost use Rattle.client_core.specs.Asked.{asked_outcome, FollowsFrom};
-ghost use Rattle.client_core.specs.Steps.{opting_in};
+ghost use Rattle.client_core.specs.Steps.{opting_in, enrolling};
 
-use crate::answer::Answer;
 use crate::asked::Asked;
 use crate::client::Client;
+use client_words::Answer;
 use enrol_states::{OptInFault, opt_in};
 use plain_text::Slug;
 use state_codec::RecipeLists;
@@ -22,15 +22,11 @@ impl Client {
         branch: &Slug,
     ) -> Result<Asked, AllocError>
         ensures asks { IfOk result (λ asked. asked_outcome (state_of self.now) (session_of self.now) asked
-            ≡ opting_in (state_of self.now) (session_of self.now) slug.now branch.now) }
+            ≡ enrolling (state_of self.now) (opting_in (state_of self.now).enrolment (session_of self.now) slug.now branch.now)) }
         ensures follows { IfOk result (λ asked. FollowsFrom (state_of self.now) asked) }
     {
-        match opt_in(alloc, self.state(), slug, branch) {
-            Ok(next) => Ok(Asked::NewState {
-                next,
-                recipes: RecipeLists::AsBefore,
-                answer: Answer::Okay,
-            }),
+        match opt_in(alloc, self.enrolment(), slug, branch) {
+            Ok(next) => Ok(Asked::enrolled(next, RecipeLists::AsBefore, Answer::Okay)),
             Err(OptInFault::NoSuchExperiment) => Ok(Asked::Refused(Answer::NoSuchExperiment)),
             Err(OptInFault::NotParticipating) => Ok(Asked::Refused(Answer::NotParticipating)),
             Err(OptInFault::NoSuchBranch) => Ok(Asked::Refused(Answer::NoSuchBranch)),

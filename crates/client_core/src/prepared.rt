@@ -1,9 +1,9 @@
 // A step, built before anything of it is written.
 ghost use Rattle.std.specs.Prelude.{◌≡◌};
 
-use crate::answer::Answer;
 use crate::session::SessionChange;
 use crate::sized_state::SizedState;
+use client_words::Answer;
 use row_store::Ready;
 
 /// A new state, and the changed rows, ready to be committed.

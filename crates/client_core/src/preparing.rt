@@ -1,12 +1,12 @@
 // A step is prepared: its new state, the changed rows and its answer are built before the first write.
 ghost use Rattle.std.specs.Prelude.{◌≡◌, ◌≤◌, List, ℕ, IfOk, IsErrOf, IsTrue, false, length};
 ghost use Rattle.host_model.specs.Causes.{Rose};
-ghost use Rattle.enrol_states.specs.Consistent.{IsConsistent};
 ghost use Rattle.enrol_states.specs.State.{last_moment};
 ghost use Rattle.jexl_transforms.specs.Table.{HasStandardNames};
-ghost use Rattle.state_codec.specs.RecipeLists.{HasLists};
-ghost use Rattle.state_codec.specs.Sound.{max_size};
-ghost use Rattle.state_codec.specs.Spelling.{spelling};
+ghost use Rattle.client_state.specs.Changes.{state_after, IsChangeOf};
+ghost use Rattle.client_state.specs.Sound.{max_size};
+ghost use Rattle.client_state.specs.Spelling.{spelling};
+ghost use Rattle.client_words.specs.Commands.{IsCommand};
 ghost use Rattle.client_core.specs.Asked.{asked_outcome, answer_for, FollowsFrom, IsAnswerOrTooLarge};
 ghost use Rattle.client_core.specs.Commands.{names_file, HasAsked};
 ghost use Rattle.client_core.specs.ServedValues.{IsTyped};
@@ -14,20 +14,18 @@ ghost use Rattle.client_core.specs.Settings.{setting};
 ghost use Rattle.client_core.specs.Sessions.{changed_by};
 ghost use Rattle.client_core.specs.Steps.{Accepted, outcome, done};
 
-use crate::answer::Answer;
 use crate::asked::Asked;
 use crate::client::Client;
-use crate::command::Command;
 use crate::context::reading_context;
 use crate::faults::StepFault;
 use crate::fetch::fetching;
 use crate::manifest::setting_manifest;
 use crate::prepared::Prepared;
 use crate::session::SessionChange;
-use enrol_states::State;
+use client_state::StateChange;
+use client_words::{Answer, Command};
 use host_model::Shelf;
 use jexl_transforms::TransformTable;
-use state_codec::RecipeLists;
 use std::alloc::{AllocError, Global};
 
 impl Client {
@@ -45,6 +43,7 @@ impl Client {
         table: &TransformTable,
         shelf: &mut F,
     ) -> Result<Prepared, StepFault>
+        requires command { IsCommand command.now }
         requires moment { now ≤ last_moment }
         requires table { HasStandardNames table.now }
 
@@ -81,6 +80,7 @@ impl Client {
         table: &TransformTable,
         shelf: &mut F,
     ) -> Result<Asked, StepFault>
+        requires command { IsCommand command.now }
         requires moment { now ≤ last_moment }
         requires table { HasStandardNames table.now }
         ensures outcome { (IsTrue (names_file command.now) → F.tells) → IfOk result (λ asked. asked_outcome (state_of self.now) (session_of self.now) asked
@@ -106,6 +106,7 @@ impl Client {
             Command::Show => Ok(self.showing(alloc)?),
             Command::Feature { name } => Ok(self.serving(alloc, name)?),
             Command::WriteManifest => Ok(self.writing_manifest(alloc)?),
+            Command::Event { name, count } => Ok(self.counting(alloc, name, *count, now)?),
         }
     }
 
@@ -119,34 +120,28 @@ impl Client {
         ensures answer { IfOk result (λ prepared. IsAnswerOrTooLarge (answer_for asked) (answer_in prepared)) }
     {
         match asked {
-            Asked::NewState {
-                next,
-                recipes,
-                answer,
-            } => self.with_state(alloc, next, recipes, answer),
+            Asked::NewState { change, answer } => self.changed(alloc, &change, answer),
             Asked::SameState { change, answer } => Ok(self.unchanged(change, answer)),
             Asked::Refused(refusal) => Ok(self.unchanged(SessionChange::Stays, refusal)),
         }
     }
 
-    // The step to a state, unless it is too large.
-    fn with_state(
+    // The step to the state after a change, unless it is too large.
+    fn changed(
         &mut self,
         alloc: Global,
-        next: State,
-        recipes: RecipeLists,
+        change: &StateChange,
         answer: Answer,
     ) -> Result<Prepared, AllocError>
-        requires consistent { IsConsistent next }
-        requires recipes { HasLists recipes (state_of self.old) next }
+        requires { IsChangeOf (state_of self.old) change.now }
         ensures same { IsSameClient self.old self.new }
         ensures made { IfOk result (λ prepared. IsMadeOn self.new prepared) }
-        ensures step { IfOk result (λ prepared. Leads self.new prepared (done (state_of self.old) (session_of self.old) (Accepted next (session_of self.old) answer))) }
+        ensures step { IfOk result (λ prepared. Leads self.new prepared (done (state_of self.old) (session_of self.old) (Accepted (state_after change.now (state_of self.old)) (session_of self.old) answer))) }
         ensures answer { IfOk result (λ prepared. IsAnswerOrTooLarge answer (answer_in prepared)) }
     {
-        match self.store.sized(next, recipes) {
+        match self.store.sized(change)? {
             Ok(next) => Ok(Prepared {
-                change: self.store.change_to(alloc, next, recipes)?,
+                change: self.store.change_to(alloc, next, change)?,
                 session: SessionChange::Stays,
                 answer,
             }),

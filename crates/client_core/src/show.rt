@@ -3,9 +3,9 @@ ghost use Rattle.std.specs.Prelude.{◌≡◌, IfOk};
 ghost use Rattle.client_core.specs.Asked.{asked_outcome, FollowsFrom};
 ghost use Rattle.client_core.specs.Steps.{shown_answer, showing};
 
-use crate::answer::Answer;
 use crate::asked::Asked;
 use crate::client::Client;
+use client_words::Answer;
 use enrol_states::State;
 use std::alloc::{AllocError, Global};
 
@@ -17,7 +17,7 @@ impl Client {
         ensures asks { IfOk result (λ asked. asked_outcome (state_of self.now) (session_of self.now) asked ≡ showing (state_of self.now) (session_of self.now)) }
         ensures follows { IfOk result (λ asked. FollowsFrom (state_of self.now) asked) }
     {
-        let answer = answer_of(alloc, self.state())?;
+        let answer = answer_of(alloc, self.enrolment())?;
         Ok(Asked::same(answer))
     }
 }

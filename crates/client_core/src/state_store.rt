@@ -7,18 +7,16 @@ ghost use Rattle.pair_store.specs.Moments.{StaysBelow};
 ghost use Rattle.row_store.specs.Moments.{KeepsEitherRows};
 ghost use Rattle.row_store.specs.Ready.{commit_cost, place_after};
 ghost use Rattle.row_store.specs.Store.{RowsStand, RowsStandWithGate, place};
-ghost use Rattle.enrol_states.specs.Consistent.{IsConsistent};
-ghost use Rattle.state_codec.specs.RecipeLists.{HasLists};
-ghost use Rattle.state_codec.specs.Sound.{IsSound};
-ghost use Rattle.state_codec.specs.Spelling.{rows_of};
+ghost use Rattle.client_state.specs.Changes as changes;
+ghost use Rattle.client_state.specs.Changes.{state_after};
+ghost use Rattle.client_state.specs.Spelling.{rows_of};
 ghost use Rattle.client_core.specs.Sized.{IsSized};
 
 use crate::prepared::Change;
 use crate::sized_state::SizedState;
-use enrol_states::State;
+use client_state::{ClientState, StateChange};
 use host_model::{DiskFailed, Host};
 use row_store::RowStore;
-use state_codec::RecipeLists;
 use std::alloc::{AllocError, Global};
 use std::marker::Model;
 
@@ -59,20 +57,19 @@ impl StateStore {
     }
 
     /// The state. It takes no memory.
-    pub(crate) fn state(&self) -> &State
+    pub(crate) fn state(&self) -> &ClientState
         ensures state { result.now ≡ self.now.state }
         ensures stored { IsStored self.now }
     {
         self.state.state()
     }
 
-    /// The next state, or else how many bytes its spelling has, which are too many.
-    pub(crate) fn sized(&self, next: State, recipes: RecipeLists) -> Result<SizedState, u128>
-        requires consistent { IsConsistent next }
-        requires recipes { HasLists recipes self.now.state next }
-        ensures { IsSized next result }
+    /// The state after a change, or else how many bytes its spelling has, which are too many.
+    pub(crate) fn sized(&self, change: &StateChange) -> Result<Result<SizedState, u128>, AllocError>
+        requires { changes.IsChangeOf self.now.state change.now }
+        ensures { IfOk result (λ next. IsSized (state_after change.now self.now.state) next) }
     {
-        self.state.next(next, recipes)
+        self.state.next(change)
     }
 
     /// Makes the change to a state ready to be committed, where it is another one, and reserves the room for it. Neither the
@@ -81,14 +78,15 @@ impl StateStore {
         &mut self,
         alloc: Global,
         next: SizedState,
-        recipes: RecipeLists,
+        change: &StateChange,
     ) -> Result<Option<Change>, AllocError>
-        requires { HasLists recipes self.old.state next }
+        requires change { changes.IsChangeOf self.old.state change.now }
+        requires next { next ≡ state_after change.now self.old.state }
         ensures same { IsSameStored self.old self.new }
         ensures change { IfOk result (λ change. IsChange self.new change) }
         ensures next { IfOk result (λ change. changed self.old.state change ≡ next) }
     {
-        let batch = self.state.changes_to(alloc, &next, recipes)?;
+        let batch = self.state.changes_to(alloc, &next, change)?;
         if batch.changes().is_empty() {
             return Ok(None);
         }

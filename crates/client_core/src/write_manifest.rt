@@ -3,9 +3,9 @@ ghost use Rattle.std.specs.Prelude.{◌≡◌, IfOk};
 ghost use Rattle.client_core.specs.Asked.{asked_outcome, FollowsFrom};
 ghost use Rattle.client_core.specs.Steps.{writing_manifest};
 
-use crate::answer::Answer;
 use crate::asked::Asked;
 use crate::client::Client;
+use client_words::Answer;
 use fml_imports::single;
 use std::alloc::{AllocError, Global};
 

@@ -9,9 +9,9 @@ use Rattle.row_batches.specs.Batch.{ChangeList, applied, batch_text, whole_of}
 use Rattle.row_batches.specs.declared.store_row.StoreRow.{StoreRow}
 use Rattle.row_store.specs.Ready.{commit_cost}
 use Rattle.row_store.specs.Store.{place}
-use Rattle.enrol_states.specs.declared.state.State.{State}
-use Rattle.state_codec.specs.Forms.{IsOldForm, old_rows}
-use Rattle.state_codec.specs.Spelling.{rows_of, spelling}
+use Rattle.client_state.specs.declared.client_state.ClientState.{ClientState}
+use Rattle.client_state.specs.Forms.{IsOldForm, old_rows}
+use Rattle.client_state.specs.Spelling.{rows_of, spelling}
 use Rattle.client_core.specs.Migrations.{migration_bytes, place_migrated}
 use Rattle.client_core.specs.Moments.{IsLeftAs}
 use Rattle.client_core.proofs.Holding.{rows_kept, stand_again, gated_again}
@@ -63,7 +63,7 @@ returns-in_err-commit-clause-any_moment g c tells gated =
     let batch = c.in_ok-batch.batch in
     let ready = c.in_ok-ready.ready in
     let prepared = c.prepare.new.self in
-    let gives : applied batch (old_rows s) ≡ rows_of s = subst (λ (t : State). applied batch (old_rows t) ≡ rows_of t) c.state.ensures.state c.in_ok-batch.ensures.gives in
+    let gives : applied batch (old_rows s) ≡ rows_of s = subst (λ (t : ClientState). applied batch (old_rows t) ≡ rows_of t) c.state.ensures.state c.in_ok-batch.ensures.gives in
     let after : applied ready.batch prepared.rows ≡ rows_of s =
     ap (λ (b : ChangeList). applied b prepared.rows) c.in_ok-ready.ensures.batch ∙ ap (applied batch) (c.prepare.ensures.rows ∙ c.requires.old.same) ∙ gives in
     migration_met h c.args.host.now c.commit.new.host s prepared.rows (applied ready.batch prepared.rows) c.state.ensures.sound (subst (IsOldForm s) (sym c.prepare.ensures.rows) c.requires.old) after
@@ -74,7 +74,7 @@ returns-in_err-commit-clause-cost g c tells =
     let s = c.args.state.now in
     let batch = c.in_ok-batch.batch in
     let prepared = c.prepare.new.self in
-    let spelled : batch_text (whole_of (applied batch (old_rows s))) ≡ spelling s = subst (λ (t : State). batch_text (whole_of (applied batch (old_rows t))) ≡ spelling t) c.state.ensures.state c.in_ok-batch.ensures.whole in
+    let spelled : batch_text (whole_of (applied batch (old_rows s))) ≡ spelling s = subst (λ (t : ClientState). batch_text (whole_of (applied batch (old_rows t))) ≡ spelling t) c.state.ensures.state c.in_ok-batch.ensures.whole in
     let whole : batch_text (whole_of (applied batch prepared.rows)) ≡ spelling s = ap (λ (rows : List StoreRow). batch_text (whole_of (applied batch rows))) (c.prepare.ensures.rows ∙ c.requires.old.same) ∙ spelled in
     let bytes : commit_cost c.in_ok-ready.ready ≡ migration_bytes (place c.args.rows.now) s =
     migration_cost prepared s c.in_ok-ready.ready c.in_ok-ready.ensures.ready batch c.in_ok-ready.ensures.batch c.in_ok-batch.ensures.size whole ∙ ap (λ (side : OpenSide). migration_bytes side.place s) c.prepare.ensures.records in
@@ -89,7 +89,7 @@ returns-clause-any_moment g c tells gated =
     let batch = c.in_ok-batch.batch in
     let ready = c.in_ok-ready.ready in
     let prepared = c.prepare.new.self in
-    let gives : applied batch (old_rows s) ≡ rows_of s = subst (λ (t : State). applied batch (old_rows t) ≡ rows_of t) c.state.ensures.state c.in_ok-batch.ensures.gives in
+    let gives : applied batch (old_rows s) ≡ rows_of s = subst (λ (t : ClientState). applied batch (old_rows t) ≡ rows_of t) c.state.ensures.state c.in_ok-batch.ensures.gives in
     let after : applied ready.batch prepared.rows ≡ rows_of s =
     ap (λ (b : ChangeList). applied b prepared.rows) c.in_ok-ready.ensures.batch ∙ ap (applied batch) (c.prepare.ensures.rows ∙ c.requires.old.same) ∙ gives in
     migration_met h c.args.host.now c.commit.new.host s prepared.rows (applied ready.batch prepared.rows) c.state.ensures.sound (subst (IsOldForm s) (sym c.prepare.ensures.rows) c.requires.old) after
@@ -100,7 +100,7 @@ returns-clause-place g c =
     let s = c.args.state.now in
     let batch = c.in_ok-batch.batch in
     let prepared = c.prepare.new.self in
-    let spelled : batch_text (whole_of (applied batch (old_rows s))) ≡ spelling s = subst (λ (t : State). batch_text (whole_of (applied batch (old_rows t))) ≡ spelling t) c.state.ensures.state c.in_ok-batch.ensures.whole in
+    let spelled : batch_text (whole_of (applied batch (old_rows s))) ≡ spelling s = subst (λ (t : ClientState). batch_text (whole_of (applied batch (old_rows t))) ≡ spelling t) c.state.ensures.state c.in_ok-batch.ensures.whole in
     let whole : batch_text (whole_of (applied batch prepared.rows)) ≡ spelling s = ap (λ (rows : List StoreRow). batch_text (whole_of (applied batch rows))) (c.prepare.ensures.rows ∙ c.requires.old.same) ∙ spelled in
     c.in_ok-commit.ensures.place
     ∙ migration_place prepared s c.in_ok-ready.ready c.in_ok-ready.ensures.ready batch c.in_ok-ready.ensures.batch c.in_ok-batch.ensures.size whole
@@ -111,7 +111,7 @@ returns-clause-cost g c tells =
     let s = c.args.state.now in
     let batch = c.in_ok-batch.batch in
     let prepared = c.prepare.new.self in
-    let spelled : batch_text (whole_of (applied batch (old_rows s))) ≡ spelling s = subst (λ (t : State). batch_text (whole_of (applied batch (old_rows t))) ≡ spelling t) c.state.ensures.state c.in_ok-batch.ensures.whole in
+    let spelled : batch_text (whole_of (applied batch (old_rows s))) ≡ spelling s = subst (λ (t : ClientState). batch_text (whole_of (applied batch (old_rows t))) ≡ spelling t) c.state.ensures.state c.in_ok-batch.ensures.whole in
     let whole : batch_text (whole_of (applied batch prepared.rows)) ≡ spelling s = ap (λ (rows : List StoreRow). batch_text (whole_of (applied batch rows))) (c.prepare.ensures.rows ∙ c.requires.old.same) ∙ spelled in
     let bytes : commit_cost c.in_ok-ready.ready ≡ migration_bytes (place c.args.rows.now) s =
     migration_cost prepared s c.in_ok-ready.ready c.in_ok-ready.ensures.ready batch c.in_ok-ready.ensures.batch c.in_ok-batch.ensures.size whole ∙ ap (λ (side : OpenSide). migration_bytes side.place s) c.prepare.ensures.records in

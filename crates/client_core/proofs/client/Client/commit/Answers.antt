@@ -6,7 +6,7 @@ use Rattle.gate_journal.specs.Costs.{HasCost}
 use Rattle.pair_store.specs.Moments.{StaysBelow}
 use Rattle.pair_store.proofs.Below.{now_below}
 use Rattle.row_store.specs.Store.{place}
-use Rattle.state_codec.specs.Sound.{IsSound}
+use Rattle.client_state.specs.Sound.{IsSound}
 use Rattle.client_core.specs.declared.prepared.Change.{Change}
 use Rattle.client_core.specs.Clients.{HasGateOn}
 use Rattle.client_core.specs.Moments.{WhileWritten}

@@ -13,7 +13,7 @@ returns-in_ok-tree-in-Ok-clause-typed c =
     let manifest = c.manifest.result.now in
     let value = typed_of c.in-Ok.value in
     typed_answer s c.args.self.now.session c.args.name.now manifest (c.in-Some.is ∙ ap Some (sym c.manifest.ensures.manifest)) value
-    (subst (λ (n : List ℕ). served manifest s n ≡ Some value) c.as_str.ensures.text (subst (λ (x : State). served manifest x c.as_str.result.now ≡ Some value) c.state.ensures.state c.in-Ok.ensures.answer))
+    (subst (λ (n : List ℕ). served manifest s.enrolment n ≡ Some value) c.as_str.ensures.text (subst (λ (e : State). served manifest e c.as_str.result.now ≡ Some value) c.enrolment.ensures.enrolment c.in-Ok.ensures.answer))
     c.in_ok-tree-in-Ok.tree c.in_ok-tree-in-Ok.ensures (answer_for c.same.result) (ap answer_for c.same.ensures)
     (subst (λ (n : List ℕ). HasFeatureType manifest n value) c.as_str.ensures.text c.in-Ok.ensures.has_type)
 
@@ -25,5 +25,5 @@ returns-in_ok-tree-in-Ok-clause-asks c =
     let value = typed_of c.in-Ok.value in
     ap (asked_outcome s session) c.same.ensures
     ∙ serving_is s session c.args.name.now manifest (c.in-Some.is ∙ ap Some (sym c.manifest.ensures.manifest)) value
-    (subst (λ (n : List ℕ). served manifest s n ≡ Some value) c.as_str.ensures.text (subst (λ (x : State). served manifest x c.as_str.result.now ≡ Some value) c.state.ensures.state c.in-Ok.ensures.answer))
+    (subst (λ (n : List ℕ). served manifest s.enrolment n ≡ Some value) c.as_str.ensures.text (subst (λ (e : State). served manifest e c.as_str.result.now ≡ Some value) c.enrolment.ensures.enrolment c.in-Ok.ensures.answer))
     c.in_ok-tree-in-Ok.tree c.in_ok-tree-in-Ok.ensures

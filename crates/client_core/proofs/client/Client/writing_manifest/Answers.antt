@@ -1,8 +1,8 @@
 -- The tree of the single file is answered.
-use Rattle.std.proofs.Common.{◌≡◌, Some, sym, ap, ◌∙◌}
+use Rattle.std.proofs.Common.{Some, sym, ap, ◌∙◌}
 use Rattle.json_tree.specs.declared.tree.Tree.{Tree}
 use Rattle.fml_imports.specs.Single.{single}
-use Rattle.client_core.specs.declared.answer.Answer.TheVariants as answers
+use Rattle.client_words.specs.declared.answer.Answer.TheVariants as answers
 use Rattle.client_core.specs.Asked.{asked_outcome}
 use Rattle.client_core.specs.Steps.{Accepted, writing_manifest}
 use Rattle.client_core.proofs.Trees.{tree_of_value}

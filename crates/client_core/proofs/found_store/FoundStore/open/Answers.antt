@@ -2,7 +2,7 @@
 use Rattle.std.proofs.Common.{Err, ap, subst}
 use Rattle.host_model.specs.declared.side.Side.TheVariants.{Left, Right}
 use Rattle.row_store.proofs.Folds.{not_ok, one_map}
-use Rattle.state_codec.specs.Forms.{IsForm}
+use Rattle.client_state.specs.Forms.{IsForm}
 use Rattle.client_core.proofs.Storing.{gate_in, place_in, rows_in, bad_fault, none_fault, phases_in, phases_out, left_out}
 use Rattle.client_core.proofs.found_store.FoundStore.open.Goals as goal
 
