@@ -30,7 +30,8 @@ commands of `nimbus run`:
                          whether it takes part in rollouts
   opt-out SLUG           opts the slug out, and ends its enrolment
   opt-in SLUG BRANCH     enrols the client in this branch of the slug's recipe
-  reset ID               gives the client another id, with no rows and no opt-outs
+  reset ID               gives the client another id, with no rows, no opt-outs and no events
+  event NAME COUNT       counts that the user did this so many times, from 1 to 1000000, for targeting
   feature NAME           prints the value that the feature has
   show                   prints the state
   write-manifest         prints the manifest as one file

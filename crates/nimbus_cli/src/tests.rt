@@ -19,7 +19,8 @@ const FORMS: &str = "nimbus init ID\n\
     reset ID\n\
     feature NAME\n\
     show\n\
-    write-manifest";
+    write-manifest\n\
+    event NAME COUNT";
 
 // A line of the text begins with this.
 fn has_line(text: &str, front: &str) -> bool {

@@ -4,7 +4,7 @@ use Rattle.host_model.specs.declared.host.Host.{Ghosts}
 use Rattle.host_model.specs.Hosts.{MeetsAll}
 use Rattle.host_model.specs.Moments.{IsSaying}
 use Rattle.host_model.proofs.Meeting.{then_met, met_weaker}
-use Rattle.enrol_states.specs.declared.state.State.{State}
+use Rattle.client_state.specs.declared.client_state.ClientState.{ClientState}
 use Rattle.client_core.specs.Moments.{WhileWritten}
 use Rattle.client_core.specs.OpenStore.{AllKept}
 use Rattle.session_run.specs.declared.faults.RunFault.{RunFault}
@@ -13,26 +13,26 @@ use Rattle.session_run.specs.Moments.{DuringLine}
 
 module _ {H : Type 0} (h : Ghosts H) (start : H) where
   -- the write has failed
-  pub written_met : (new : H) (s t : State) (text : List ℕ) → MeetsAll h start new (WhileWritten (h.said start) s t) → MeetsAll h start new (DuringLine (h.said start) s t text)
+  pub written_met : (new : H) (s t : ClientState) (text : List ℕ) → MeetsAll h start new (WhileWritten (h.said start) s t) → MeetsAll h start new (DuringLine (h.said start) s t text)
   written_met new s t text run = met_weaker h.moment h.might start new _ (DuringLine (h.said start) s t text) run (λ l r u met. inl met)
 
   -- a line's moments: its change is written, and then its answer is said
-  pub line_met : (mid new : H) (s t : State) (text : List ℕ) → MeetsAll h start mid (WhileWritten (h.said start) s t) → h.said mid ≡ h.said start → AllKept h mid t
+  pub line_met : (mid new : H) (s t : ClientState) (text : List ℕ) → MeetsAll h start mid (WhileWritten (h.said start) s t) → h.said mid ≡ h.said start → AllKept h mid t
       → MeetsAll h mid new (IsSaying (h.images mid) (h.said mid) text) → MeetsAll h start new (DuringLine (h.said start) s t text)
   line_met mid new s t text run same kept saying =
       then_met h.moment h.might start mid new _ _ (DuringLine (h.said start) s t text) run saying (λ l r u met. inl met)
       (λ l r u met. inr (kept l r met.0 met.1, (met.2.0, met.2.1 ∙ ap (λ (d : List ℕ). d ++ take met.2.0 text) same)))
 
   -- nothing is written
-  pub said_met : (new : H) (s : State) (text : List ℕ) → AllKept h start s → MeetsAll h start new (IsSaying (h.images start) (h.said start) text) → MeetsAll h start new (DuringLine (h.said start) s s text)
+  pub said_met : (new : H) (s : ClientState) (text : List ℕ) → AllKept h start s → MeetsAll h start new (IsSaying (h.images start) (h.said start) text) → MeetsAll h start new (DuringLine (h.said start) s s text)
   said_met new s text kept saying =
       met_weaker h.moment h.might start new _ (DuringLine (h.said start) s s text) saying (λ l r u met. inr (kept l r met.0 met.1, met.2))
 
   -- what is known of a line, under other names of its state and of its answer
-  pub met_as : (new : H) (s t other : State) (text words : List ℕ) → t ≡ other → text ≡ words → MeetsAll h start new (DuringLine (h.said start) s t text) → MeetsAll h start new (DuringLine (h.said start) s other words)
+  pub met_as : (new : H) (s t other : ClientState) (text words : List ℕ) → t ≡ other → text ≡ words → MeetsAll h start new (DuringLine (h.said start) s t text) → MeetsAll h start new (DuringLine (h.said start) s other words)
   met_as new s t other text words same same_text run =
-      subst (λ (w : List ℕ). MeetsAll h start new (DuringLine (h.said start) s other w)) same_text (subst (λ (x : State). MeetsAll h start new (DuringLine (h.said start) s x text)) same run)
+      subst (λ (w : List ℕ). MeetsAll h start new (DuringLine (h.said start) s other w)) same_text (subst (λ (x : ClientState). MeetsAll h start new (DuringLine (h.said start) s x text)) same run)
 
-  pub ends_as : (new : H) (s t other : State) (text words : List ℕ) (result : Result (Unit {0}) RunFault) → t ≡ other → text ≡ words → LineEnds h s t text (h.said start) new result → LineEnds h s other words (h.said start) new result
+  pub ends_as : (new : H) (s t other : ClientState) (text words : List ℕ) (result : Result (Unit {0}) RunFault) → t ≡ other → text ≡ words → LineEnds h s t text (h.said start) new result → LineEnds h s other words (h.said start) new result
   ends_as new s t other text words result same same_text ends =
-      subst (λ (w : List ℕ). LineEnds h s other w (h.said start) new result) same_text (subst (λ (x : State). LineEnds h s x text (h.said start) new result) same ends)
+      subst (λ (w : List ℕ). LineEnds h s other w (h.said start) new result) same_text (subst (λ (x : ClientState). LineEnds h s x text (h.said start) new result) same ends)

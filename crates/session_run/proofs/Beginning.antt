@@ -6,12 +6,12 @@ use Rattle.host_model.specs.declared.host.Host.{Ghosts}
 use Rattle.host_model.specs.Hosts.{MeetsAll}
 use Rattle.host_model.specs.Moments.{IsSaying, Elapses, KeepsSide}
 use Rattle.host_model.proofs.Meeting.{goes_on, met_weaker}
-use Rattle.enrol_states.specs.declared.state.State.{State}
+use Rattle.client_state.specs.declared.client_state.ClientState.{ClientState}
 use Rattle.client_core.specs.Moments.{IsQuiet}
 use Rattle.client_core.specs.OpenStore.{AllKept}
 use Rattle.session_run.specs.Making.{DuringMaking}
 
-module _ {H : Type 0} (h : Ghosts H) (start mid new : H) (s : State) (text : List ℕ) where
+module _ {H : Type 0} (h : Ghosts H) (start mid new : H) (s : ClientState) (text : List ℕ) where
   -- the store is made, and its answer is said
   pub said_met : ((side : Side) → KeepsSide h.reads h.images side mid new) → AllKept h mid s → MeetsAll h start mid (IsQuiet (h.said start)) → h.said mid ≡ h.said start
       → Elapses (h.moment mid) (h.moment new) (h.might mid) (h.might new) (IsSaying (h.images new) (h.said mid) text) → MeetsAll h start new (DuringMaking (h.said start) s text)

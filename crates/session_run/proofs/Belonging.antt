@@ -2,7 +2,7 @@
 use Rattle.std.proofs.Common.{◌≡◌, ◌⊎◌, inl, inr, ℕ, List, refl, sym, subst, Err}
 use Rattle.host_model.specs.declared.host.Host.{Ghosts}
 use Rattle.pair_store.specs.Repair.{IsLeftByOpening}
-use Rattle.enrol_states.specs.declared.state.State.{State}
+use Rattle.client_state.specs.declared.client_state.ClientState.{ClientState}
 use Rattle.client_core.specs.Finds.{MakeFinds}
 use Rattle.client_core.specs.declared.faults.ClientFault.{ClientFault}
 use Rattle.client_core.specs.declared.faults.ClientFault.TheVariants as client
@@ -157,7 +157,7 @@ making_finds l r make.BadStore finds = finds
 making_finds l r make.DiskFault finds = tt
 making_finds l r make.OutOfMemory finds = tt
 
-pub making_not_done : {H : Type 0} (h : Ghosts H) (s : State) (text said : List ℕ) (host : H) (fault : MakeFault) → h.said host ≡ said → MakingEnds h s text said host (of_making fault)
+pub making_not_done : {H : Type 0} (h : Ghosts H) (s : ClientState) (text said : List ℕ) (host : H) (fault : MakeFault) → h.said host ≡ said → MakingEnds h s text said host (of_making fault)
 making_not_done h s text said host make.AlreadyStore same = same
 making_not_done h s text said host make.BadStore same = same
 making_not_done h s text said host make.DiskFault same = same

@@ -9,7 +9,8 @@ use Rattle.host_model.proofs.Meeting.{then_met, met_weaker}
 use Rattle.pair_store.specs.Repair.{repair_cost}
 use Rattle.enrol_states.specs.Statuses.{last_moment}
 use Rattle.enrol_states.proofs.Fresh.{fresh-consistent}
-use Rattle.state_codec.specs.Sound.{IsSound}
+use Rattle.client_state.specs.Sound.{IsSound}
+use Rattle.client_state.proofs.Empty.{empty_is_sound}
 use Rattle.state_codec.proofs.Fresh.{fresh_is_sound}
 use Rattle.recipe_drill.specs.Parts.{drill_id}
 use Rattle.client_core.specs.Moments.{IsLeftAmong}
@@ -27,7 +28,7 @@ use Rattle.session_run.specs.Moments.{AfterPrefix}
 use Rattle.session_run.specs.Runs.{ServesValues}
 use Rattle.session_run.specs.Starts.{Start, last_state}
 use Rattle.session_run.proofs.DrillIds.{drill_id_reads}
-use Rattle.session_run.proofs.Ids.{IsIdIn, id_in_text}
+use Rattle.client_words.proofs.Ids.{IsIdIn, id_in_text}
 use Rattle.session_run.proofs.Judging.{among_not_absent, making_judges}
 use Rattle.session_run.specs.Writes.{IsBelowMark}
 use Rattle.session_run.proofs.Values.{serves_values}
@@ -35,7 +36,7 @@ use Rattle.session_run.proofs.Writing.{at_each, below_then}
 
 -- the state of its new store is sound
 pub drill_sound : (now : ℕ) → now ≤ last_moment → IsSound (drill_fresh now)
-drill_sound now moment = fresh_is_sound drill_bytes now (fresh-consistent drill_bytes now (subst IsIdIn drill_id_reads (id_in_text drill_id)) moment)
+drill_sound now moment = empty_is_sound _ (fresh_is_sound drill_bytes now (fresh-consistent drill_bytes now (subst IsIdIn drill_id_reads (id_in_text drill_id)) moment))
 
 drill_values : (start count now : ℕ) (said : List ℕ) → now ≤ last_moment → ServesValues (drill_start start count now 0 said 0)
 unfolding drill_setting

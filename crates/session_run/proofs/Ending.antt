@@ -2,7 +2,7 @@
 use Rattle.std.proofs.Common.{◌≡◌, inl, inr, ℕ, ◌<◌, ◌≤◌, ◌+◌, List, [], ◌∷◌, ◌++◌, length, take, drop, refl, sym, ◌∙◌, ap, subst, Some, Result, Ok, Err, IsErrAnd}
 use Rattle.std.specs.Prelude.{slice_get}
 use Rattle.host_model.specs.declared.host.Host.{Ghosts}
-use Rattle.enrol_states.specs.declared.state.State.{State}
+use Rattle.client_state.specs.declared.client_state.ClientState.{ClientState}
 use Rattle.client_core.specs.OpenStore.{AllKept, AllKeptEither}
 use Rattle.client_core.specs.Settings.{Setting}
 use Rattle.session_run.specs.declared.faults.RunFault.{RunFault}
@@ -26,7 +26,7 @@ pub err_is : {T E : Type 0} (result : Result T E) (fault : E) → IsErrAnd resul
 err_is (Ok value) fault and = absurd and
 err_is (Err f) fault and = ap Err and
 
-module _ {H : Type 0} (h : Ghosts H) (start new : H) (s t : State) (text : List ℕ) where
+module _ {H : Type 0} (h : Ghosts H) (start new : H) (s t : ClientState) (text : List ℕ) where
   -- the write has failed
   pub written_ends : (result : Result (Unit {0}) RunFault) → IsErrAnd result (λ f. f ≡ run.DiskFault) → AllKeptEither h new s t → h.said new ≡ h.said start → LineEnds h s t text (h.said start) new result
   written_ends result and either said = subst (λ (r : Result (Unit {0}) RunFault). LineEnds h s t text (h.said start) new r) (sym (err_is result run.DiskFault and)) (either, said)
@@ -35,7 +35,7 @@ module _ {H : Type 0} (h : Ghosts H) (start new : H) (s t : State) (text : List 
   pub said_ends : (result : Result (Unit {0}) RunFault) → IsErrAnd result (λ f. f ≡ run.SayFault) → AllKept h new t → (n : ℕ) × (h.said new ≡ h.said start ++ take n text) → LineEnds h s t text (h.said start) new result
   said_ends result and kept part_said = subst (λ (r : Result (Unit {0}) RunFault). LineEnds h s t text (h.said start) new r) (sym (err_is result run.SayFault and)) (kept, part_said)
 
-module _ {H : Type 0} (h : Ghosts H) (at : Setting) (s : State) (lines : List (List ℕ)) (i : ℕ) (line : List ℕ) (within : i < length lines) (more : take (i + 1) lines ≡ take i lines ++ line ∷ [])
+module _ {H : Type 0} (h : Ghosts H) (at : Setting) (s : ClientState) (lines : List (List ℕ)) (i : ℕ) (line : List ℕ) (within : i < length lines) (more : take (i + 1) lines ≡ take i lines ++ line ∷ [])
     (start mid new : H) (now : RunState) (is : now ≡ run_at at s lines i) (said : h.said mid ≡ h.said start ++ out at s lines i) where
   now_is : now.state ≡ after at s lines i
   now_is = ap (λ (run : RunState). run.state) is
@@ -54,7 +54,7 @@ module _ {H : Type 0} (h : Ghosts H) (at : Setting) (s : State) (lines : List (L
   line_ends asked place written run.DiskFault none_after most there named ends = record {
     k = i;
     within = within;
-    kept = subst (λ (x : State). AllKeptEither h new x (after at s lines (i + 1))) now_is (subst (λ (x : State). AllKeptEither h new now.state x) next_is ends.0);
+    kept = subst (λ (x : ClientState). AllKeptEither h new x (after at s lines (i + 1))) now_is (subst (λ (x : ClientState). AllKeptEither h new now.state x) next_is ends.0);
     text = ends.1 ∙ said;
     most = most;
   }
@@ -70,14 +70,14 @@ module _ {H : Type 0} (h : Ghosts H) (at : Setting) (s : State) (lines : List (L
   }
 
 -- lines that end a run
-pub run_ends : {H : Type 0} (h : Ghosts H) (asked : List (List ℕ) → Type 0) (states : List State) (start : Start) (new : H) (fault : RunFault) → LinesEnd {T = Unit {0}} h asked start new (Err fault) → RunEnds h asked states start new (of_run fault)
+pub run_ends : {H : Type 0} (h : Ghosts H) (asked : List (List ℕ) → Type 0) (states : List ClientState) (start : Start) (new : H) (fault : RunFault) → LinesEnd {T = Unit {0}} h asked start new (Err fault) → RunEnds h asked states start new (of_run fault)
 run_ends h asked states start new run.ShelfFault ends = ends
 run_ends h asked states start new run.OutOfMemory ends = inl ends
 run_ends h asked states start new run.DiskFault ends = inl ends
 run_ends h asked states start new run.SayFault ends = ends
 
 -- a run that ended before the pair was judged
-pub unbegun_ends : {H : Type 0} (h : Ghosts H) (asked : List (List ℕ) → Type 0) (states : List State) (start : Start) (new : H) (status : RunStatus) → EndedBefore status → StaysAmong h states start new → RunEnds h asked states start new status
+pub unbegun_ends : {H : Type 0} (h : Ghosts H) (asked : List (List ℕ) → Type 0) (states : List ClientState) (start : Start) (new : H) (status : RunStatus) → EndedBefore status → StaysAmong h states start new → RunEnds h asked states start new status
 unbegun_ends h asked states start new status (inl is) stays = subst (RunEnds h asked states start new) (sym is) stays
 unbegun_ends h asked states start new status (inr (inl is)) stays = subst (RunEnds h asked states start new) (sym is) stays
 unbegun_ends h asked states start new status (inr (inr (inl is))) stays = subst (RunEnds h asked states start new) (sym is) (inr stays)

@@ -3,7 +3,7 @@ use Rattle.std.proofs.Common.{◌≡◌, ◌⊎◌, inl, inr, ℕ, List, [], ◌
 use Rattle.session_run.specs.declared.status.RunStatus.{RunStatus}
 use Rattle.session_run.specs.declared.status.RunStatus.TheVariants.{Done, Usage, ScriptTooLong, NoStore, AlreadyStore, BadStore, SourceFault, ShelfFault, DiskFault, SayFault, OutOfMemory}
 use Rattle.client_core.specs.Store.{KeptAmong, IsStore, IsAbsent, IsBad}
-use Rattle.enrol_states.specs.declared.state.State.{State}
+use Rattle.client_state.specs.declared.client_state.ClientState.{ClientState}
 use Rattle.client_core.proofs.Holding.{stands_of_kept}
 use Rattle.session_run.specs.Finds.{EndedBefore, RunFinds, MakingFinds, RunJudges, MakingJudges}
 use Rattle.client_core.proofs.Refusing.{stands_not_absent}
@@ -16,7 +16,7 @@ module _ (l r : List ℕ) where
   store_not_bad (s, stands) bad = bad.no_state s stands
 
   -- a pair that is kept for one of some states is a store
-  pub among_not_absent : (states : List State) → KeptAmong l r states → IsAbsent l r → ⊥
+  pub among_not_absent : (states : List ClientState) → KeptAmong l r states → IsAbsent l r → ⊥
   among_not_absent [] among absent = among
   among_not_absent (s ∷ states) (inl kept) absent = stands_not_absent l r s (stands_of_kept l r s kept) absent
   among_not_absent (s ∷ states) (inr among) absent = among_not_absent states among absent

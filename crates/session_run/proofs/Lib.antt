@@ -4,12 +4,11 @@ mod Beginning
 mod Belonging
 mod Causing
 mod Chaining
-mod Commands
 mod DrillIds
 mod DrillScripts
 mod Drilling
 mod Ending
-mod Ids
+mod Events
 mod Judging
 mod Lining
 mod Linking

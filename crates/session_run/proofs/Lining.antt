@@ -3,7 +3,7 @@ use Rattle.std.proofs.Common.{◌≡◌, ◌≢◌, ◌+◌, ℕ, ◌<◌, ◌�
 use Rattle.std.specs.Prelude.{slice_get, Some}
 use Rattle.host_model.specs.declared.host.Host.{Ghosts}
 use Rattle.host_model.specs.Hosts.{MeetsAll}
-use Rattle.enrol_states.specs.declared.state.State.{State}
+use Rattle.client_state.specs.declared.client_state.ClientState.{ClientState}
 use Rattle.client_core.specs.Places.{place_after, bytes_for}
 use Rattle.client_core.specs.Settings.{Setting}
 use Rattle.session_run.specs.declared.faults.RunFault.{RunFault}
@@ -19,7 +19,7 @@ use Rattle.session_run.proofs.Running.{out-more, run-more, lines_met}
 use Rattle.session_run.proofs.Starting.{begin}
 
 -- the setting at the line is that of the start
-module _ (at here : Setting) (same : here ≡ at) (s : State) (lines : List (List ℕ)) (i : ℕ) (line : List ℕ) (within : i < length lines) (more : take (i + 1) lines ≡ take i lines ++ line ∷ []) (now : RunState) (is : now ≡ run_at at s lines i) where
+module _ (at here : Setting) (same : here ≡ at) (s : ClientState) (lines : List (List ℕ)) (i : ℕ) (line : List ℕ) (within : i < length lines) (more : take (i + 1) lines ≡ take i lines ++ line ∷ []) (now : RunState) (is : now ≡ run_at at s lines i) where
   pub state_more : (later : RunState) → later ≡ run_after here now line → later ≡ run_at at s lines (i + 1)
   state_more later left =
       left ∙ ap (λ (x : Setting). run_after x now line) same ∙ ap (λ (x : RunState). run_after at x line) is ∙ sym (run-more at s lines i line within more)

@@ -3,7 +3,7 @@ use Rattle.std.proofs.Common.{◌≡◌, ◌∙◌, inl, inr, ⊎_elim, ℕ, ◌
 use Rattle.host_model.specs.declared.side.Side.TheVariants.{Left, Right}
 use Rattle.host_model.specs.declared.host.Host.{Ghosts}
 use Rattle.host_model.specs.Hosts.{NowOf}
-use Rattle.enrol_states.specs.declared.state.State.{State}
+use Rattle.client_state.specs.declared.client_state.ClientState.{ClientState}
 use Rattle.client_core.specs.OpenStore.{AllKept, AllKeptAmong}
 use Rattle.client_core.specs.Store.{KeptFor, KeptAmong}
 use Rattle.session_run.specs.declared.status.RunStatus.{RunStatus}
@@ -18,24 +18,24 @@ pub moments_are_links : MomentsAreLinks
 moments_are_links start old_l old_r l r u kept met = record { s = start.state; within = met.within; from = kept; left = met.kept }
 
 -- the state among some for which a pair is kept
-pub the_one : (l r : List ℕ) (states : List State) → KeptAmong l r states → (s : State) × KeptFor l r s
+pub the_one : (l r : List ℕ) (states : List ClientState) → KeptAmong l r states → (s : ClientState) × KeptFor l r s
 the_one l r [] among = absurd among
 the_one l r (s ∷ states) (inl kept) = (s, kept)
 the_one l r (s ∷ states) (inr among) = the_one l r states among
 
 module _ {H : Type 0} (h : Ghosts H) where
   -- a start over a list of one state
-  pub among_one : (host : H) (s : State) → AllKept h host s → AllKeptAmong h host (s ∷ [])
+  pub among_one : (host : H) (s : ClientState) → AllKept h host s → AllKeptAmong h host (s ∷ [])
   among_one host s all l r left right = inl (all l r left right)
 
-  pub one_among : (host : H) (s : State) → AllKeptAmong h host (s ∷ []) → AllKept h host s
+  pub one_among : (host : H) (s : ClientState) → AllKeptAmong h host (s ∷ []) → AllKept h host s
   one_among host s all l r left right = ⊎_elim (λ kept. kept) (λ none. absurd none) (all l r left right)
 
   -- ---- links
 
   module _ (old : H) (start : Start) where
     -- no line is done, from an image of the start
-    pub linked_now : h.said old ≡ start.said → (states : List State) → AllKeptAmong h old states → (l r u : List ℕ) → NowOf h old l r u → IsLinked h old start l r u
+    pub linked_now : h.said old ≡ start.said → (states : List ClientState) → AllKeptAmong h old states → (l r u : List ℕ) → NowOf h old l r u → IsLinked h old start l r u
     linked_now said states all l r u now =
         let one = the_one l r states (all l r now.0 now.1) in
         record {
@@ -54,8 +54,8 @@ module _ {H : Type 0} (h : Ghosts H) where
 
   -- ---- the next run
 
-  module _ (asked : List (List ℕ) → Type 0) (states : List State) (start : Start) (host : H) where
-    pub next_of : (status : RunStatus) → RunEnds h asked states start host status → (later : List State) × AllKeptAmong h host later
+  module _ (asked : List (List ℕ) → Type 0) (states : List ClientState) (start : Start) (host : H) where
+    pub next_of : (status : RunStatus) → RunEnds h asked states start host status → (later : List ClientState) × AllKeptAmong h host later
     next_of Done ends = (last_state start ∷ [], among_one host (last_state start) ends.kept)
     next_of ShelfFault ends = (state_at start ends.before.k ∷ [], among_one host (state_at start ends.before.k) ends.before.kept)
     next_of OutOfMemory (inl ends) = (state_at start ends.k ∷ [], among_one host (state_at start ends.k) ends.kept)
@@ -73,7 +73,7 @@ module _ {H : Type 0} (h : Ghosts H) where
     next_of AlreadyStore ends = absurd ends
     next_of BadStore ends = absurd ends
 
-  pub next_one_of : (asked : List (List ℕ) → Type 0) (s : State) (start : Start) (host : H) (status : RunStatus) → RunEnds h asked (s ∷ []) start host status → ¬ (status ≡ DiskFault) → (t : State) × AllKept h host t
+  pub next_one_of : (asked : List (List ℕ) → Type 0) (s : ClientState) (start : Start) (host : H) (status : RunStatus) → RunEnds h asked (s ∷ []) start host status → ¬ (status ≡ DiskFault) → (t : ClientState) × AllKept h host t
   next_one_of asked s start host Done ends other = (last_state start, ends.kept)
   next_one_of asked s start host ShelfFault ends other = (state_at start ends.before.k, ends.before.kept)
   next_one_of asked s start host OutOfMemory (inl ends) other = (state_at start ends.k, ends.kept)

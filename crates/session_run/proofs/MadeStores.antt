@@ -6,8 +6,8 @@ use Rattle.host_model.specs.declared.host.Host.{Ghosts}
 use Rattle.host_model.specs.Hosts.{MeetsAll}
 use Rattle.host_model.specs.Moments.{IsSaying, Elapses, KeepsSide}
 use Rattle.row_store.specs.Rows.{HasRows}
-use Rattle.enrol_states.specs.State.{fresh}
-use Rattle.state_codec.specs.Spelling.{rows_of}
+use Rattle.client_core.specs.NewStates.{fresh}
+use Rattle.client_state.specs.Spelling.{rows_of}
 use Rattle.client_core.specs.Moments.{IsQuiet}
 use Rattle.client_core.specs.OpenStore.{AllKept}
 use Rattle.client_core.specs.Places.{making_bytes}

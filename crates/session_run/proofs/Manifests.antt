@@ -18,24 +18,27 @@ use Rattle.enrol_states.specs.Commands.{after_opt_out}
 use Rattle.enrol_states.specs.Participation.{takes_part}
 use Rattle.enrol_states.specs.Recipes.{has_branch}
 use Rattle.enrol_states.specs.declared.state.State.{State}
-use Rattle.state_codec.specs.Sound.{max_size}
-use Rattle.state_codec.specs.Spelling.{spelling}
+use Rattle.event_counts.specs.Kept.{counted_in}
+use Rattle.event_counts.specs.declared.name_counts.NameCounts.{NameCounts}
+use Rattle.client_state.specs.declared.client_state.ClientState.{ClientState}
+use Rattle.client_state.specs.Sound.{max_size}
+use Rattle.client_state.specs.Spelling.{spelling}
 use Rattle.fml_types.specs.declared.manifest.Manifest.{Manifest}
 use Rattle.fml_value.specs.Typed.{TypedValue}
 use Rattle.feature_serving.specs.Serving.{served}
-use Rattle.client_core.specs.declared.answer.Answer.{Answer}
-use Rattle.client_core.specs.declared.answer.Answer.TheVariants.{Okay, OptedOutLimit, NotParticipating, NoSuchBranch, StateTooLarge}
-use Rattle.client_core.specs.declared.command.Command.{Command}
-use Rattle.client_core.specs.declared.command.Command.TheVariants.{Fetch, Apply, Participate, OptOut, OptIn, Reset, Show, Feature, WriteManifest}
-use Rattle.client_core.specs.declared.command.Command.TheVariants as commands
+use Rattle.client_words.specs.declared.answer.Answer.{Answer}
+use Rattle.client_words.specs.declared.answer.Answer.TheVariants.{Okay, OptedOutLimit, NotParticipating, NoSuchBranch, EventLimit, StateTooLarge}
+use Rattle.client_words.specs.declared.command.Command.{Command}
+use Rattle.client_words.specs.declared.command.Command.TheVariants.{Fetch, Apply, Participate, OptOut, OptIn, Reset, Show, Feature, Event, WriteManifest}
+use Rattle.client_words.specs.declared.command.Command.TheVariants as commands
 use Rattle.client_core.specs.declared.session.Session.{Session}
 use Rattle.client_core.specs.Choosing.{first_taker}
 use Rattle.client_core.specs.Fetching.{file_tree}
 use Rattle.client_core.specs.Manifests.{manifest_of}
 use Rattle.client_core.specs.Sessions.{with_manifest}
 use Rattle.client_core.specs.Settings.{Setting}
-use Rattle.client_core.specs.Steps.{Outcome, Accepted, Refused, Step, participation, opting_out, taking, offering, choosing, opting_in, resetting, showing, fetched, fetching, context_read, reading_context, setting_manifest, applying, valued, serving, writing_manifest, done, step}
-use Rattle.client_words.specs.declared.command.LineFault.{LineFault}
+use Rattle.client_core.specs.Steps.{OutcomeOver, EnrolmentOutcome, Outcome, Accepted, Refused, Step, whole, enrolling, seeing, has_no_room_for, counting, participation, opting_out, taking, offering, choosing, opting_in, resetting, showing, fetched, fetching, context_read, reading_context, setting_manifest, applying, valued, serving, writing_manifest, done, step}
+use Rattle.client_words.specs.declared.line.LineFault.{LineFault}
 use Rattle.client_words.specs.Commands.{command_of}
 use Rattle.session_run.specs.Steps.{RunState, run_after, effect, run_at}
 use Rattle.session_run.specs.Values.{LineSets, IsSetLast}
@@ -56,7 +59,7 @@ no_some e = absurd cc
 -- ---- one command
 
 -- the command sets this manifest
-record Sets (at : Setting) (s : State) (session : Session) (command : Command) (m : Manifest) : Type 0 where
+record Sets (at : Setting) (s : ClientState) (session : Session) (command : Command) (m : Manifest) : Type 0 where
   file : List ℕ
   channel : List ℕ
   asked : command ≡ commands.Manifest file channel
@@ -64,21 +67,29 @@ record Sets (at : Setting) (s : State) (session : Session) (command : Command) (
   manifest : manifest_of at.files file channel ≡ Ok m
 
 -- it sets this manifest, or none, and then this one was set before
-abbrev SetsOrStays : Setting → State → Session → Command → Manifest → Type 0
+abbrev SetsOrStays : Setting → ClientState → Session → Command → Manifest → Type 0
 SetsOrStays at s session command m = Sets at s session command m ⊎ ((session.manifest ≡ Some m) × ((that : Manifest) → Sets at s session command that → ⊥))
 
 either_step : (P : Step → Type 0) (b : Bool) (x y : Step) → P x → P y → P (if b then x else y)
 either_step P true x y here there = here
 either_step P false x y here there = there
 
-module _ (at : Setting) (s : State) (session : Session) where
-  abbrev Keeps : Outcome → Type 0
+module _ (at : Setting) (s : ClientState) (session : Session) where
+  abbrev Keeps : {S : Type 0} → OutcomeOver S → Type 0
   Keeps (Accepted t next answer) = next.manifest ≡ session.manifest
   Keeps (Refused answer) = Unit {0}
 
   done-keeps : (asked : Outcome) → Keeps asked → (done s session asked).session.manifest ≡ session.manifest
   done-keeps (Accepted t next answer) keeps = either_step (λ to. to.session.manifest ≡ session.manifest) (nat_lt max_size (length (spelling t))) _ _ refl keeps
   done-keeps (Refused answer) keeps = refl
+
+  whole-keeps : (counts : List NameCounts) (asked : EnrolmentOutcome) → Keeps asked → Keeps (whole s counts asked)
+  whole-keeps counts (Accepted e next answer) keeps = keeps
+  whole-keeps counts (Refused answer) keeps = tt
+
+  -- where the counts stay
+  enrolling-keeps : (asked : EnrolmentOutcome) → Keeps asked → (done s session (enrolling s asked)).session.manifest ≡ session.manifest
+  enrolling-keeps asked keeps = done-keeps (enrolling s asked) (whole-keeps s.events asked keeps)
 
   context-keeps : (read : Result Context ContextKey) → Keeps (context_read s session read)
   context-keeps (Ok context) = refl
@@ -88,17 +99,17 @@ module _ (at : Setting) (s : State) (session : Session) where
   file-keeps (Ok tree) = context-keeps (context_of tree)
   file-keeps (Err refusal) = tt
 
-  payload-keeps : (read : Result Payload PayloadFault) → Keeps (fetched s session read)
+  payload-keeps : (read : Result Payload PayloadFault) → Keeps (fetched s.enrolment session read)
   payload-keeps (Ok found) = refl
   payload-keeps (Err payload.NoData) = tt
   payload-keeps (Err (payload.TooManyRecipes count)) = tt
   payload-keeps (Err payload.OutOfMemory) = tt
 
-  fetch-keeps : (read : Result Json Answer) → Keeps (fetching s session read)
+  fetch-keeps : (read : Result Json Answer) → Keeps (fetching s.enrolment session read)
   fetch-keeps (Ok tree) = payload-keeps (payload_of tree)
   fetch-keeps (Err refusal) = tt
 
-  apply-keeps : (manifest : Option Manifest) (context : Option Context) → Keeps (applying at.now s session manifest context)
+  apply-keeps : (manifest : Option Manifest) (context : Option Context) → Keeps (applying at.now s.enrolment session manifest context)
   apply-keeps None context = tt
   apply-keeps (Some manifest) None = tt
   apply-keeps (Some manifest) (Some context) = refl
@@ -109,32 +120,36 @@ module _ (at : Setting) (s : State) (session : Session) where
 
   feature-keeps : (name : List ℕ) (manifest : Option Manifest) → Keeps (serving s session name manifest)
   feature-keeps name None = tt
-  feature-keeps name (Some manifest) = value-keeps (served manifest s name)
+  feature-keeps name (Some manifest) = value-keeps (served manifest s.enrolment name)
 
   written-keeps : (manifest : Option Manifest) → Keeps (writing_manifest s session manifest)
   written-keeps None = tt
   written-keeps (Some manifest) = refl
 
-  out-keeps : (slug : List ℕ) (full : Bool) → Keeps (if full then Refused OptedOutLimit else Accepted (after_opt_out s slug) session Okay)
+  out-keeps : (slug : List ℕ) (full : Bool) → Keeps {S = State} (if full then Refused OptedOutLimit else Accepted (after_opt_out s.enrolment slug) session Okay)
   out-keeps slug true = tt
   out-keeps slug false = refl
 
   module _ (slug branch : List ℕ) where
-    taking-keeps : (taker : Option (List ℕ × List ℕ)) → Keeps (taking s session slug branch taker)
+    taking-keeps : (taker : Option (List ℕ × List ℕ)) → Keeps (taking s.enrolment session slug branch taker)
     taking-keeps None = refl
     taking-keeps (Some taker) = tt
 
-    branch-keeps : (r : Recipe) (has : Bool) → Keeps (if has then taking s session slug branch (first_taker s r s.rows) else Refused NoSuchBranch)
-    branch-keeps r true = taking-keeps (first_taker s r s.rows)
+    branch-keeps : (r : Recipe) (has : Bool) → Keeps {S = State} (if has then taking s.enrolment session slug branch (first_taker s.enrolment r s.enrolment.rows) else Refused NoSuchBranch)
+    branch-keeps r true = taking-keeps (first_taker s.enrolment r s.enrolment.rows)
     branch-keeps r false = tt
 
-    part-keeps : (r : Recipe) (on : Bool) → Keeps (if on then offering s session slug branch r else Refused NotParticipating)
+    part-keeps : (r : Recipe) (on : Bool) → Keeps {S = State} (if on then offering s.enrolment session slug branch r else Refused NotParticipating)
     part-keeps r true = branch-keeps r (has_branch r branch)
     part-keeps r false = tt
 
-    choosing-keeps : (found : Option Recipe) → Keeps (choosing s session slug branch found)
+    choosing-keeps : (found : Option Recipe) → Keeps (choosing s.enrolment session slug branch found)
     choosing-keeps None = tt
-    choosing-keeps (Some r) = part-keeps r (takes_part s (kind_of r))
+    choosing-keeps (Some r) = part-keeps r (takes_part s.enrolment (kind_of r))
+
+  count-keeps : (name : List ℕ) (count : ℕ) (full : Bool) → Keeps {S = ClientState} (if full then Refused EventLimit else Accepted (record s { events = counted_in name count at.now s.events }) session Okay)
+  count-keeps name count true = tt
+  count-keeps name count false = refl
 
   -- a command that is no `manifest` stays
   stays : (command : Command) (m : Manifest) → ((file channel : List ℕ) → command ≡ commands.Manifest file channel → ⊥) → (step at s session command).session.manifest ≡ session.manifest
@@ -178,14 +193,15 @@ module _ (at : Setting) (s : State) (session : Session) where
   unfolding step
   sets_or_stays (commands.Manifest file channel) m is = manifest-sets file channel m (manifest_of at.files file channel) refl is
   sets_or_stays (commands.Context file) m is = stays (commands.Context file) m (λ f c e. cc) (done-keeps (reading_context s session (file_tree file (at.files file))) (file-keeps (file_tree file (at.files file)))) is
-  sets_or_stays (Fetch file) m is = stays (Fetch file) m (λ f c e. cc) (done-keeps (fetching s session (file_tree file (at.files file))) (fetch-keeps (file_tree file (at.files file)))) is
-  sets_or_stays Apply m is = stays Apply m (λ f c e. cc) (done-keeps (applying at.now s session session.manifest session.context) (apply-keeps session.manifest session.context)) is
-  sets_or_stays (Participate part on) m is = stays (Participate part on) m (λ f c e. cc) (done-keeps (participation s session part on) refl) is
-  sets_or_stays (OptOut slug) m is = stays (OptOut slug) m (λ f c e. cc) (done-keeps (opting_out s session slug) (out-keeps slug (has_no_room s.opted_out slug))) is
-  sets_or_stays (OptIn slug branch) m is = stays (OptIn slug branch) m (λ f c e. cc) (done-keeps (opting_in s session slug branch) (choosing-keeps slug branch (recipe_with slug s.live))) is
-  sets_or_stays (Reset id) m is = stays (Reset id) m (λ f c e. cc) (done-keeps (resetting s session id) refl) is
+  sets_or_stays (Fetch file) m is = stays (Fetch file) m (λ f c e. cc) (enrolling-keeps (fetching s.enrolment session (file_tree file (at.files file))) (fetch-keeps (file_tree file (at.files file)))) is
+  sets_or_stays Apply m is = stays Apply m (λ f c e. cc) (enrolling-keeps (applying at.now s.enrolment session session.manifest (seeing at.now s.events session.context)) (apply-keeps session.manifest (seeing at.now s.events session.context))) is
+  sets_or_stays (Participate part on) m is = stays (Participate part on) m (λ f c e. cc) (enrolling-keeps (participation s.enrolment session part on) refl) is
+  sets_or_stays (OptOut slug) m is = stays (OptOut slug) m (λ f c e. cc) (enrolling-keeps (opting_out s.enrolment session slug) (out-keeps slug (has_no_room s.enrolment.opted_out slug))) is
+  sets_or_stays (OptIn slug branch) m is = stays (OptIn slug branch) m (λ f c e. cc) (enrolling-keeps (opting_in s.enrolment session slug branch) (choosing-keeps slug branch (recipe_with slug s.enrolment.live))) is
+  sets_or_stays (Reset id) m is = stays (Reset id) m (λ f c e. cc) (done-keeps (whole s [] (resetting s.enrolment session id)) refl) is
   sets_or_stays Show m is = stays Show m (λ f c e. cc) (done-keeps (showing s session) refl) is
   sets_or_stays (Feature name) m is = stays (Feature name) m (λ f c e. cc) (done-keeps (serving s session name session.manifest) (feature-keeps name session.manifest)) is
+  sets_or_stays (Event name count) m is = stays (Event name count) m (λ f c e. cc) (done-keeps (counting at.now s session name count) (count-keeps name count (has_no_room_for name s.events))) is
   sets_or_stays WriteManifest m is = stays WriteManifest m (λ f c e. cc) (done-keeps (writing_manifest s session session.manifest) (written-keeps session.manifest)) is
 
 -- ---- one line
@@ -221,7 +237,7 @@ module _ (at : Setting) (run : RunState) (line : List ℕ) where
 
 -- ---- many lines
 
-module _ (at : Setting) (s : State) (lines : List (List ℕ)) where
+module _ (at : Setting) (s : ClientState) (lines : List (List ℕ)) where
   module _ (k : ℕ) (inside : k < length lines) (m : Manifest) where
     here : LineSets at (run_at at s lines k) (get_or lines k []) m → IsSetLast at s lines (k + 1) m
     here sets = record {

@@ -9,8 +9,8 @@ use Rattle.host_model.proofs.Meeting.{started, then_met, met_weaker}
 use Rattle.gate_journal.specs.Records.{place_of}
 use Rattle.pair_store.specs.Repair.{repair_cost, IsUnwritten}
 use Rattle.enrol_states.specs.Statuses.{last_moment}
-use Rattle.enrol_states.specs.declared.state.State.{State}
-use Rattle.state_codec.specs.Forms.{needs_migration}
+use Rattle.client_state.specs.declared.client_state.ClientState.{ClientState}
+use Rattle.client_state.specs.Forms.{needs_migration}
 use Rattle.client_core.specs.declared.client.Client.{Client}
 use Rattle.client_core.specs.declared.faults.ClientFault.{ClientFault}
 use Rattle.client_core.specs.declared.faults.ClientFault.TheVariants.{NoStore, BadStore, DiskFault, OutOfMemory}
@@ -47,7 +47,7 @@ use Rattle.session_run.proofs.Writing.{below_then, below_unwritten}
 -- ---- the store was not opened
 
 -- a pair that stands for a state is opened, unless the disk fails or memory is wanting
-pub unopened_before : (l r : List ℕ) (fault : ClientFault) → OpenFinds l r fault → (s : State) → StandsFor l r s → EndedBefore (of_store fault)
+pub unopened_before : (l r : List ℕ) (fault : ClientFault) → OpenFinds l r fault → (s : ClientState) → StandsFor l r s → EndedBefore (of_store fault)
 unopened_before l r NoStore finds s stands = absurd (stands_not_absent l r s stands finds)
 unopened_before l r BadStore finds s stands = absurd (finds.no_state s stands)
 unopened_before l r DiskFault finds s stands = inr (inr (inl refl))
@@ -67,7 +67,7 @@ run_finds l r DiskFault finds = tt
 run_finds l r OutOfMemory finds = tt
 
 -- what a pair that stands for a state is opened with
-opens_somehow : (l r : List ℕ) (s : State) → StandsFor l r s → (place bytes : ℕ) × OpensWith l r s place bytes
+opens_somehow : (l r : List ℕ) (s : ClientState) → StandsFor l r s → (place bytes : ℕ) × OpensWith l r s place bytes
 opens_somehow l r s stands =
     let migrates = needs_migration stands.stored in
     let before = place_of stands.rows.0 in (
@@ -113,7 +113,7 @@ abbrev pub of_lines : Result (Unit {0}) RunFault → RunStatus
 of_lines (Ok done) = status.Done
 of_lines (Err fault) = of_run fault
 
-pub lines_end : {H : Type 0} (h : Ghosts H) (asked : List (List ℕ) → Type 0) (states : List State) (start : Start) (new : H) (result : Result (Unit {0}) RunFault) → LinesEnd h asked start new result → RunEnds h asked states start new (of_lines result)
+pub lines_end : {H : Type 0} (h : Ghosts H) (asked : List (List ℕ) → Type 0) (states : List ClientState) (start : Start) (new : H) (result : Result (Unit {0}) RunFault) → LinesEnd h asked start new result → RunEnds h asked states start new (of_lines result)
 lines_end h asked states start new (Ok done) ends = ends
 lines_end h asked states start new (Err fault) ends = run_ends h asked states start new fault ends
 
@@ -132,21 +132,21 @@ record WentOn {H : Type 0} (h : Ghosts H) (old new : H) (start : Start) : Type 0
   second : MeetsAll h synced new (AfterPrefix start)
 
 module _ {F H : Type 0} (f : shelves.Ghosts F) (h : Ghosts H) (asked : List (List ℕ) → Type 0) (now : ℕ) (moment : now ≤ last_moment) (shelf : F) (old : H) (lines : List (List ℕ)) (old_left : h.images old Left (h.reads old Left)) (old_right : h.images old Right (h.reads old Right)) where
-  abbrev from : State → ℕ → ℕ → Start
+  abbrev from : ClientState → ℕ → ℕ → Start
   from s place bytes = opened_on f h now shelf old lines s place bytes
 
-  abbrev WasKept : State → Type 0
+  abbrev WasKept : ClientState → Type 0
   WasKept s = KeptFor (h.reads old Left) (h.reads old Right) s
 
-  abbrev Stood : State → Type 0
+  abbrev Stood : ClientState → Type 0
   Stood s = StandsFor (h.reads old Left) (h.reads old Right) s
 
-  stood : (s : State) → WasKept s → Stood s
+  stood : (s : ClientState) → WasKept s → Stood s
   stood s kept = stands_of_kept (h.reads old Left) (h.reads old Right) s kept
 
   -- ---- the moments, from a state
 
-  module _ (s : State) (place bytes : ℕ) where
+  module _ (s : ClientState) (place bytes : ℕ) where
     -- before the first line
     begun_met : (l r u : List ℕ) → IsLeftAs (h.said old) s l r u → AfterPrefix (from s place bytes) l r u
     begun_met l r u met = some_at_start (setting f shelf now) s place lines (h.said old) (h.written old + bytes) l r u met.0 met.1
@@ -172,7 +172,7 @@ module _ {F H : Type 0} (f : shelves.Ghosts F) (h : Ghosts H) (asked : List (Lis
       crash_in answered (inr went) all =
           then_met h.moment h.might old went.synced new (NowOf h old) (AfterPrefix (from s place bytes)) (AfterPrefix (from s place bytes)) went.first went.second (now_met all) (λ l r u met. met)
 
-      module _ (states : List State) (all : AllKeptAmong h old states) where
+      module _ (states : List ClientState) (all : AllKeptAmong h old states) where
         among_met : (mid : H) → MeetsAll h old mid (NowOf h old) → MeetsAll h old mid (IsAmong states (h.said old))
         among_met mid run = met_weaker h.moment h.might old mid (NowOf h old) (IsAmong states (h.said old)) run (λ l r u met. (all l r met.0 met.1, met.2))
 
@@ -192,14 +192,14 @@ module _ {F H : Type 0} (f : shelves.Ghosts F) (h : Ghosts H) (asked : List (Lis
 
   -- how it ended
   abbrev Ends : H → RunStatus → Type 0
-  Ends new answered = (states : List State) (s : State) → AllKeptAmong h old states → WasKept s → (place bytes : ℕ) × OpensWith (h.reads old Left) (h.reads old Right) s place bytes × RunEnds h asked states (from s place bytes) new answered
+  Ends new answered = (states : List ClientState) (s : ClientState) → AllKeptAmong h old states → WasKept s → (place bytes : ℕ) × OpensWith (h.reads old Left) (h.reads old Right) s place bytes × RunEnds h asked states (from s place bytes) new answered
 
   -- what it did without a crash
   abbrev Did : H → RunStatus → Type 0
-  Did new answered = answered ≡ status.Done → (s : State) → Stood s → (place bytes : ℕ) × OpensWith (h.reads old Left) (h.reads old Right) s place bytes × StandsAfter h (from s place bytes) old new
+  Did new answered = answered ≡ status.Done → (s : ClientState) → Stood s → (place bytes : ℕ) × OpensWith (h.reads old Left) (h.reads old Right) s place bytes × StandsAfter h (from s place bytes) old new
 
   module _ (new : H) (answered : RunStatus) where
-    ran : ((s : State) (place bytes : ℕ) → WasKept s → Goes s place bytes new answered) → Ends new answered → Did new answered → MeetsAll h old new (IsBelowMark h old) → Ran h asked from old new answered
+    ran : ((s : ClientState) (place bytes : ℕ) → WasKept s → Goes s place bytes new answered) → Ends new answered → Did new answered → MeetsAll h old new (IsBelowMark h old) → Ran h asked from old new answered
     ran goes ends done below = record {
       crash = λ s place bytes all. crash_in s place bytes new answered (goes s place bytes (all (h.reads old Left) (h.reads old Right) old_left old_right)) all;
       phases = λ states s place bytes all kept. phases_in s place bytes new states all answered (goes s place bytes kept) kept;
@@ -218,8 +218,8 @@ module _ {F H : Type 0} (f : shelves.Ghosts F) (h : Ghosts H) (asked : List (Lis
     }
 
   -- no line was done
-  module _ (new : H) (answered : RunStatus) (early : (EndedBefore answered × MeetsAll h old new (NowOf h old)) ⊎ OpensInTwoPhases h old new) (before : (s : State) → Stood s → EndedBefore answered) where
-    unbegun_goes : (s : State) (place bytes : ℕ) → WasKept s → Goes s place bytes new answered
+  module _ (new : H) (answered : RunStatus) (early : (EndedBefore answered × MeetsAll h old new (NowOf h old)) ⊎ OpensInTwoPhases h old new) (before : (s : ClientState) → Stood s → EndedBefore answered) where
+    unbegun_goes : (s : ClientState) (place bytes : ℕ) → WasKept s → Goes s place bytes new answered
     unbegun_goes s place bytes kept = elim early [
       | inl unsynced ↦ inl unsynced
       | inr two ↦ inr (record {
@@ -230,8 +230,8 @@ module _ {F H : Type 0} (f : shelves.Ghosts F) (h : Ghosts H) (asked : List (Lis
       })
     ]
 
-    pub ran_unbegun : ((states : List State) → AllKeptAmong h old states → AllKeptAmong h new states) → h.said new ≡ h.said old
-        → ((s : State) (place bytes : ℕ) → OpensWith (h.reads old Left) (h.reads old Right) s place bytes → h.written new ≤ h.written old + bytes)
+    pub ran_unbegun : ((states : List ClientState) → AllKeptAmong h old states → AllKeptAmong h new states) → h.said new ≡ h.said old
+        → ((s : ClientState) (place bytes : ℕ) → OpensWith (h.reads old Left) (h.reads old Right) s place bytes → h.written new ≤ h.written old + bytes)
         → MeetsAll h old new (IsBelowMark h old) → (answered ≡ status.Done → ⊥) → Ran h asked from old new answered
     ran_unbegun stays text most below not_done =
         ran new answered unbegun_goes
@@ -260,15 +260,15 @@ module _ {F H : Type 0} (f : shelves.Ghosts F) (h : Ghosts H) (asked : List (Lis
     bytes = opened.bytes
 
     -- they begin as those of the run
-    ran_from : (s : State) → Stood s → LinesRan h asked (HasGateOn h client mid) (from s place bytes) mid new result
+    ran_from : (s : ClientState) → Stood s → LinesRan h asked (HasGateOn h client mid) (from s place bytes) mid new result
     ran_from s stands =
         subst (λ (start : Start). LinesRan h asked (HasGateOn h client mid) start mid new result)
         (same_start (setting f shelf now) s (state_of client) place those lines (h.said old) (h.said mid) (h.written old + bytes) (h.written mid) (opened.known s stands) lines_are text opened.written) lines_ran
 
-    opens_for : (s : State) → Stood s → OpensWith (h.reads old Left) (h.reads old Right) s place bytes
-    opens_for s stands = subst (λ (x : State). OpensWith (h.reads old Left) (h.reads old Right) x place bytes) (opened.known s stands) opened.opens
+    opens_for : (s : ClientState) → Stood s → OpensWith (h.reads old Left) (h.reads old Right) s place bytes
+    opens_for s stands = subst (λ (x : ClientState). OpensWith (h.reads old Left) (h.reads old Right) x place bytes) (opened.known s stands) opened.opens
 
-    opened_goes : (s : State) (other count : ℕ) → WasKept s → Goes s other count new (of_lines result)
+    opened_goes : (s : ClientState) (other count : ℕ) → WasKept s → Goes s other count new (of_lines result)
     opened_goes s other count kept =
         let lines_met = met_weaker h.moment h.might mid new (AfterPrefix (from s place bytes)) (AfterPrefix (from s other count)) ((ran_from s (stood s kept)).moments (opened.gate s kept))
         (elsewhere (setting f shelf now) s lines (h.said old) place (h.written old + bytes) other (h.written old + count)) in
@@ -279,7 +279,7 @@ module _ {F H : Type 0} (f : shelves.Ghosts F) (h : Ghosts H) (asked : List (Lis
           second = then_met h.moment h.might two.synced mid new (AfterPrefix (from s other count)) (AfterPrefix (from s other count)) (AfterPrefix (from s other count)) (opening_met s other count kept two.synced mid two.second) lines_met (λ l r u met. met) (λ l r u met. met);
         })
 
-    stands_after : (done : Result (Unit {0}) RunFault) → of_lines done ≡ status.Done → h.images new Left (h.reads new Left) → h.images new Right (h.reads new Right) → (s : State) → LinesRan h asked (HasGateOn h client mid) (from s place bytes) mid new done
+    stands_after : (done : Result (Unit {0}) RunFault) → of_lines done ≡ status.Done → h.images new Left (h.reads new Left) → h.images new Right (h.reads new Right) → (s : ClientState) → LinesRan h asked (HasGateOn h client mid) (from s place bytes) mid new done
         → StandsAfter h (from s place bytes) old new
     stands_after (Ok all) is new_left new_right s line_facts = record {
       reads = line_facts.images (h.reads new Left) (h.reads new Right) new_left new_right;

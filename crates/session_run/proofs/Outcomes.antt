@@ -4,16 +4,16 @@ use Rattle.gate_journal.specs.Costs.{HasCost}
 use Rattle.host_model.specs.declared.host.Host.{Ghosts}
 use Rattle.host_model.specs.Hosts.{MeetsAll, NowOf}
 use Rattle.host_model.proofs.Meeting.{started}
-use Rattle.enrol_states.specs.declared.state.State.{State}
-use Rattle.client_core.specs.declared.command.Command.{Command}
+use Rattle.client_state.specs.declared.client_state.ClientState.{ClientState}
+use Rattle.client_words.specs.declared.command.Command.{Command}
 use Rattle.client_core.specs.declared.faults.StepFault.{StepFault}
 use Rattle.client_core.specs.declared.faults.StepFault.TheVariants as step_fault
 use Rattle.client_core.specs.declared.session.Session.{Session}
 use Rattle.client_core.specs.OpenStore.{AllKept}
 use Rattle.client_core.specs.Settings.{Setting}
 use Rattle.client_core.specs.Steps.{step}
-use Rattle.client_words.specs.declared.command.LineFault.{LineFault}
-use Rattle.client_words.specs.declared.command.LineFault.TheVariants.{OutOfMemory}
+use Rattle.client_words.specs.declared.line.LineFault.{LineFault}
+use Rattle.client_words.specs.declared.line.LineFault.TheVariants.{OutOfMemory}
 use Rattle.session_run.specs.declared.faults.RunFault.{RunFault}
 use Rattle.session_run.specs.declared.faults.RunFault.TheVariants as run
 use Rattle.client_words.specs.Answers.{answer_lines, fault_answer}
@@ -37,7 +37,7 @@ pub both_ok : {T E P Q R : Type 0} (result : Result T E) → OnOk result P → O
 both_ok (Ok value) first second follows = follows first second
 both_ok (Err fault) first second follows = tt
 
-module _ {H : Type 0} (h : Ghosts H) (start : H) (s t : State) (text : List ℕ) (kept : AllKept h start s) where
+module _ {H : Type 0} (h : Ghosts H) (start : H) (s t : ClientState) (text : List ℕ) (kept : AllKept h start s) where
   -- nothing is written or said
   pub unwritten_met : ((l r u : List ℕ) → h.might start (h.moment start) l r u → NowOf h start l r u) → MeetsAll h start start (DuringLine (h.said start) s t text)
   unwritten_met only = started h.moment h.might start (DuringLine (h.said start) s t text) (λ l r u met.
@@ -58,7 +58,7 @@ module _ {H : Type 0} (h : Ghosts H) (start : H) (s t : State) (text : List ℕ)
 
 pub run_same : (a b : RunState) → a.state ≡ b.state → a.session ≡ b.session → a ≡ b
 run_same a b state session =
-    ap (λ (x : State). record { state = x; session = a.session }) state ∙ ap (λ (x : Session). record { state = b.state; session = x }) session
+    ap (λ (x : ClientState). record { state = x; session = a.session }) state ∙ ap (λ (x : Session). record { state = b.state; session = x }) session
 
 -- a line was read
 pub read_ok : (command : Command) (found : Result Command LineFault) → (Ok command ≡ found) ⊎ (Ok command ≡ Err OutOfMemory) → found ≡ Ok command

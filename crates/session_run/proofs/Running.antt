@@ -4,7 +4,7 @@ use Rattle.std.proofs.lemmas.List.{append-nil, take_more, take-append-drop}
 use Rattle.host_model.specs.declared.host.Host.{Ghosts}
 use Rattle.host_model.specs.Hosts.{MeetsAll}
 use Rattle.host_model.proofs.Meeting.{then_met}
-use Rattle.enrol_states.specs.declared.state.State.{State}
+use Rattle.client_state.specs.declared.client_state.ClientState.{ClientState}
 use Rattle.client_core.specs.Settings.{Setting}
 use Rattle.client_core.specs.Store.{KeptFor}
 use Rattle.session_run.specs.Steps.{RunState, begun, run_after, answer, all_after, all_answers, run_at, after, out}
@@ -13,7 +13,7 @@ use Rattle.session_run.proofs.Starting.{begin}
 use Rattle.session_run.proofs.Stepping.{all_after-push, all_answers-push}
 
 -- the answers to all lines but the last of the first k
-answered_before : (at : Setting) (s : State) (lines : List (List ℕ)) (k : ℕ) → 0 < k → k ≤ length lines → IsPrefixOf (out at s lines (k - 1)) (out at s lines k)
+answered_before : (at : Setting) (s : ClientState) (lines : List (List ℕ)) (k : ℕ) → 0 < k → k ≤ length lines → IsPrefixOf (out at s lines (k - 1)) (out at s lines k)
 answered_before at s lines k some within =
     let again : k - 1 + 1 ≡ k = omega (arith, some) in
     let line = get_or lines (k - 1) [] in
@@ -23,7 +23,7 @@ answered_before at s lines k some within =
     )
 
 -- before the first line
-pub some_at_start : (at : Setting) (s : State) (place : ℕ) (lines : List (List ℕ)) (said : List ℕ) (written : ℕ) (l r u : List ℕ) → KeptFor l r s → u ≡ said → AfterPrefix (begin at s place lines said written) l r u
+pub some_at_start : (at : Setting) (s : ClientState) (place : ℕ) (lines : List (List ℕ)) (said : List ℕ) (written : ℕ) (l r u : List ℕ) → KeptFor l r s → u ≡ said → AfterPrefix (begin at s place lines said written) l r u
 some_at_start at s place lines said written l r u kept same = record {
   new = [];
   text = same ∙ sym (append-nil said);
@@ -35,11 +35,11 @@ some_at_start at s place lines said written l r u kept same = record {
 }
 
 -- what is met in a run doesn't depend on where its records begin, nor on how many bytes were written
-pub elsewhere : (at : Setting) (s : State) (lines : List (List ℕ)) (said : List ℕ) (place written other count : ℕ) (l r u : List ℕ) → AfterPrefix (begin at s place lines said written) l r u → AfterPrefix (begin at s other lines said count) l r u
+pub elsewhere : (at : Setting) (s : ClientState) (lines : List (List ℕ)) (said : List ℕ) (place written other count : ℕ) (l r u : List ℕ) → AfterPrefix (begin at s place lines said written) l r u → AfterPrefix (begin at s other lines said count) l r u
 elsewhere at s lines said place written other count l r u met =
     record { new = met.new; text = met.text; k = met.k; within = met.within; kept = met.kept; printed = met.printed; answered = met.answered }
 
-module _ (at : Setting) (s : State) (lines : List (List ℕ)) (i : ℕ) (line : List ℕ) (within : i < length lines) (more : take (i + 1) lines ≡ take i lines ++ line ∷ []) where
+module _ (at : Setting) (s : ClientState) (lines : List (List ℕ)) (i : ℕ) (line : List ℕ) (within : i < length lines) (more : take (i + 1) lines ≡ take i lines ++ line ∷ []) where
   pub run-more : run_at at s lines (i + 1) ≡ run_after at (run_at at s lines i) line
   run-more = ap (λ (some : List (List ℕ)). all_after at (begun s) some) more ∙ all_after-push at (begun s) (take i lines) line
 

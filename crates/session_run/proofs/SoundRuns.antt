@@ -1,16 +1,17 @@
 -- From a sound state each line of a run leaves a sound state and a lawful session.
 use Rattle.std.proofs.Common.{ℕ, ◌≤◌, List, [], ◌∷◌, take, Result, Ok, Err, IfOk}
 use Rattle.enrol_states.specs.Statuses.{last_moment}
-use Rattle.enrol_states.specs.declared.state.State.{State}
-use Rattle.state_codec.specs.Sound.{IsSound}
-use Rattle.client_core.specs.declared.command.Command.{Command}
+use Rattle.client_state.specs.declared.client_state.ClientState.{ClientState}
+use Rattle.client_state.specs.Sound.{IsSound}
+use Rattle.client_words.specs.declared.command.Command.{Command}
 use Rattle.client_core.specs.Settings.{Setting}
-use Rattle.client_core.specs.Soundness.{IsCommand, IsLawful}
+use Rattle.client_core.specs.Soundness.{IsLawful}
+use Rattle.client_words.specs.Commands.{IsCommand}
 use Rattle.client_core.proofs.Soundness.{steps_stay_sound}
-use Rattle.client_words.specs.declared.command.LineFault.{LineFault}
+use Rattle.client_words.specs.declared.line.LineFault.{LineFault}
 use Rattle.client_words.specs.Commands.{command_of}
 use Rattle.session_run.specs.Steps.{RunState, begun, effect, run_after, all_after, run_at}
-use Rattle.session_run.proofs.Commands.{line-kept}
+use Rattle.client_words.proofs.Kept.{line-kept}
 
 -- a sound state and a lawful session
 pub record IsSoundRun (run : RunState) : Type 0 where
@@ -32,5 +33,5 @@ module _ (at : Setting) (moment : at.now ≤ last_moment) where
   lines_sound run [] sound = sound
   lines_sound run (line ∷ lines) sound = lines_sound (run_after at run line) lines (line_sound run line sound)
 
-  pub run_sound : (s : State) (lines : List (List ℕ)) (k : ℕ) → IsSound s → IsSoundRun (run_at at s lines k)
+  pub run_sound : (s : ClientState) (lines : List (List ℕ)) (k : ℕ) → IsSound s → IsSoundRun (run_at at s lines k)
   run_sound s lines k sound = lines_sound (begun s) (take k lines) (record { state = sound; session = steps_stay_sound.begun })

@@ -3,7 +3,7 @@ use Rattle.std.proofs.Common.{◌≡◌, ℕ, List, ap, ◌∙◌, subst, arith,
 use Rattle.gate_journal.specs.Costs.{HasCost}
 use Rattle.host_model.specs.declared.host.Host.{Ghosts}
 use Rattle.host_model.specs.Hosts.{MeetsAll, NowOf}
-use Rattle.enrol_states.specs.declared.state.State.{State}
+use Rattle.client_state.specs.declared.client_state.ClientState.{ClientState}
 use Rattle.client_core.specs.declared.client.Client.{Client}
 use Rattle.client_core.specs.Clients.{state_of, end_of, IsOpenOn, IsSameClient}
 use Rattle.client_core.specs.OpenStore.{AllKept}
@@ -23,7 +23,7 @@ err_ok P (Err f) fault and = tt
 
 -- nothing was written or said
 module _ {H : Type 0} (h : Ghosts H) (client : Client) (old : H) (only : (l r u : List ℕ) → h.might old (h.moment old) l r u → NowOf h old l r u) (result : Result (Unit {0}) RunFault) (fault : RunFault) (and : IsErrAnd result (λ f. f ≡ fault)) where
-  pub undone_ran : IsOpenOn h client old → (t : State) (text : List ℕ) → (AllKept h old (state_of client) → LineEnds h (state_of client) t text (h.said old) old result) → LineRan h client t text old old result
+  pub undone_ran : IsOpenOn h client old → (t : ClientState) (text : List ℕ) → (AllKept h old (state_of client) → LineEnds h (state_of client) t text (h.said old) old result) → LineRan h client t text old old result
   undone_ran holds t text ends = record {
     moments = λ gate. unwritten_met h old (state_of client) t text (all_kept h client old holds gate) only;
     ends = λ gate. ends (all_kept h client old holds gate);
@@ -40,11 +40,11 @@ module _ {H : Type 0} (h : Ghosts H) (client : Client) (old : H) (only : (l r u 
   }
 
 -- what is known of a line on a client that stores the same
-pub ran_again : {H : Type 0} (h : Ghosts H) (client fresh : Client) → IsSameClient client fresh → (t : State) (text : List ℕ) (old new : H) (result : Result (Unit {0}) RunFault) → LineRan h fresh t text old new result → LineRan h client t text old new result
+pub ran_again : {H : Type 0} (h : Ghosts H) (client fresh : Client) → IsSameClient client fresh → (t : ClientState) (text : List ℕ) (old new : H) (result : Result (Unit {0}) RunFault) → LineRan h fresh t text old new result → LineRan h client t text old new result
 ran_again h client fresh same t text old new result ran = record {
-  moments = λ gate. subst (λ (s : State). MeetsAll h old new (DuringLine (h.said old) s t text)) same.stored.state (ran.moments (gate_again client fresh same h old gate));
-  ends = λ gate. subst (λ (s : State). LineEnds h s t text (h.said old) new result) same.stored.state (ran.ends (gate_again client fresh same h old gate));
+  moments = λ gate. subst (λ (s : ClientState). MeetsAll h old new (DuringLine (h.said old) s t text)) same.stored.state (ran.moments (gate_again client fresh same h old gate));
+  ends = λ gate. subst (λ (s : ClientState). LineEnds h s t text (h.said old) new result) same.stored.state (ran.ends (gate_again client fresh same h old gate));
   said = ran.said;
   cost = subst (λ (n : ℕ). HasCost n (h.written old) (h.written new) result)
-      (ap (λ (p : ℕ). bytes_for p (state_of fresh) t) (end_again client fresh same) ∙ ap (λ (s : State). bytes_for (end_of client) s t) same.stored.state) ran.cost;
+      (ap (λ (p : ℕ). bytes_for p (state_of fresh) t) (end_again client fresh same) ∙ ap (λ (s : ClientState). bytes_for (end_of client) s t) same.stored.state) ran.cost;
 }

@@ -6,15 +6,15 @@ use Rattle.json_tree.specs.Bytes.{text_of}
 use Rattle.json_tree.specs.Tree.{json_of}
 use Rattle.json_tree.specs.declared.tree.Tree.{Tree}
 use Rattle.enrol_states.specs.Statuses.{last_moment}
-use Rattle.state_codec.specs.Sound.{IsSound}
-use Rattle.client_core.specs.declared.answer.Answer.{Answer}
-use Rattle.client_core.specs.declared.answer.Answer.TheVariants.{Okay, Fetched, Applied, Value, Shown, Manifest}
-use Rattle.client_core.specs.declared.command.Command.{Command}
+use Rattle.client_state.specs.Sound.{IsSound}
+use Rattle.client_words.specs.declared.answer.Answer.{Answer}
+use Rattle.client_words.specs.declared.answer.Answer.TheVariants.{Okay, Fetched, Applied, Value, Shown, Manifest}
+use Rattle.client_words.specs.declared.command.Command.{Command}
 use Rattle.client_core.specs.Settings.{Setting}
 use Rattle.client_core.specs.Steps.{step}
 use Rattle.client_core.proofs.ServedValues.{values_have_types}
-use Rattle.client_words.specs.declared.command.LineFault.{LineFault}
-use Rattle.client_words.specs.declared.command.LineFault.TheVariants.{Blank, OutOfMemory}
+use Rattle.client_words.specs.declared.line.LineFault.{LineFault}
+use Rattle.client_words.specs.declared.line.LineFault.TheVariants.{Blank, OutOfMemory}
 use Rattle.client_words.specs.Answers.{answer_lines, fetched_lines, shown_lines}
 use Rattle.client_words.specs.Commands.{command_of}
 use Rattle.session_run.specs.Runs.{ServesValues}

@@ -3,7 +3,7 @@ use Rattle.std.specs.Prelude.{◌≡◌, ◌⊎◌, ℕ, ◌≤◌, ◌<◌, Lis
 use Rattle.host_model.specs.declared.side.Side.TheVariants.{Left, Right}
 use Rattle.host_model.specs.declared.host.Host.{Ghosts}
 use Rattle.enrol_states.specs.Order.{is_in}
-use Rattle.enrol_states.specs.declared.state.State.{State}
+use Rattle.client_state.specs.declared.client_state.ClientState.{ClientState}
 use Rattle.client_core.specs.Settings.{Setting}
 use Rattle.client_core.specs.Store.{KeptFor}
 use Rattle.session_run.specs.Moments.{AfterPrefix}
@@ -20,13 +20,13 @@ pub record Link : Type 0 where
   pub r : List ℕ
 
 -- the state after these runs
-abbrev pub folded : State → List Link → State
+abbrev pub folded : ClientState → List Link → ClientState
 folded s [] = s
 folded s (link ∷ links) = folded (after link.at s link.lines link.k) links
 
 -- this pair is kept for some state, and the run's for its first k lines from there
 pub record Leads (l r : List ℕ) (link : Link) : Type 0 where
-  pub s : State
+  pub s : ClientState
   pub within : link.k ≤ length link.lines
   pub from : KeptFor l r s
   pub left : KeptFor link.l link.r (after link.at s link.lines link.k)
@@ -45,26 +45,26 @@ pub record IsLinked {H : Type 0} (h : Ghosts H) (old : H) (start : Start) (l r u
   pub old_r : List ℕ
   pub left : h.images old Left old_l
   pub right : h.images old Right old_r
-  pub s : State
+  pub s : ClientState
   pub from : KeptFor old_l old_r s
   pub met : AfterPrefix (record start { state = s }) l r u
 
 -- the last pair is kept for s
-abbrev pub EndsKept : List ℕ → List ℕ → List Link → State → Type 0
+abbrev pub EndsKept : List ℕ → List ℕ → List Link → ClientState → Type 0
 EndsKept l r [] s = KeptFor l r s
 EndsKept l r (link ∷ links) s = EndsKept link.l link.r links s
 
 -- ---- opt-outs
 
 -- none of the lines that counted brings the slug back
-abbrev pub NoneBringsBack : State → List Link → List ℕ → Type 0
+abbrev pub NoneBringsBack : ClientState → List Link → List ℕ → Type 0
 NoneBringsBack s [] slug = Unit {0}
 NoneBringsBack s (link ∷ links) slug =
     ((j : ℕ) (line : List ℕ) → j < link.k → slice_get link.lines j ≡ Some line → LineBringsBack link.at (run_at link.at s link.lines j) slug line → ⊥)
     × NoneBringsBack (after link.at s link.lines link.k) links slug
 
 -- the slug is out at the start of some run, or by a line of it that counted, and none of those after that brings it back, in this run or a later one
-abbrev pub IsHeldOutOver : State → List Link → List ℕ → Type 0
-IsHeldOutOver s [] slug = IsTrue (is_in s.opted_out slug)
+abbrev pub IsHeldOutOver : ClientState → List Link → List ℕ → Type 0
+IsHeldOutOver s [] slug = IsTrue (is_in s.enrolment.opted_out slug)
 IsHeldOutOver s (link ∷ links) slug =
     (IsHeldOut link.at s link.lines link.k slug × NoneBringsBack (after link.at s link.lines link.k) links slug) ⊎ IsHeldOutOver (after link.at s link.lines link.k) links slug

@@ -4,7 +4,7 @@ use Rattle.host_model.specs.declared.side.Side.TheVariants.{Left, Right}
 use Rattle.host_model.specs.declared.host.Host.{Ghosts}
 use Rattle.host_model.specs.Hosts.{MeetsAll}
 use Rattle.pair_store.specs.Repair.{repair_cost}
-use Rattle.enrol_states.specs.declared.state.State.{State}
+use Rattle.client_state.specs.declared.client_state.ClientState.{ClientState}
 use Rattle.client_core.specs.Moments.{IsLeftAmong}
 use Rattle.row_store.specs.Rows.{HasPlace}
 use Rattle.client_core.specs.OpenStore.{AllKept, AllKeptAmong}
@@ -90,7 +90,7 @@ pub record Drilled {H : Type 0} (h : Ghosts H) (start count now : ℕ) (old new 
   -- what stands when it has ended, and how many bytes were written
   pub ends : DrillEnds h start count now old new status
   -- where each image is kept for one of some states, each image at each moment is, and nothing is said
-  pub left : (states : List State) → AllKeptAmong h old states → MeetsAll h old new (IsLeftAmong (h.said old) states)
+  pub left : (states : List ClientState) → AllKeptAmong h old states → MeetsAll h old new (IsLeftAmong (h.said old) states)
   -- each value that is said, at whatever moment, has its types
   pub values : ServesValues (drill_start start count now 0 (h.said old ++ drill_ready) 0)
   -- no byte at or past byte 33,554,432 of a side is written

@@ -1,7 +1,7 @@
 -- A drill: its store, its files and its script, and what might be met at its moments.
 use Rattle.std.specs.Prelude.{◌≡◌, ◌⊎◌, ℕ, List, [], ◌∷◌, ◌++◌, Option, Some, None, codes, bytes_eq, take, if◌then◌else◌}
-use Rattle.enrol_states.specs.declared.state.State.{State}
-use Rattle.enrol_states.specs.State.{fresh}
+use Rattle.client_state.specs.declared.client_state.ClientState.{ClientState}
+use Rattle.client_core.specs.NewStates.{fresh}
 use Rattle.recipe_drill.specs.Files.{script}
 use Rattle.recipe_drill.specs.Parts.{drill}
 use Rattle.recipe_drill.specs.Summary as counts
@@ -17,7 +17,7 @@ abbrev pub drill_bytes : List ℕ
 drill_bytes = 0 ∷ 0 ∷ 0 ∷ 0 ∷ 0 ∷ 0 ∷ 64 ∷ 0 ∷ 128 ∷ 0 ∷ 0 ∷ 0 ∷ 0 ∷ 0 ∷ 0 ∷ 0 ∷ []
 
 -- the state of its new store
-abbrev pub drill_fresh : ℕ → State
+abbrev pub drill_fresh : ℕ → ClientState
 drill_fresh now = fresh drill_bytes now
 
 -- what is said of the new store
@@ -46,7 +46,7 @@ drill_start start count now place said written = record { at = drill_setting sta
 
 -- the summary of the state after its script
 abbrev pub drill_summary : ℕ → ℕ → ℕ → List ℕ
-drill_summary start count now = counts.summary start count (last_state (drill_start start count now 0 [] 0))
+drill_summary start count now = counts.summary start count (last_state (drill_start start count now 0 [] 0)).enrolment
 
 -- all answers were said, and then a prefix of the summary. The images are kept for the last state
 pub record InSummary (start : Start) (summary l r u : List ℕ) : Type 0 where

@@ -1,7 +1,7 @@
 -- What stands when a line, the lines of a run or a run has ended, by the answer.
 use Rattle.std.specs.Prelude.{◌≡◌, ◌⊎◌, ◌<◌, ◌≤◌, ◌+◌, ℕ, List, ◌++◌, Result, Ok, Err, Some, take, slice_get}
 use Rattle.host_model.specs.declared.host.Host.{Ghosts}
-use Rattle.enrol_states.specs.declared.state.State.{State}
+use Rattle.client_state.specs.declared.client_state.ClientState.{ClientState}
 use Rattle.client_core.specs.OpenStore.{AllKept, AllKeptAmong, AllKeptEither}
 use Rattle.session_run.specs.declared.faults.RunFault.{RunFault}
 use Rattle.session_run.specs.declared.faults.RunFault.TheVariants as run
@@ -11,7 +11,7 @@ use Rattle.session_run.specs.Files.{NamesFile}
 use Rattle.session_run.specs.Starts.{Start, line_count, state_at, last_state, answers, written_at}
 
 -- a line that leads from s to t, with its answer
-abbrev pub LineEnds : {H T : Type 0} → Ghosts H → State → State → List ℕ → List ℕ → H → Result T RunFault → Type 0
+abbrev pub LineEnds : {H T : Type 0} → Ghosts H → ClientState → ClientState → List ℕ → List ℕ → H → Result T RunFault → Type 0
 LineEnds h s t text said host (Ok done) = AllKept h host t × (h.said host ≡ said ++ text)
 LineEnds h s t text said host (Err run.ShelfFault) = AllKept h host s × (h.said host ≡ said)
 LineEnds h s t text said host (Err run.OutOfMemory) = AllKept h host s × (h.said host ≡ said)
@@ -68,11 +68,11 @@ LinesEnd h asked start host (Err run.DiskFault) = EndsWithin h start host
 LinesEnd h asked start host (Err run.SayFault) = EndsInAnswer h start host
 
 -- no line is done: each image is still kept for one of these states, and nothing is said
-abbrev pub StaysAmong : {H : Type 0} → Ghosts H → List State → Start → H → Type 0
+abbrev pub StaysAmong : {H : Type 0} → Ghosts H → List ClientState → Start → H → Type 0
 StaysAmong h states start host = AllKeptAmong h host states × (h.said host ≡ start.said) × (h.written host ≤ start.written)
 
 -- a run from a state, which was one of these
-abbrev pub RunEnds : {H : Type 0} → Ghosts H → (List (List ℕ) → Type 0) → List State → Start → H → RunStatus → Type 0
+abbrev pub RunEnds : {H : Type 0} → Ghosts H → (List (List ℕ) → Type 0) → List ClientState → Start → H → RunStatus → Type 0
 RunEnds h asked states start host Done = EndsWhole h start host
 RunEnds h asked states start host ShelfFault = EndsAtFile h asked start host
 RunEnds h asked states start host OutOfMemory = EndsBefore h start host ⊎ StaysAmong h states start host

@@ -2,7 +2,7 @@
 use Rattle.std.specs.Prelude.{◌≡◌, ◌⊎◌, ℕ, List, [], ◌∷◌, ◌++◌, Ok, IsTrue}
 use Rattle.host_model.specs.Shelf.{IsReached}
 use Rattle.host_model.specs.declared.shelf.Shelf.{Ghosts}
-use Rattle.client_core.specs.declared.command.Command.{Command}
+use Rattle.client_words.specs.declared.command.Command.{Command}
 use Rattle.client_core.specs.Commands.{names_file, AsksFor}
 use Rattle.client_words.specs.Commands.{command_of}
 

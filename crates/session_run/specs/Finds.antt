@@ -3,7 +3,7 @@ use Rattle.std.specs.Prelude.{◌≡◌, ◌⊎◌, ℕ, List}
 use Rattle.host_model.specs.declared.side.Side.TheVariants.{Left, Right}
 use Rattle.host_model.specs.declared.host.Host.{Ghosts}
 use Rattle.pair_store.specs.Repair.{IsUnwritten, IsLeftByOpening}
-use Rattle.enrol_states.specs.declared.state.State.{State}
+use Rattle.client_state.specs.declared.client_state.ClientState.{ClientState}
 use Rattle.client_core.specs.Store.{StandsFor, IsStore, IsAbsent, IsBad}
 use Rattle.session_run.specs.declared.status.RunStatus.{RunStatus}
 use Rattle.session_run.specs.declared.status.RunStatus.TheVariants.{Done, Usage, ScriptTooLong, NoStore, AlreadyStore, BadStore, SourceFault, ShelfFault, DiskFault, SayFault, OutOfMemory}
@@ -68,7 +68,7 @@ pub record RunFound {H : Type 0} (h : Ghosts H) (old new : H) (status : RunStatu
   pub finds : RunFinds (h.reads old Left) (h.reads old Right) status
   pub judges : RunJudges (h.reads old Left) (h.reads old Right) status
   pub leaves : RunLeaves h old new status
-  pub quiet : ((s : State) → StandsFor (h.reads old Left) (h.reads old Right) s → ⊥) → WritesNoMore h old new
+  pub quiet : ((s : ClientState) → StandsFor (h.reads old Left) (h.reads old Right) s → ⊥) → WritesNoMore h old new
 
 -- what the making of a store found, and so a drill. It says something, or writes more than the byte of an opening, only where neither side was open
 pub record MakingFound {H : Type 0} (h : Ghosts H) (old new : H) (status : RunStatus) : Type 0 where

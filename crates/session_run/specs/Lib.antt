@@ -3,9 +3,11 @@ pub mod Chains
 pub mod DrillEnds
 pub mod Drills
 pub mod Ends
+pub mod EventChains
 pub mod FaultCauses
 pub mod Files
 pub mod Finds
+pub mod Histories
 pub mod Lines
 pub mod Making
 pub mod Moments

@@ -3,7 +3,7 @@ use Rattle.std.specs.Prelude.{◌≡◌, ◌≢◌, ◌++◌, ℕ, List, Result,
 use Rattle.host_model.specs.declared.host.Host.{Ghosts}
 use Rattle.host_model.specs.Hosts.{MeetsAll}
 use Rattle.gate_journal.specs.Costs.{HasCost}
-use Rattle.enrol_states.specs.declared.state.State.{State}
+use Rattle.client_state.specs.declared.client_state.ClientState.{ClientState}
 use Rattle.client_core.specs.declared.client.Client.{Client}
 use Rattle.client_core.specs.Clients.{state_of, end_of, IsOpenOn, HasGateOn}
 use Rattle.client_core.specs.Places.{bytes_for}
@@ -13,7 +13,7 @@ use Rattle.session_run.specs.Moments.{DuringLine}
 use Rattle.session_run.specs.Writes.{IsBelowMark}
 
 -- a line on this client that leads to the state t, with this answer
-pub record LineRan {H T : Type 0} (h : Ghosts H) (client : Client) (t : State) (text : List ℕ) (old new : H) (result : Result T RunFault) : Type 0 where
+pub record LineRan {H T : Type 0} (h : Ghosts H) (client : Client) (t : ClientState) (text : List ℕ) (old new : H) (result : Result T RunFault) : Type 0 where
   -- at each moment: the text of before with the old or the new state, or the new state with a prefix of the answer
   pub moments : HasGateOn h client old → MeetsAll h old new (DuringLine (h.said old) (state_of client) t text)
   -- what stands when it has ended, and what is said where it is done

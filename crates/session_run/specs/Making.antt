@@ -4,9 +4,9 @@ use Rattle.host_model.specs.declared.side.Side.TheVariants.{Left, Right}
 use Rattle.host_model.specs.declared.host.Host.{Ghosts}
 use Rattle.host_model.specs.Hosts.{MeetsAll}
 use Rattle.row_store.specs.Rows.{HasRows}
-use Rattle.enrol_states.specs.declared.state.State.{State}
-use Rattle.enrol_states.specs.State.{fresh}
-use Rattle.state_codec.specs.Spelling.{rows_of}
+use Rattle.client_state.specs.declared.client_state.ClientState.{ClientState}
+use Rattle.client_core.specs.NewStates.{fresh}
+use Rattle.client_state.specs.Spelling.{rows_of}
 use Rattle.client_core.specs.Moments.{IsLeftAmong}
 use Rattle.client_core.specs.OpenStore.{AllKept, AllKeptAmong}
 use Rattle.client_core.specs.Places.{making_bytes}
@@ -21,17 +21,17 @@ unfoldable pub ready : List ℕ → List ℕ
 ready id = codes "ready " ++ hyphenated id ++ 10 ∷ []
 
 -- nothing is said, or a prefix of the answer is and the images are kept for the state
-abbrev pub DuringMaking : List ℕ → State → List ℕ → List ℕ → List ℕ → List ℕ → Type 0
+abbrev pub DuringMaking : List ℕ → ClientState → List ℕ → List ℕ → List ℕ → List ℕ → Type 0
 DuringMaking said s text l r u = (u ≡ said) ⊎ (KeptFor l r s × ((n : ℕ) × (u ≡ said ++ take n text)))
 
 -- the store is made, and a part of the answer to that is said
-pub record EndsInReady {H : Type 0} (h : Ghosts H) (s : State) (text said : List ℕ) (host : H) : Type 0 where
+pub record EndsInReady {H : Type 0} (h : Ghosts H) (s : ClientState) (text said : List ℕ) (host : H) : Type 0 where
   pub kept : AllKept h host s
   pub n : ℕ
   pub said_part : h.said host ≡ said ++ take n text
 
 -- by the status. A store that is not made is not said to be ready
-abbrev pub MakingEnds : {H : Type 0} → Ghosts H → State → List ℕ → List ℕ → H → RunStatus → Type 0
+abbrev pub MakingEnds : {H : Type 0} → Ghosts H → ClientState → List ℕ → List ℕ → H → RunStatus → Type 0
 MakingEnds h s text said host Done = AllKept h host s × (h.said host ≡ said ++ text)
 MakingEnds h s text said host SayFault = EndsInReady h s text said host
 MakingEnds h s text said host AlreadyStore = h.said host ≡ said
@@ -51,7 +51,7 @@ pub record Made {H : Type 0} (h : Ghosts H) (id : List ℕ) (now : ℕ) (old new
   -- what stands when it has ended
   pub ends : MakingEnds h (fresh id now) (ready id) (h.said old) new status
   -- where each image is kept for one of some states, each image at each moment is, and nothing is said
-  pub left : (states : List State) → AllKeptAmong h old states → MeetsAll h old new (IsLeftAmong (h.said old) states)
+  pub left : (states : List ClientState) → AllKeptAmong h old states → MeetsAll h old new (IsLeftAmong (h.said old) states)
   -- where memory is wanting, nothing is said, and no byte is written but that of an opening
   pub memory : status ≡ OutOfMemory → WritesNoMore h old new
   -- the rows of a store that is made are spelled, and in no older form

@@ -3,8 +3,8 @@ use Rattle.std.specs.Prelude.{◌≡◌, ◌⊎◌, ◌++◌, ℕ, List, Some, I
 use Rattle.host_model.specs.declared.side.Side.TheVariants.{Left, Right}
 use Rattle.host_model.specs.declared.host.Host.{Ghosts}
 use Rattle.host_model.specs.Hosts.{MeetsAll}
-use Rattle.enrol_states.specs.declared.state.State.{State}
-use Rattle.state_codec.specs.Forms.{needs_migration}
+use Rattle.client_state.specs.declared.client_state.ClientState.{ClientState}
+use Rattle.client_state.specs.Forms.{needs_migration}
 use Rattle.client_core.specs.Migrations.{OpensWith}
 use Rattle.client_core.specs.OpenStore.{AllKept, AllKeptAmong, AllStand}
 use Rattle.client_core.specs.Store.{StandsFor, KeptFor}
@@ -24,7 +24,7 @@ abbrev pub ServesValues : Start → Type 0
 ServesValues start = (k : ℕ) (line text : List ℕ) → slice_get start.lines k ≡ Some line → answer start.at (run_at start.at start.state start.lines k) line ≡ value_line text → IsServedValue start.at start.state start.lines k line text
 
 -- a pair stands for a state by the old form of its rows
-abbrev pub HasOldForm : List ℕ → List ℕ → State → Type 0
+abbrev pub HasOldForm : List ℕ → List ℕ → ClientState → Type 0
 HasOldForm l r s = (found : StandsFor l r s) × IsTrue (needs_migration found.stored)
 
 -- all lines are done, from a pair that stood for a state
@@ -49,21 +49,21 @@ pub record LinesRan {H T : Type 0} (h : Ghosts H) (asked : List (List ℕ) → T
   pub kept : OnOk result (gated ⊎ Changes start → AllKept h new (last_state start))
 
 -- a run. Where the store's state is s, and its opening leaves the next record at a place and writes so many bytes, the lines begin with `from s place bytes`. Of its shelf `asked` tells whether it was asked for nothing but what some lines ask for
-pub record Ran {H : Type 0} (h : Ghosts H) (asked : List (List ℕ) → Type 0) (from : State → ℕ → ℕ → Start) (old new : H) (status : RunStatus) : Type 0 where
+pub record Ran {H : Type 0} (h : Ghosts H) (asked : List (List ℕ) → Type 0) (from : ClientState → ℕ → ℕ → Start) (old new : H) (status : RunStatus) : Type 0 where
   -- whenever a crash comes, inside a call too, the two images are kept for the state after the first k lines, each whose answer was said among them, and what was said is a prefix of the answers to them
-  pub crash : (s : State) (place bytes : ℕ) → AllKept h old s → MeetsAll h old new (AfterPrefix (from s place bytes))
+  pub crash : (s : ClientState) (place bytes : ℕ) → AllKept h old s → MeetsAll h old new (AfterPrefix (from s place bytes))
   -- after a run that the disk has ended, whose images are each kept for one of some states: that holds until both sides are synced, and nothing is said. From then on the state is the one for which reads are kept
-  pub phases : (states : List State) (s : State) (place bytes : ℕ) → AllKeptAmong h old states → KeptFor (h.reads old Left) (h.reads old Right) s → InPhases h states (from s place bytes) old new status
+  pub phases : (states : List ClientState) (s : ClientState) (place bytes : ℕ) → AllKeptAmong h old states → KeptFor (h.reads old Left) (h.reads old Right) s → InPhases h states (from s place bytes) old new status
   -- what stands when it has ended, and how many bytes were written, status by status
-  pub ends : (states : List State) (s : State) → AllKeptAmong h old states → KeptFor (h.reads old Left) (h.reads old Right) s → (place bytes : ℕ) × OpensWith (h.reads old Left) (h.reads old Right) s place bytes × RunEnds h asked states (from s place bytes) new status
+  pub ends : (states : List ClientState) (s : ClientState) → AllKeptAmong h old states → KeptFor (h.reads old Left) (h.reads old Right) s → (place bytes : ℕ) × OpensWith (h.reads old Left) (h.reads old Right) s place bytes × RunEnds h asked states (from s place bytes) new status
   -- a chain's link: whenever a crash comes, and when it has ended, each pair of images is one that the run leads to from a pair of its start
-  pub links : (states : List State) (s : State) (place bytes : ℕ) → AllKeptAmong h old states → KeptFor (h.reads old Left) (h.reads old Right) s → MeetsAll h old new (IsLinked h old (from s place bytes))
+  pub links : (states : List ClientState) (s : ClientState) (place bytes : ℕ) → AllKeptAmong h old states → KeptFor (h.reads old Left) (h.reads old Right) s → MeetsAll h old new (IsLinked h old (from s place bytes))
   -- and the next run may begin: when it has ended, each pair of images is kept for one of some states, and of one alone where it was so before and the disk has not ended it
-  pub next : (states : List State) → AllKeptAmong h old states → (later : List State) × AllKeptAmong h new later
-  pub next_one : (s : State) → AllKept h old s → ¬ (status ≡ DiskFault) → (t : State) × AllKept h new t
+  pub next : (states : List ClientState) → AllKeptAmong h old states → (later : List ClientState) × AllKeptAmong h new later
+  pub next_one : (s : ClientState) → AllKept h old s → ¬ (status ≡ DiskFault) → (t : ClientState) × AllKept h new t
   -- without a crash: where it answers Done, all lines were done and answered from what reads gave
-  pub done : status ≡ Done → (s : State) → StandsFor (h.reads old Left) (h.reads old Right) s → (place bytes : ℕ) × OpensWith (h.reads old Left) (h.reads old Right) s place bytes × StandsAfter h (from s place bytes) old new
+  pub done : status ≡ Done → (s : ClientState) → StandsFor (h.reads old Left) (h.reads old Right) s → (place bytes : ℕ) × OpensWith (h.reads old Left) (h.reads old Right) s place bytes × StandsAfter h (from s place bytes) old new
   -- each value that is said, at whatever moment, has its types
-  pub values : (s : State) (place bytes : ℕ) → StandsFor (h.reads old Left) (h.reads old Right) s → ServesValues (from s place bytes)
+  pub values : (s : ClientState) (place bytes : ℕ) → StandsFor (h.reads old Left) (h.reads old Right) s → ServesValues (from s place bytes)
   -- no byte at or past byte 33,554,432 of a side is written
   pub below : MeetsAll h old new (IsBelowMark h old)

@@ -1,23 +1,23 @@
 -- One line of a script: what it makes of a run, and what is said to it. And many lines. A line is its bytes.
 use Rattle.std.specs.Prelude.{ℕ, List, [], ◌∷◌, ◌++◌, Result, Ok, Err, take}
-use Rattle.enrol_states.specs.declared.state.State.{State}
+use Rattle.client_state.specs.declared.client_state.ClientState.{ClientState}
 use Rattle.client_core.specs.declared.client.Client.{Client}
-use Rattle.client_core.specs.declared.command.Command.{Command}
+use Rattle.client_words.specs.declared.command.Command.{Command}
 use Rattle.client_core.specs.declared.session.Session.{Session}
 use Rattle.client_core.specs.Settings.{Setting}
 use Rattle.client_core.specs.Sessions.{no_session}
 use Rattle.client_core.specs.Steps.{Step, step}
-use Rattle.client_words.specs.declared.command.LineFault.{LineFault}
+use Rattle.client_words.specs.declared.line.LineFault.{LineFault}
 use Rattle.client_words.specs.Commands.{command_of}
 use Rattle.client_words.specs.Answers.{answer_lines, fault_answer}
 
 -- a run between two lines: the client's state, and the session
 pub record RunState : Type 0 where
-  pub state : State
+  pub state : ClientState
   pub session : Session
 
 -- a run begins with an empty session
-abbrev pub begun : State → RunState
+abbrev pub begun : ClientState → RunState
 begun s = record { state = s; session = no_session }
 
 abbrev pub run_of : Client → RunState
@@ -54,13 +54,13 @@ all_answers at run [] = []
 all_answers at run (line ∷ lines) = answer at run line ++ all_answers at (run_after at run line) lines
 
 -- a run from s, after the first k lines
-abbrev pub run_at : Setting → State → List (List ℕ) → ℕ → RunState
+abbrev pub run_at : Setting → ClientState → List (List ℕ) → ℕ → RunState
 run_at at s lines k = all_after at (begun s) (take k lines)
 
 -- the state after the first k lines
-abbrev pub after : Setting → State → List (List ℕ) → ℕ → State
+abbrev pub after : Setting → ClientState → List (List ℕ) → ℕ → ClientState
 after at s lines k = (run_at at s lines k).state
 
 -- the joined answers to them
-abbrev pub out : Setting → State → List (List ℕ) → ℕ → List ℕ
+abbrev pub out : Setting → ClientState → List (List ℕ) → ℕ → List ℕ
 out at s lines k = all_answers at (begun s) (take k lines)

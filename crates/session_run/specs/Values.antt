@@ -4,10 +4,10 @@ use Rattle.json_tree.specs.Bytes.{text_of}
 use Rattle.json_tree.specs.Tree.{json_of}
 use Rattle.json_tree.specs.declared.tree.Tree.{Tree}
 use Rattle.fml_types.specs.declared.manifest.Manifest.{Manifest}
-use Rattle.enrol_states.specs.declared.state.State.{State}
-use Rattle.client_core.specs.declared.answer.Answer.TheVariants.{Okay}
-use Rattle.client_core.specs.declared.command.Command.TheVariants.{Feature}
-use Rattle.client_core.specs.declared.command.Command.TheVariants as commands
+use Rattle.client_state.specs.declared.client_state.ClientState.{ClientState}
+use Rattle.client_words.specs.declared.answer.Answer.TheVariants.{Okay}
+use Rattle.client_words.specs.declared.command.Command.TheVariants.{Feature}
+use Rattle.client_words.specs.declared.command.Command.TheVariants as commands
 use Rattle.client_core.specs.Manifests.{manifest_of}
 use Rattle.client_core.specs.ServedValues.{IsServedWithType}
 use Rattle.client_core.specs.Settings.{Setting}
@@ -42,7 +42,7 @@ pub record LineSets (at : Setting) (run : RunState) (line : List ℕ) (m : Manif
   pub manifest : manifest_of at.files file channel ≡ Ok m
 
 -- of the first k lines, the last `manifest` that is answered `ok` sets this manifest
-pub record IsSetLast (at : Setting) (s : State) (lines : List (List ℕ)) (k : ℕ) (m : Manifest) : Type 0 where
+pub record IsSetLast (at : Setting) (s : ClientState) (lines : List (List ℕ)) (k : ℕ) (m : Manifest) : Type 0 where
   pub j : ℕ
   pub before : j < k
   pub line : List ℕ
@@ -51,6 +51,6 @@ pub record IsSetLast (at : Setting) (s : State) (lines : List (List ℕ)) (k : �
   pub last : (i : ℕ) (other : List ℕ) (that : Manifest) → j < i → i < k → slice_get lines i ≡ Some other → LineSets at (run_at at s lines i) other that → ⊥
 
 -- this line, behind k others, is answered a value of its type, which the manifest serves that was set last
-pub record IsServedValue (at : Setting) (s : State) (lines : List (List ℕ)) (k : ℕ) (line text : List ℕ) : Type 0 where
+pub record IsServedValue (at : Setting) (s : ClientState) (lines : List (List ℕ)) (k : ℕ) (line text : List ℕ) : Type 0 where
   pub typed : IsTypedValue (run_at at s lines k) line text
   pub set : IsSetLast at s lines k typed.value.served.manifest

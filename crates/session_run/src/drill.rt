@@ -11,7 +11,7 @@ ghost use Rattle.recipe_drill.specs.Parts as parts;
 ghost use Rattle.recipe_drill.specs.Parts.{drill_id, parts_of, HasRoom};
 ghost use Rattle.recipe_drill.specs.Summary as counts;
 ghost use Rattle.row_store.specs.Rows.{HasRows, HasPlace};
-ghost use Rattle.state_codec.specs.Spelling.{rows_of};
+ghost use Rattle.client_state.specs.Spelling.{rows_of};
 ghost use Rattle.client_core.specs.OpenStore.{AllKept};
 ghost use Rattle.session_run.specs.DrillEnds.{SummaryEnds, ScriptEnds, Drilled};
 ghost use Rattle.session_run.specs.Drills.{drill_bytes, drill_fresh, drill_start, drill_summary, AfterReady};
@@ -119,7 +119,7 @@ fn run_script<H: Host>(
         recipes,
     };
     match run_client(alloc, host, &mut shelf, now, table, script.as_slice()) {
-        Ok(client) => say_summary(alloc, host, start, count, client.state()),
+        Ok(client) => say_summary(alloc, host, start, count, &client.state().enrolment),
         Err(status) => ended(status),
     }
 }

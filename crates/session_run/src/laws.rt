@@ -1,11 +1,12 @@
 // The laws of runs, and of stores over many runs. Each function does nothing: its contract is the law.
 ghost use Rattle.std.specs.Prelude.{◌≤◌, ℕ, List, length};
-ghost use Rattle.enrol_states.specs.declared.state.State.{State};
+ghost use Rattle.client_state.specs.declared.client_state.ClientState.{ClientState};
 ghost use Rattle.enrol_states.specs.State.{last_moment};
-ghost use Rattle.state_codec.specs.Sound.{IsSound};
+ghost use Rattle.client_state.specs.Sound.{IsSound};
 ghost use Rattle.client_core.specs.Settings.{Setting};
 ghost use Rattle.client_core.specs.Store.{KeptFor};
 ghost use Rattle.session_run.specs.Chains.{Link, IsChain, EndsKept, folded, MomentsAreLinks, IsHeldOutOver};
+ghost use Rattle.session_run.specs.EventChains.{EventsAreKept};
 ghost use Rattle.session_run.specs.OptOuts.{IsHeldOut, IsOut};
 ghost use Rattle.session_run.specs.Runs.{ServesValues};
 ghost use Rattle.session_run.specs.Starts.{Start};
@@ -22,21 +23,28 @@ pub fn runs_are_links()
 /// that counted, run by run, which is sound. A slug that is out when one of the runs begins, or that a line which counted
 /// opts out of, stays out from there on, over all later runs, until a line that counted brings it back.
 pub fn kept_chain()
-    ensures ends { (l r : List ℕ) (s : State) (links : List Link) → KeptFor l r s → IsChain l r links → EndsKept l r links (folded s links) }
-    ensures sound { (l r : List ℕ) (s : State) (links : List Link) → KeptFor l r s → IsChain l r links → IsSound (folded s links) }
-    ensures opted_out { (l r : List ℕ) (s : State) (links : List Link) (slug : List ℕ) → KeptFor l r s → IsChain l r links
+    ensures ends { (l r : List ℕ) (s : ClientState) (links : List Link) → KeptFor l r s → IsChain l r links → EndsKept l r links (folded s links) }
+    ensures sound { (l r : List ℕ) (s : ClientState) (links : List Link) → KeptFor l r s → IsChain l r links → IsSound (folded s links) }
+    ensures opted_out { (l r : List ℕ) (s : ClientState) (links : List Link) (slug : List ℕ) → KeptFor l r s → IsChain l r links
         → IsHeldOutOver s links slug → IsOut (folded s links) slug }
+{}
+
+/// After any runs and crashes, from a store without events, what a moment sees of each name in the counts of the store is
+/// what it sees of the events of the lines that counted, run by run: those of each `event` that was answered `ok`, behind the
+/// last `reset` that was.
+pub fn event_chain()
+    ensures { EventsAreKept }
 {}
 
 /// From a sound state each line of a run leaves a sound state.
 pub fn runs_stay_sound()
-    ensures { (at : Setting) (s : State) (lines : List (List ℕ)) (k : ℕ) → at.now ≤ last_moment → IsSound s → IsSound (after at s lines k) }
+    ensures { (at : Setting) (s : ClientState) (lines : List (List ℕ)) (k : ℕ) → at.now ≤ last_moment → IsSound s → IsSound (after at s lines k) }
 {}
 
 /// A slug that is out when the run begins, or that a line opts out of, stays out until a line that is done brings it back:
 /// after the first k lines it is opted out, and the client isn't enrolled in its recipe.
 pub fn opt_outs_stay()
-    ensures { (at : Setting) (s : State) (lines : List (List ℕ)) (k : ℕ) (slug : List ℕ) → k ≤ length lines → IsSound (after at s lines k)
+    ensures { (at : Setting) (s : ClientState) (lines : List (List ℕ)) (k : ℕ) (slug : List ℕ) → k ≤ length lines → IsSound (after at s lines k)
         → IsHeldOut at s lines k slug → IsOut (after at s lines k) slug }
 {}
 

@@ -16,5 +16,7 @@ mod status;
 mod words;
 
 pub use entry::nimbus;
-pub use laws::{kept_chain, opt_outs_stay, runs_are_links, runs_stay_sound, values_are_served};
+pub use laws::{
+    event_chain, kept_chain, opt_outs_stay, runs_are_links, runs_stay_sound, values_are_served,
+};
 pub use status::RunStatus;

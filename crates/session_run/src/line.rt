@@ -8,6 +8,7 @@ ghost use Rattle.client_core.specs.Commands.{names_file, HasAsked};
 ghost use Rattle.client_core.specs.Prepared.{IsMadeOn, next_state, next_session};
 ghost use Rattle.client_core.specs.Settings.{setting};
 ghost use Rattle.client_words.specs.Answers.{answer_lines, fault_answer};
+ghost use Rattle.client_words.specs.Commands.{IsCommand};
 ghost use Rattle.session_run.specs.Steps.{run_of, run_after, answer};
 ghost use Rattle.session_run.specs.FaultCauses.{HasShelfCauses, HasHostCauses};
 ghost use Rattle.session_run.specs.Files.{NamesFile, LineAsked};
@@ -15,8 +16,8 @@ ghost use Rattle.session_run.specs.Lines.{LineRan, StaysOpen};
 
 use crate::faults::RunFault;
 use crate::saying::say_answer;
-use client_core::{Client, Command, Prepared};
-use client_words::{LineFault, answer_text, line_text, read_command};
+use client_core::{Client, Prepared};
+use client_words::{Command, LineFault, answer_text, line_text, read_command};
 use host_model::{Host, Shelf};
 use jexl_transforms::TransformTable;
 use std::alloc::Global;
@@ -56,6 +57,7 @@ fn run_command<F: Shelf, H: Host>(
     table: &TransformTable,
     command: &Command,
 ) -> Result<(), RunFault>
+    requires command { IsCommand command.now }
     requires moment { now ≤ last_moment }
     requires table { HasStandardNames table.now }
     requires holds { H.tells → IsOpenOn H.Host client.old host.old }

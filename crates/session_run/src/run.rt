@@ -1,7 +1,7 @@
 // A script is run against a store.
 ghost use Rattle.std.specs.Prelude.{◌≡◌, ◌≢◌, ◌⊎◌, ◌<◌, ◌≤◌, ◌^◌, [], List, ℕ, IfOk, IsErrOf, length};
 ghost use Rattle.host_model.specs.Causes.{Rose};
-ghost use Rattle.enrol_states.specs.declared.state.State.{State};
+ghost use Rattle.client_state.specs.declared.client_state.ClientState.{ClientState};
 ghost use Rattle.enrol_states.specs.State.{last_moment};
 ghost use Rattle.jexl_transforms.specs.Table.{HasStandardNames};
 ghost use Rattle.client_core.specs.Clients.{state_of};
@@ -37,7 +37,7 @@ pub(crate) fn run_client<F: Shelf, H: Host>(
     requires table { HasStandardNames table.now }
     ensures ran { F.tells → H.tells
         → Ran H.Host (LinesAsked F.Shelf shelf.old shelf.new) (opened_on F.Shelf H.Host now shelf.old host.old (lines_of script.now)) host.old host.new (status_of result) }
-    ensures state { IfOk result (λ client. F.tells → H.tells → (s : State) → StandsFor (H.reads host.old Side.Left) (H.reads host.old Side.Right) s
+    ensures state { IfOk result (λ client. F.tells → H.tells → (s : ClientState) → StandsFor (H.reads host.old Side.Left) (H.reads host.old Side.Right) s
         → state_of client ≡ last_state (opened_on F.Shelf H.Host now shelf.old host.old (lines_of script.now) s 0 0)) }
     ensures found { H.tells → RunFound H.Host host.old host.new (status_of result) }
     ensures is_of { IsOfLines (status_of result) }

@@ -2,7 +2,7 @@
 use Rattle.std.proofs.Common.{◌≡◌, ◌+◌, ℕ, List, [], ◌∷◌, Err, arith, sym, ap, ◌∙◌, subst}
 use Rattle.host_model.specs.declared.side.Side.TheVariants.{Left, Right}
 use Rattle.pair_store.specs.Repair.{repair_cost}
-use Rattle.enrol_states.specs.declared.state.State.{State}
+use Rattle.client_state.specs.declared.client_state.ClientState.{ClientState}
 use Rattle.recipe_drill.specs.Parts.{parts_of}
 use Rattle.client_core.proofs.Holding.{stands_of_kept}
 use Rattle.client_words.specs.Commands.{lines_of}
@@ -34,7 +34,7 @@ returns-in-Ok-clause-any_moment g c tells =
     let all = c.requires.made tells in
     let kept = all (h.reads old Left) (h.reads old Right) (g.met.H.Host.read_is_image old Left tells) (g.met.H.Host.read_is_image old Right tells) in
     let ran = c.in-Ok.ensures.ran tt tells in
-    let from = λ (x : State) (place bytes : ℕ). begin (setting_with (parts_of d) now) x place (lines_of c.as_slice.result.now) (h.said old) (h.written old + bytes) in
+    let from = λ (x : ClientState) (place bytes : ℕ). begin (setting_with (parts_of d) now) x place (lines_of c.as_slice.result.now) (h.said old) (h.written old + bytes) in
     let cost = repair_cost (h.reads old Left) (h.reads old Right) in
     let written = h.written old + cost in
     let ends = spelled_ends h (λ (those : List (List ℕ)). Unit {0}) from (h.reads old Left) (h.reads old Right) s (s ∷ []) c.run_client.new.host Done (c.requires.spelled tells) (ran.ends (s ∷ []) s (among_one h old s all) kept) in
@@ -53,7 +53,7 @@ returns-in-Ok-clause-ends g c tells =
     let d = c.args.drill in
     let all = c.requires.made tells in
     let kept = all (h.reads old Left) (h.reads old Right) (g.met.H.Host.read_is_image old Left tells) (g.met.H.Host.read_is_image old Right tells) in
-    let from = λ (x : State) (place bytes : ℕ). begin (setting_with (parts_of d) now) x place (lines_of c.as_slice.result.now) (h.said old) (h.written old + bytes) in
+    let from = λ (x : ClientState) (place bytes : ℕ). begin (setting_with (parts_of d) now) x place (lines_of c.as_slice.result.now) (h.said old) (h.written old + bytes) in
     let written = h.written old + repair_cost (h.reads old Left) (h.reads old Right) in
     let ends = spelled_ends h (λ (those : List (List ℕ)). Unit {0}) from (h.reads old Left) (h.reads old Right) s (s ∷ []) c.run_client.new.host Done (c.requires.spelled tells) ((c.in-Ok.ensures.ran tt tells).ends (s ∷ []) s (among_one h old s all) kept) in (
       ends.0,
@@ -108,7 +108,7 @@ returns-clause-ends g c tells =
     let all = c.requires.made tells in
     let kept = all (h.reads old Left) (h.reads old Right) (g.met.H.Host.read_is_image old Left tells) (g.met.H.Host.read_is_image old Right tells) in
     let ended = c.in-Err.ensures in
-    let from = λ (x : State) (place bytes : ℕ). begin (setting_with (parts_of d) now) x place (lines_of c.as_slice.result.now) (h.said old) (h.written old + bytes) in
+    let from = λ (x : ClientState) (place bytes : ℕ). begin (setting_with (parts_of d) now) x place (lines_of c.as_slice.result.now) (h.said old) (h.written old + bytes) in
     let ends = spelled_ends h _ from (h.reads old Left) (h.reads old Right) s (s ∷ []) new status (c.requires.spelled tells) ((ended.ran tt tells).ends (s ∷ []) s (among_one h old s all) kept) in
     let written = h.written old + repair_cost (h.reads old Left) (h.reads old Right) in
     let start = here h c.args.start c.args.count now (setting_with (parts_of d) now) (lines_of c.as_slice.result.now) (setting_is d c.args.start c.args.count c.requires.drill now)

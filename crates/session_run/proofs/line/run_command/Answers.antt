@@ -1,6 +1,6 @@
 -- The step that is prepared is the command's, and it is committed and answered.
 use Rattle.std.proofs.Common.{◌≡◌, List, ℕ, ◌∙◌, ap, subst, sym, OnOk}
-use Rattle.enrol_states.specs.declared.state.State.{State}
+use Rattle.client_state.specs.declared.client_state.ClientState.{ClientState}
 use Rattle.client_core.specs.declared.session.Session.{Session}
 use Rattle.client_core.specs.Clients.{state_of, session_of, end_of, step_of}
 use Rattle.client_core.specs.Places.{place_after}
@@ -63,7 +63,7 @@ returns-clause-ran g c shelf_tells tells =
     let to = step_of old (setting g.F.Shelf c.args.shelf.now c.args.now) c.args.command.now in
     let words : c.as_str.result.now ≡ answer_lines to.answer = c.as_str.ensures.text ∙ c.in_ok-text.ensures ∙ ap answer_lines (c.answer.ensures ∙ leads.answer) in
     subst (λ (text : List ℕ). LineRan h old to.state text start new c.commit.result) words
-    (subst (λ (t : State). LineRan h old t c.as_str.result.now start new c.commit.result) leads.state
+    (subst (λ (t : ClientState). LineRan h old t c.as_str.result.now start new c.commit.result) leads.state
     (ran_again h old fresh c.in_ok-prepared.ensures.same (next_state fresh c.in_ok-prepared.prepared) c.as_str.result.now start new c.commit.result (c.commit.ensures.ran tells)))
 
 pub returns-clause-stays_open : goal.returns-clause-stays_open
@@ -79,7 +79,7 @@ returns-clause-stays_open g c tells =
 
 pub returns-clause-state : goal.returns-clause-state
 returns-clause-state g c shelf_tells =
-    subst (λ (s : State). OnOk c.commit.result (state_of c.commit.new.client ≡ s)) (c.in_ok-prepared.ensures.step (λ names. shelf_tells)).state c.commit.ensures.state
+    subst (λ (s : ClientState). OnOk c.commit.result (state_of c.commit.new.client ≡ s)) (c.in_ok-prepared.ensures.step (λ names. shelf_tells)).state c.commit.ensures.state
 
 pub returns-clause-session : goal.returns-clause-session
 returns-clause-session g c shelf_tells =
@@ -92,4 +92,4 @@ returns-clause-place g c =
     let same = c.in_ok-prepared.ensures.same in
     both_ok c.commit.result c.commit.ensures.place c.commit.ensures.state (λ place is.
     place ∙ ap (λ (p : ℕ). place_after p (state_of fresh) (next_state fresh c.in_ok-prepared.prepared)) (end_again old fresh same)
-    ∙ ap (λ (s : State). place_after (end_of old) s (next_state fresh c.in_ok-prepared.prepared)) same.stored.state ∙ ap (λ (s : State). place_after (end_of old) (state_of old) s) (sym is))
+    ∙ ap (λ (s : ClientState). place_after (end_of old) s (next_state fresh c.in_ok-prepared.prepared)) same.stored.state ∙ ap (λ (s : ClientState). place_after (end_of old) (state_of old) s) (sym is))

@@ -3,7 +3,7 @@ use Rattle.std.proofs.Common.{◌≢◌, List, ℕ, ap, ◌∙◌, refl, subst, 
 use Rattle.client_core.specs.Clients.{state_of, end_of, step_of}
 use Rattle.client_core.specs.Settings.{setting}
 use Rattle.client_core.proofs.Placing.{place_same}
-use Rattle.client_words.specs.declared.command.LineFault.TheVariants.{OutOfMemory}
+use Rattle.client_words.specs.declared.line.LineFault.TheVariants.{OutOfMemory}
 use Rattle.client_words.specs.Commands.{command_of}
 use Rattle.session_run.specs.declared.faults.RunFault.TheVariants as run
 use Rattle.session_run.specs.Lines.{LineRan}
@@ -21,7 +21,7 @@ returns-in-Ok-clause-ran g c shelf_tells tells =
     let at = setting g.F.Shelf c.args.shelf.now c.args.now in
     let client = c.args.client.now in
     let line = c.args.line.now in
-    let is = read_ok c.in-Ok.command (command_of line) c.in-Ok.ensures in
+    let is = read_ok c.in-Ok.command (command_of line) c.in-Ok.ensures.value in
     subst (λ (run : RunState). LineRan h client run.state (answer at (run_of client) line) c.args.host.now c.run_command.new.host c.run_command.result) (after-command at (run_of client) line c.in-Ok.command is)
     (subst (λ (text : List ℕ). LineRan h client (step_of client at c.in-Ok.command).state text c.args.host.now c.run_command.new.host c.run_command.result) (answer-command at (run_of client) line c.in-Ok.command is) (c.run_command.ensures.ran shelf_tells tells))
 
@@ -33,17 +33,17 @@ returns-in-Ok-clause-state g c shelf_tells =
     let at = setting g.F.Shelf c.args.shelf.now c.args.now in
     let client = c.args.client.now in
     let line = c.args.line.now in
-    let is = read_ok c.in-Ok.command (command_of line) c.in-Ok.ensures in
+    let is = read_ok c.in-Ok.command (command_of line) c.in-Ok.ensures.value in
     both_ok c.run_command.result (c.run_command.ensures.state shelf_tells) (c.run_command.ensures.session shelf_tells)
     (λ state session. run_same (run_of c.run_command.new.client) _ state session ∙ after-command at (run_of client) line c.in-Ok.command is)
 
 pub returns-in-Ok-clause-named : goal.returns-in-Ok-clause-named
-returns-in-Ok-clause-named g c is = record { command = c.in-Ok.command; is_command = read_ok c.in-Ok.command (command_of c.args.line.now) c.in-Ok.ensures; names = c.run_command.ensures.named is }
+returns-in-Ok-clause-named g c is = record { command = c.in-Ok.command; is_command = read_ok c.in-Ok.command (command_of c.args.line.now) c.in-Ok.ensures.value; names = c.run_command.ensures.named is }
 
 pub returns-in-Ok-clause-asked : goal.returns-in-Ok-clause-asked
 returns-in-Ok-clause-asked g c =
     let line = c.args.line.now in
-    line_asked g.F.Shelf line c.in-Ok.command c.args.shelf.now c.run_command.new.shelf (read_ok c.in-Ok.command (command_of line) c.in-Ok.ensures) c.run_command.ensures.asked
+    line_asked g.F.Shelf line c.in-Ok.command c.args.shelf.now c.run_command.new.shelf (read_ok c.in-Ok.command (command_of line) c.in-Ok.ensures.value) c.run_command.ensures.asked
 
 -- ---- no command
 
@@ -57,7 +57,7 @@ returns-in-Err-clause-ran g c shelf_tells tells =
     let client = c.args.client.now in
     let line = c.args.line.now in
     let other : c.in-Err.fault ≢ OutOfMemory = search rules in
-    let is = read_err c.in-Err.fault (command_of line) c.in-Err.ensures other in
+    let is = read_err c.in-Err.fault (command_of line) c.in-Err.ensures.value other in
     subst (λ (run : RunState). LineRan h client run.state (answer at (run_of client) line) c.args.host.now c.refuse.new.host c.refuse.result) (after-fault at (run_of client) line c.in-Err.fault is)
     (subst (λ (text : List ℕ). LineRan h client (state_of client) text c.args.host.now c.refuse.new.host c.refuse.result) (answer-fault at (run_of client) line c.in-Err.fault is) (c.refuse.ensures.ran tells))
 
@@ -68,7 +68,7 @@ pub returns-in-Err-clause-state : goal.returns-in-Err-clause-state
 returns-in-Err-clause-state g c shelf_tells =
     let line = c.args.line.now in
     let other : c.in-Err.fault ≢ OutOfMemory = search rules in
-    let is = read_err c.in-Err.fault (command_of line) c.in-Err.ensures other in
+    let is = read_err c.in-Err.fault (command_of line) c.in-Err.ensures.value other in
     always_ok c.refuse.result (after-fault (setting g.F.Shelf c.args.shelf.now c.args.now) (run_of c.args.client.now) line c.in-Err.fault is)
 
 pub returns-in-Err-clause-place : goal.returns-in-Err-clause-place

@@ -3,7 +3,7 @@ use Rattle.std.proofs.Common.{◌≡◌, ◌≤◌, ◌+◌, List, ℕ, ◌++◌
 use Rattle.host_model.specs.declared.side.Side.TheVariants.{Left, Right}
 use Rattle.host_model.specs.Hosts.{NowOf}
 use Rattle.host_model.proofs.Meeting.{started, met_weaker}
-use Rattle.enrol_states.specs.State.{fresh}
+use Rattle.client_core.specs.NewStates.{fresh}
 use Rattle.client_core.specs.Moments.{IsLeftAmong}
 use Rattle.client_core.specs.Places.{making_bytes}
 use Rattle.client_core.proofs.Holding.{kept_said}
