@@ -57,8 +57,8 @@
 //! | `wrote COUNT` | it has written so many bytes |
 //! | `holds LEFT RIGHT` | the sides have so many bytes |
 //! | `bytes SIDE` | the side has the text's bytes; the text is empty then |
-//! | `images LEFT RIGHT` | a run of `show` over what a crash then leaves of the sides (`old`, `new` or `torn`, or each of these at `each`) ends with `Done` and says the text, which is empty then |
-//! | `faults CALLS COUNT WORDS` | the program is called with these words and the text as its script, which is empty then, once for each of the first so many calls of the `source`, the `shelf` or the `host`, which fails: it ends with `Done` or with a fault of these, and a run of `show` over each pair of images says the file `before` until the file `answers` is said whole, this or the file `after` then, and `after` where more is said |
+//! | `images LEFT RIGHT` | a run of `show`, or of the file `looks` where there is one, over what a crash then leaves of the sides (`old`, `new` or `torn`, or each of these at `each`) ends with `Done` and says the text, which is empty then |
+//! | `faults CALLS COUNT WORDS` | the program is called with these words and the text as its script, which is empty then, once for each of the first so many calls of the `source`, the `shelf` or the `host`, which fails: it ends with `Done` or with a fault of these, and a run of `show`, or of the file `looks` where there is one, over each pair of images says the file `before` until the file `answers` is said whole, this or the file `after` then, and `after` where more is said |
 //! | `cuts SIDE FIRST LAST STATUS` | a run of no line ends so where a side has only so many bytes, for each number from the first to the last |
 //! | `puts SIDE FIRST LAST BYTE STATUS` | a run of no line ends so where a byte of a side is this one, for each place from the first to the last |
 use host_model::{Choice, Side};

@@ -291,7 +291,7 @@ impl Scenario {
         Ok(None)
     }
 
-    // A run of `show` over a pair of images that a call has left.
+    // A run of `show`, or of the file `looks`, over a pair of images that a call has left.
     fn shown(
         &self,
         alloc: Global,
@@ -301,10 +301,18 @@ impl Scenario {
     ) -> Result<Ended, AllocError> {
         let left = ended.host.image(alloc, Side::Left, left)?;
         let right = ended.host.image(alloc, Side::Right, right)?;
-        let source = self.outside.source(alloc, b"show\n", Faults::none())?;
+        let source = self.outside.source(alloc, self.looks(), Faults::none())?;
         let shelf = self.inputs.shelf(alloc, 0)?;
         let host = self.outside.host_of(alloc, &left, &right, Faults::none())?;
         call(alloc, "run", self.outside.moment(), source, shelf, host)
+    }
+
+    // The script of a run that shows what a call has left.
+    fn looks(&self) -> &[u8] {
+        match self.inputs.bytes_of("looks") {
+            [] => b"show\n",
+            script => script,
+        }
     }
 
     fn judge_faults(
