@@ -1,5 +1,5 @@
 -- The cause of a fault, as that of the call that met it.
-use Rattle.std.proofs.Common.{◌≡◌, ◌≤◌, ℕ, refl, sym, ◌∙◌, ap, arith, Err}
+use Rattle.std.proofs.Common.{◌≡◌, ◌≤◌, refl, sym, ◌∙◌, ap, arith, Err}
 use Rattle.std.specs.Prelude.{IsErrOf}
 use Rattle.host_model.specs.Causes.{Rose}
 use Rattle.host_model.specs.declared.host.Host.{Ghosts}
@@ -11,7 +11,7 @@ use Rattle.client_core.specs.declared.faults.MakeFault.TheVariants as make
 use Rattle.session_run.specs.declared.faults.RunFault.{RunFault}
 use Rattle.session_run.specs.declared.faults.RunFault.TheVariants as run
 use Rattle.session_run.specs.declared.status.RunStatus.{RunStatus}
-use Rattle.session_run.specs.declared.status.RunStatus.TheVariants.{Done, Usage, ScriptTooLong, NoStore, AlreadyStore, BadStore, SourceFault, ShelfFault, DiskFault, SayFault, OutOfMemory}
+use Rattle.session_run.specs.declared.status.RunStatus.TheVariants.{Done, NoStore, BadStore, ShelfFault, DiskFault, SayFault, OutOfMemory}
 use Rattle.session_run.specs.FaultCauses.{IsStatusOf, HasHostCauses, HasShelfCauses}
 use Rattle.session_run.specs.Statuses.{of_run, of_store, of_making}
 

@@ -1,5 +1,5 @@
 -- The causes of a call that makes a store.
-use Rattle.std.proofs.Common.{◌≡◌, ◌⊎◌, ℕ, List, refl, subst}
+use Rattle.std.proofs.Common.{◌⊎◌, ℕ, List, refl, subst}
 use Rattle.host_model.specs.declared.host.Host.{Ghosts}
 use Rattle.host_model.specs.declared.shelf.Shelf as shelves
 use Rattle.host_model.specs.declared.source.Source as sources

@@ -1,5 +1,5 @@
 -- A line with a command does it, and one without is answered alone.
-use Rattle.std.proofs.Common.{◌≢◌, List, ℕ, ap, ◌∙◌, refl, subst, rules, Err}
+use Rattle.std.proofs.Common.{◌≢◌, List, ℕ, ◌∙◌, refl, subst, rules, Err}
 use Rattle.client_core.specs.Clients.{state_of, end_of, step_of}
 use Rattle.client_core.specs.Settings.{setting}
 use Rattle.client_core.proofs.Placing.{place_same}
