@@ -12,8 +12,7 @@ use Rattle.client_words.specs.declared.command.Command.{Command}
 use Rattle.client_words.specs.declared.command.Command.TheVariants as commands
 use Rattle.client_words.specs.declared.line.LineFault.{LineFault}
 use Rattle.client_words.specs.Commands.{command_of}
-use Rattle.client_core.specs.EventSteps.{is_okay}
-use Rattle.client_core.specs.EventSteps.{counts_after as counts_then}
+use Rattle.client_core.specs.EventSteps.{is_okay, counts_after as counts_then}
 use Rattle.client_core.specs.Settings.{Setting}
 use Rattle.client_core.specs.Store.{KeptFor}
 use Rattle.client_core.specs.Steps.{step}
