@@ -5,15 +5,17 @@ ghost use Rattle.enrol_states.specs.State.{slugs_of};
 ghost use Rattle.fml_types.specs.Sound.{IsSoundTable, IsGrounded, AreSoundFields, HasSoundTypes};
 ghost use Rattle.fml_value.specs.TypedOf.{typed_of};
 ghost use Rattle.fml_merge.specs.Features.{IsOfFeature};
+ghost use Rattle.json_tree.specs.Tree.{json_of};
 ghost use Rattle.feature_serving.specs.Lent.{view};
 ghost use Rattle.feature_serving.specs.Serving.{GivesServed, HasFeatureType, layers_laid, served};
 ghost use Rattle.feature_serving.specs.declared.serving.ServeFault.TheVariants.{OutOfMemory};
 
 use crate::layers::{Layer, layers};
 use enrol_states::State;
-use fml_merge::{default_of, overlay_feature};
+use fml_merge::{default_of, overlay_each};
 use fml_types::{FeatureDefinition, Manifest};
 use fml_value::Value;
+use json_tree::Tree;
 use std::alloc::{AllocError, Global};
 
 /// Why `served` gives no value.
@@ -64,14 +66,23 @@ fn lay(
     alloc: Global,
     manifest: &Manifest,
     feature: &FeatureDefinition,
-    mut value: Value,
+    value: Value,
     layers: &[Layer],
 ) -> Result<Value, AllocError>
     ensures value { IfOk result (λ v. typed_of v ≡ layers_laid manifest.now feature.now (typed_of value) (map view layers.now)) }
     ensures typed { IfOk result (λ v. IsSoundTable manifest.now.types → IsGrounded manifest.now.types → AreSoundFields manifest.now.types feature.now.variables → IsOfFeature manifest.now feature.now (typed_of value) → IsOfFeature manifest.now feature.now (typed_of v)) }
 {
+    let patches = patches(alloc, layers)?;
+    overlay_each(alloc, manifest, feature, value, patches.as_slice())
+}
+
+/// What the layers lay, in order.
+fn patches<'a>(alloc: Global, layers: &[Layer<'a>]) -> Result<Vec<&'a Tree>, AllocError>
+    ensures { IfOk result (λ ts. map (λ t. json_of t.now) ts.items ≡ map (λ l. json_of l.value.now) layers.now) }
+{
+    let mut patches = Vec::new(alloc);
     for layer in layers {
-        value = overlay_feature(alloc, manifest, feature, value, layer.value)?;
+        patches.push(layer.value)?;
     }
-    Ok(value)
+    Ok(patches)
 }

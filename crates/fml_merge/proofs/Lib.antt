@@ -1,4 +1,8 @@
 pub mod Merge
+pub mod Under
+pub mod Sorted
+pub mod Layered
+pub mod Turns
 pub mod Measures
 pub mod Placing
 pub mod Pieces
@@ -11,4 +15,5 @@ pub mod Levels
 pub mod Agreement
 pub mod Stable
 pub mod Variables
+pub mod Patches
 pub mod ByType

@@ -1,14 +1,12 @@
 -- Members laid over entries, one after the other, while both rise.
-use Rattle.std.proofs.Common.{◌≡◌, ℕ, zero, suc, ◌+◌, ◌<◌, ◌≤◌, Bool, true, false, List, [], ◌∷◌, ◌++◌, length, map, get_or, drop, Option, Some, None, Less, Equal, Greater, refl, sym, ap, ap₂, ◌∙◌, subst, append_assoc, arith, add-one, drop-cons}
-use Rattle.std.proofs.lemmas.List.{drop_all, append-nil}
+use Rattle.std.proofs.Common.{◌≡◌, ℕ, Bool, true, false, List, [], ◌∷◌, ◌++◌, map, Option, Some, None, Less, Equal, Greater, refl, sym, ap, ◌∙◌, subst, append_assoc}
+use Rattle.std.proofs.lemmas.List.{append-nil}
 use Rattle.std.specs.Prelude.{◌||◌, bytes_eq, unwrap_or, if◌then◌else◌}
 use Rattle.std.specs.Cmp.Lexicographic.{slice_cmp, nat_list_cmp_total, texts_ties, bytes_decides}
 use Rattle.std.specs.Ordering.{nat_cmp, ordering_reverse, is_eq, is_lt}
 use Rattle.std.specs.declared.cmp.Ordering.{Ordering}
 use Rattle.json_tree.specs.Json.{Json, Members, no_members, member, members_of, AreSoundMembers}
 use Rattle.json_tree.specs.Json as json
-use Rattle.json_tree.specs.Tree.{json_of, member_of}
-use Rattle.json_tree.specs.declared.tree.Tree.{Tree}
 use Rattle.fml_types.specs.Named.{IsBelow, AreRising, found, has_name}
 use Rattle.fml_types.specs.Shape.{Shape}
 use Rattle.fml_types.specs.declared.manifest.TypeTable.{TypeTable}
@@ -47,7 +45,7 @@ with_past k v e es less = ap (λ o. beside o (k, v) e es (with_entry k v es)) (a
 found_past : {T : Type 0} (k : List ℕ) (e : List ℕ × T) (es : List (List ℕ × T)) → slice_cmp nat_cmp e.0 k ≡ Less → found k (e ∷ es) ≡ found k es
 found_past k e es less = ap (λ b. if b then Some e.1 else found k es) (other_of e.0 k less)
 
-found_below : {T : Type 0} (k : List ℕ) (es : List (List ℕ × T)) → IsBelow k es → found k es ≡ None
+pub found_below : {T : Type 0} (k : List ℕ) (es : List (List ℕ × T)) → IsBelow k es → found k es ≡ None
 found_below k [] below = refl
 found_below k (e ∷ es) below =
     let other : bytes_eq e.0 k ≡ false = texts_ties e.0 k ∙ ap is_eq (above_of k e.0 below.0) in
@@ -57,7 +55,7 @@ with_below : (k : List ℕ) (v : TypedValue) (es : List (List ℕ × TypedValue)
 with_below k v [] below = refl
 with_below k v (e ∷ es) below = ap (λ o. beside o (k, v) e es (with_entry k v es)) below.0
 
-below_through : {T : Type 0} (a b : List ℕ) (es : List (List ℕ × T)) → slice_cmp nat_cmp a b ≡ Less → IsBelow b es → IsBelow a es
+pub below_through : {T : Type 0} (a b : List ℕ) (es : List (List ℕ × T)) → slice_cmp nat_cmp a b ≡ Less → IsBelow b es → IsBelow a es
 below_through a b [] less below = tt
 below_through a b (e ∷ es) less below = (nat_list_cmp_total.trans a b e.0 less below.0, below_through a b es less below.1)
 
@@ -180,7 +178,7 @@ module _ (zeros : Shape → TypedValue) (types : TypeTable) (type_of : List ℕ 
         one false other None = tt
         one false other (Some t) = elim (taken t) as (λ b. AllAre k (if b then put k (lay t (zeros t)) [] else [])) [ true ↦ (refl, tt) | false ↦ tt ]
 
-    with_member_rising : (o : Option Shape) (es : List (List ℕ × TypedValue)) → AreRising es → AreRising (with_member zeros taken lay k o es)
+    pub with_member_rising : (o : Option Shape) (es : List (List ℕ × TypedValue)) → AreRising es → AreRising (with_member zeros taken lay k o es)
     with_member_rising None es rising = rising
     with_member_rising (Some t) es rising =
         elim (taken t) as (λ b. AreRising (if b then put k (lay t (unwrap_or (found k es) (zeros t))) es else es)) [ true ↦ put_rising k (lay t (unwrap_or (found k es) (zeros t))) es rising | false ↦ rising ]
@@ -214,19 +212,17 @@ module _ (zeros : Shape → TypedValue) (types : TypeTable) (type_of : List ℕ 
   unnamed_rising k [] rising = tt
   unnamed_rising k (e ∷ es) rising = elim (bytes_eq e.0 k) as (λ b. AreRising (if b then es else e ∷ es)) [ true ↦ rising.1 | false ↦ rising ]
 
-  -- the entries below the member's name, the member over the entry of its name, and the others
-  pub one_member : (k : List ℕ) (x : Json) (es : List (List ℕ × TypedValue)) (ms : Members) → AreRising es → json.IsBelow k ms
-      → members_laid zeros types type_of es (member k x ms) ≡ (lower k es ++ member_laid zeros types type_of k x (named k (upper k es))) ++ members_laid zeros types type_of (unnamed k (upper k es)) ms
-  one_member k x es ms rising below =
-      let taken = λ (t : Shape). takes types t x in
-      let lay = λ (t : Shape) (v : TypedValue). laid zeros types t v x in
+  -- the entries below a name, what is laid over the entry of the name, and the others
+  pub one_run : (k : List ℕ) (taken : Shape → Bool) (lay : Shape → TypedValue → TypedValue) (es : List (List ℕ × TypedValue)) (ms : Members) → AreRising es → json.IsBelow k ms
+      → members_laid zeros types type_of (with_member zeros taken lay k (type_of k) es) ms ≡ (lower k es ++ with_member zeros taken lay k (type_of k) (named k (upper k es))) ++ members_laid zeros types type_of (unnamed k (upper k es)) ms
+  one_run k taken lay es ms rising below =
       let up = upper k es in
-      let parts : member_laid zeros types type_of k x es ≡ (lower k es ++ member_laid zeros types type_of k x (named k up)) ++ unnamed k up =
+      let laid_over = with_member zeros taken lay k (type_of k) in
+      let parts : laid_over es ≡ (lower k es ++ laid_over (named k up)) ++ unnamed k up =
       with_member_lower k taken lay (type_of k) es ∙ ap (λ l. lower k es ++ l) (with_member_named k taken lay (type_of k) up (upper_rising k es rising) (not_below_upper k es))
-      ∙ sym (append_assoc (lower k es) (member_laid zeros types type_of k x (named k up)) (unnamed k up)) in
+      ∙ sym (append_assoc (lower k es) (laid_over (named k up)) (unnamed k up)) in
       ap (λ fs. members_laid zeros types type_of fs ms) parts
-      ∙ laid_after (lower k es ++ member_laid zeros types type_of k x (named k up)) (unnamed k up) ms
-      (both_below (lower k es) (member_laid zeros types type_of k x (named k up)) ms (lower_below k es ms below) (all_below k _ ms (with_member_same k taken lay (type_of k) up) below))
+      ∙ laid_after (lower k es ++ laid_over (named k up)) (unnamed k up) ms (both_below (lower k es) (laid_over (named k up)) ms (lower_below k es ms below) (all_below k _ ms (with_member_same k taken lay (type_of k) up) below))
 
   pub laid_rising : (es : List (List ℕ × TypedValue)) (ms : Members) → AreRising es → AreRising (members_laid zeros types type_of es ms)
   laid_rising es no_members rising = rising
@@ -253,46 +249,6 @@ pub unnamed-map : (k : List ℕ) (ps : List (List ℕ × Value)) → map entry_o
 unnamed-map k [] = refl
 unnamed-map k (p ∷ ps) = elim (bytes_eq p.0 k) as (λ b. map entry_of (if b then ps else p ∷ ps) ≡ (if b then map entry_of ps else entry_of p ∷ map entry_of ps)) [ true ↦ refl | false ↦ refl ]
 
--- ---- a turn of the walk, and its end
-
-below_rest : (pairs : List (List ℕ × Tree)) (i : ℕ) (m : List ℕ × Tree) → i < length pairs → m ≡ get_or pairs i m → AreSoundMembers (members_of (map member_of pairs)) → json.IsBelow m.0 (members_of (map member_of (drop (suc i) pairs)))
-below_rest pairs i m h is sound = subst (λ (n : List ℕ × Tree). json.IsBelow n.0 (members_of (map member_of (drop (suc i) pairs)))) (sym is) (at_place pairs i m h sound)
-  where
-    at_place : (pairs : List (List ℕ × Tree)) (i : ℕ) (m : List ℕ × Tree) → i < length pairs → AreSoundMembers (members_of (map member_of pairs)) → json.IsBelow (get_or pairs i m).0 (members_of (map member_of (drop (suc i) pairs)))
-    at_place [] i m h sound = absurd (omega arith)
-    at_place (p ∷ ps) zero m h sound = sound.1
-    at_place (p ∷ ps) (suc i) m h sound = at_place ps i m (omega arith) sound.3
-
-map_join : (xs ys : List (List ℕ × Value)) → map entry_of (xs ++ ys) ≡ map entry_of xs ++ map entry_of ys
+pub map_join : (xs ys : List (List ℕ × Value)) → map entry_of (xs ++ ys) ≡ map entry_of xs ++ map entry_of ys
 map_join [] ys = refl
 map_join (x ∷ xs) ys = ap (λ l. entry_of x ∷ l) (map_join xs ys)
-
-module _ (zeros : Shape → TypedValue) (types : TypeTable) (type_of : List ℕ → Option Shape) where
-  pub merge_turn : (pairs : List (List ℕ × Tree)) (i : ℕ) (m : List ℕ × Tree) (key : List ℕ) (front grown rest left entry : List (List ℕ × Value)) (all : List (List ℕ × TypedValue)) → i < length pairs → m ≡ get_or pairs i m
-      → AreSoundMembers (members_of (map member_of pairs)) → key ≡ m.0 → AreRising (map entry_of rest) → grown ≡ (front ++ lower key rest) ++ entry → left ≡ unnamed key (upper key rest)
-      → map entry_of entry ≡ member_laid zeros types type_of m.0 (json_of m.1) (map entry_of (named key (upper key rest)))
-      → map entry_of front ++ members_laid zeros types type_of (map entry_of rest) (members_of (map member_of (drop i pairs))) ≡ all
-      → map entry_of grown ++ members_laid zeros types type_of (map entry_of left) (members_of (map member_of (drop (i + 1) pairs))) ≡ all
-  merge_turn pairs i m key front grown rest left entry all h is sound same rising grows goes value so_far =
-      let es = map entry_of rest in
-      let later = members_of (map member_of (drop (suc i) pairs)) in
-      let mid = member_laid zeros types type_of m.0 (json_of m.1) (named m.0 (upper m.0 es)) in
-      let next = unnamed m.0 (upper m.0 es) in
-      let here : drop i pairs ≡ m ∷ drop (suc i) pairs = drop-cons pairs i m h ∙ ap (λ n. n ∷ drop (suc i) pairs) (sym is) in
-      let turn = one_member zeros types type_of m.0 (json_of m.1) es later rising (below_rest pairs i m h is sound) in
-      let entry_is : map entry_of entry ≡ mid = value ∙ ap (λ n. member_laid zeros types type_of m.0 (json_of m.1) (map entry_of (named n (upper n rest)))) same
-      ∙ ap (member_laid zeros types type_of m.0 (json_of m.1)) (named-map m.0 (upper m.0 rest) ∙ ap (named m.0) (upper-map m.0 rest)) in
-      let left_is : map entry_of left ≡ next = ap (map entry_of) (goes ∙ ap (λ n. unnamed n (upper n rest)) same) ∙ unnamed-map m.0 (upper m.0 rest) ∙ ap (unnamed m.0) (upper-map m.0 rest) in
-      let grown_is : map entry_of grown ≡ map entry_of front ++ (lower m.0 es ++ mid) =
-      ap (map entry_of) (grows ∙ ap (λ n. (front ++ lower n rest) ++ entry) same) ∙ map_join (front ++ lower m.0 rest) entry ∙ ap (λ l. l ++ map entry_of entry) (map_join front (lower m.0 rest) ∙ ap (λ l. map entry_of front ++ l) (lower-map m.0 rest))
-      ∙ ap (λ l. (map entry_of front ++ lower m.0 es) ++ l) entry_is ∙ append_assoc (map entry_of front) (lower m.0 es) mid in
-      let after = members_laid zeros types type_of next later in
-      ap₂ (λ f l. f ++ members_laid zeros types type_of l (members_of (map member_of (drop (i + 1) pairs)))) grown_is left_is
-      ∙ ap (λ n. (map entry_of front ++ (lower m.0 es ++ mid)) ++ members_laid zeros types type_of next (members_of (map member_of (drop n pairs)))) (add-one i)
-      ∙ append_assoc (map entry_of front) (lower m.0 es ++ mid) after ∙ ap (λ l. map entry_of front ++ l) (sym turn)
-      ∙ ap (λ ps. map entry_of front ++ members_laid zeros types type_of es (members_of (map member_of ps))) (sym here) ∙ so_far
-
-  pub merge_end : (pairs : List (List ℕ × Tree)) (i : ℕ) (front rest joined : List (List ℕ × Value)) (all : List (List ℕ × TypedValue)) → length pairs ≤ i → joined ≡ front ++ rest
-      → map entry_of front ++ members_laid zeros types type_of (map entry_of rest) (members_of (map member_of (drop i pairs))) ≡ all → map entry_of joined ≡ all
-  merge_end pairs i front rest joined all h joins so_far =
-      ap (map entry_of) joins ∙ map_join front rest ∙ sym (ap (λ ps. map entry_of front ++ members_laid zeros types type_of (map entry_of rest) (members_of (map member_of ps))) (drop_all i pairs h)) ∙ so_far

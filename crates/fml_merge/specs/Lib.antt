@@ -5,3 +5,4 @@ pub mod Faults
 pub mod Merging
 pub mod Highest
 pub mod Laws
+pub mod Layers

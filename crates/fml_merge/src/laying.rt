@@ -1,5 +1,5 @@
 // Trees laid over values, and the zeros that they need.
-ghost use Rattle.std.specs.Prelude.{◌≡◌, ◌≤◌, [], IfOk, OnOk, map, option_map};
+ghost use Rattle.std.specs.Prelude.{◌≡◌, ◌≤◌, ◌<◌, [], IfOk, OnOk, length, map, option_map};
 ghost use Rattle.std.specs.Option.{ForSome, option_to_list};
 ghost use Rattle.fml_types.specs.Shape.{Shape};
 ghost use Rattle.fml_types.specs.Shapes.{shape_of};
@@ -15,13 +15,15 @@ ghost use Rattle.fml_merge.specs.Overlay.{laid, items_laid, members_laid, type_u
 ghost use Rattle.fml_merge.specs.Highest.{zero_levels};
 ghost use Rattle.fml_merge.specs.Zero.{least, object_zero, initial, with_default, zero_within};
 ghost use Rattle.fml_merge.specs.Zero as zeros;
-ghost use Rattle.fml_merge.specs.Merging.{base_value, inside_laid, types_of, named_laid, member_laid, field_laid};
+ghost use Rattle.fml_merge.specs.Merging.{base_value, inside_laid, types_of, named_laid, field_laid};
+ghost use Rattle.fml_merge.specs.Layers.{trees_laid, objects_laid, layers_laid, run_laid};
 
 use crate::moving::{move_below, push_entry, take_named};
 use crate::parts::{
     Base, MemberTypes, entries_in, gains_names, held, item_type, text_value, type_of, types_in,
     value_with, zero_fields,
 };
+use crate::sorting::{Piece, pieces_by_name, run_length, takes_any};
 use fml_types::{ByName, EnumDefinition, Field, FieldType, InnerType, TypeTable};
 use fml_value::{Entries, InnerValue, Value, Values, takes};
 use json_tree::{Items, Members, Tree};
@@ -227,7 +229,8 @@ pub(crate) fn lay_members(
     ensures { IfOk result (λ es. es ≡ members_laid (zeros.zero_within types.now levels) types.now (types_of types.now member_types.entry) base (members_of members.now)) }
 {
     if gains_names(types, member_types, &base, members) {
-        merge_members(alloc, types, levels, member_types, base, members)
+        let layers = [members];
+        merge_layers(alloc, types, levels, member_types, base, &layers)
     } else {
         lay_in_place(alloc, types, levels, member_types, base, members)
     }
@@ -287,62 +290,198 @@ fn lay_named(
     }
 }
 
-// The members and the entries gone through side by side, so that each entry moves at most once.
+/// The layers of members laid over the entries, one after the other. Each costs its own members; the entries are gone
+/// through once, unless there is but one layer.
 #[cycle(laying)]
-fn merge_members(
+pub(crate) fn lay_layers(
     alloc: Global,
     types: &TypeTable,
     levels: usize,
     member_types: MemberTypes,
     base: Entries,
-    members: &Members,
+    layers: &[&Members],
 ) -> Result<Entries, AllocError>
-    ensures { IfOk result (λ es. es ≡ members_laid (zeros.zero_within types.now levels) types.now (types_of types.now member_types.entry) base (members_of members.now)) }
+    ensures { IfOk result (λ es. es ≡ layers_laid (zeros.zero_within types.now levels) types.now (types_of types.now member_types.entry) base (map (λ l. members_of l.now) layers.now)) }
 {
-    let pairs = members.as_slice();
+    if layers.is_empty() {
+        return Ok(base);
+    }
+    if layers.len() == 1 {
+        return lay_members(alloc, types, levels, member_types, base, layers[0]);
+    }
+    merge_layers(alloc, types, levels, member_types, base, layers)
+}
+
+// The layers' members in order by name, and the entries gone through side by side, so that each entry moves at most once.
+#[cycle(laying)]
+fn merge_layers(
+    alloc: Global,
+    types: &TypeTable,
+    levels: usize,
+    member_types: MemberTypes,
+    base: Entries,
+    layers: &[&Members],
+) -> Result<Entries, AllocError>
+    ensures { IfOk result (λ es. es ≡ layers_laid (zeros.zero_within types.now levels) types.now (types_of types.now member_types.entry) base (map (λ l. members_of l.now) layers.now)) }
+{
+    let sorted = pieces_by_name(alloc, layers)?;
+    let pieces = sorted.as_slice();
+    let mut start = 0;
     let mut rest = VecDeque::from_vec(base.into_vec());
     let mut laid = Vec::new(alloc);
-    for (name, tree) in pairs {
+    while start < pieces.len() {
+        let left = &pieces[start..];
+        let name = left[0].name;
         let key = name.as_str();
+        let count = run_length(left, key);
         move_below(&mut rest, key, &mut laid)?;
         let there = take_named(&mut rest, key);
-        let entry = lay_member(alloc, types, levels, member_types, name, there, tree)?;
+        let run = &left[..count];
+        let entry = lay_run(alloc, types, levels, member_types, name, there, run)?;
         push_entry(&mut laid, entry)?;
+        start += count;
     }
     let mut rest = rest.into_vec();
     laid.append(&mut rest)?;
     Ok(Entries::from_vec(laid))
 }
 
-// A member laid over the entry of its name, where its name has a type that takes its tree.
+// The trees of the pieces of one name laid over the entry of that name, where the name has a type that takes one.
 #[cycle(laying)]
-fn lay_member(
+fn lay_run(
     alloc: Global,
     types: &TypeTable,
     levels: usize,
     member_types: MemberTypes,
     name: &Text,
     there: Option<(Text, Value)>,
-    tree: &Tree,
+    pieces: &[Piece],
 ) -> Result<Option<(Text, Value)>, AllocError>
     requires { ForSome there (λ entry. entry.0 ≡ name.now) }
-    ensures { IfOk result (λ entry. map entry_of (option_to_list entry) ≡ member_laid (zeros.zero_within types.now levels) types.now (types_of types.now member_types.entry) name.now (json_of tree.now) (map entry_of (option_to_list there))) }
+    ensures { IfOk result (λ entry. map entry_of (option_to_list entry) ≡ run_laid (zeros.zero_within types.now levels) types.now (types_of types.now member_types.entry) name.now (map (λ p. json_of p.tree.now) pieces.now) (map entry_of (option_to_list there))) }
 {
     let Some(of) = type_of(types, member_types, name.as_str()) else {
         return Ok(there);
     };
-    if !takes(types, of, tree) {
+    if !takes_any(types, of, pieces) {
         return Ok(there);
     }
     match there {
         Some((name, base)) => {
-            let value = lay(alloc, types, levels, of, Base::Made(base), tree)?;
+            let value = lay_trees(alloc, types, levels, of, Base::Made(base), pieces)?;
             Ok(Some((name, value)))
         }
         None => {
-            let value = lay(alloc, types, levels, of, Base::Zero(levels), tree)?;
+            let value = lay_trees(alloc, types, levels, of, Base::Zero(levels), pieces)?;
             Ok(Some((name.clone()?, value)))
         }
+    }
+}
+
+// The trees laid over a value of the type, one after the other: each that the type takes. What is no object replaces all
+// that was laid before it.
+#[cycle(laying)]
+fn lay_trees(
+    alloc: Global,
+    types: &TypeTable,
+    levels: usize,
+    of: &FieldType,
+    base: Base,
+    pieces: &[Piece],
+) -> Result<Value, AllocError>
+    ensures { IfOk result (λ v. typed_of v ≡ trees_laid (zeros.zero_within types.now levels) types.now (shape_of of.now) (base_value types.now (shape_of of.now) base) (map (λ p. json_of p.tree.now) pieces.now)) }
+{
+    let mut under = base;
+    let mut layers = Vec::new(alloc);
+    for piece in pieces {
+        if takes(types, of, piece.tree) {
+            match piece.tree {
+                Tree::Object(members) => layers.push(members)?,
+                _ => {
+                    under = Base::Made(lay(alloc, types, levels, of, under, piece.tree)?);
+                    layers.clear();
+                }
+            }
+        }
+    }
+    if layers.is_empty() {
+        return made(alloc, types, of, under);
+    }
+    lay_objects(alloc, types, levels, of, under, layers.as_slice())
+}
+
+// The objects of these members laid over a value of the type, one after the other.
+#[cycle(laying)]
+fn lay_objects(
+    alloc: Global,
+    types: &TypeTable,
+    levels: usize,
+    of: &FieldType,
+    base: Base,
+    layers: &[&Members],
+) -> Result<Value, AllocError>
+    requires { 0 < length layers.now }
+    ensures { IfOk result (λ v. typed_of v ≡ objects_laid (zeros.zero_within types.now levels) types.now (shape_of of.now) (base_value types.now (shape_of of.now) base) (map (λ l. members_of l.now) layers.now)) }
+{
+    match of {
+        FieldType::Option(inner) => {
+            let value = lay_objects(
+                alloc,
+                types,
+                levels,
+                inner.get(),
+                held(base, levels),
+                layers,
+            )?;
+            Ok(Value::Present(InnerValue::new(alloc, value)?))
+        }
+        _ => {
+            let entries = lay_over_base(alloc, types, levels, of, base, layers)?;
+            Ok(value_with(of, entries))
+        }
+    }
+}
+
+// The layers of members laid over a map or an object.
+#[cycle(laying)]
+fn lay_over_base(
+    alloc: Global,
+    types: &TypeTable,
+    levels: usize,
+    of: &FieldType,
+    base: Base,
+    layers: &[&Members],
+) -> Result<Entries, AllocError>
+    requires { 0 < length layers.now }
+    ensures { IfOk result (λ es. es ≡ layers_laid (zeros.zero_within types.now levels) types.now (type_under types.now (shape_of of.now)) (pairs_in (base_value types.now (shape_of of.now) base)) (map (λ l. members_of l.now) layers.now)) }
+{
+    match base {
+        Base::Made(value) => {
+            let entries = entries_in(alloc, value);
+            lay_layers(alloc, types, levels, types_in(types, of), entries, layers)
+        }
+        Base::Zero(below) => {
+            let entries = lay_over_zero(alloc, types, levels, of, below, layers[0])?;
+            lay_layers(
+                alloc,
+                types,
+                levels,
+                types_in(types, of),
+                entries,
+                &layers[1..],
+            )
+        }
+    }
+}
+
+// The value itself, or the zero of the type, which is made.
+#[cycle(laying)]
+fn made(alloc: Global, types: &TypeTable, of: &FieldType, base: Base) -> Result<Value, AllocError>
+    ensures { IfOk result (λ v. typed_of v ≡ base_value types.now (shape_of of.now) base) }
+{
+    match base {
+        Base::Made(value) => Ok(value),
+        Base::Zero(levels) => zero_within(alloc, types, levels, of),
     }
 }
 

@@ -11,8 +11,9 @@ mod laying;
 mod moving;
 mod overlays;
 mod parts;
+mod sorting;
 
 pub use defaults::{DefaultFault, check_defaults};
-pub use features::{default_of, overlay_feature};
+pub use features::{default_of, overlay_each, overlay_feature};
 pub use laws::{laying_by_type, values_have_types, zeros_by_type};
 pub use overlays::{overlay, zero};
