@@ -5,12 +5,14 @@ use Rattle.enrol_states.specs.Consistent as states
 use Rattle.enrol_states.specs.declared.state.State.{State}
 use Rattle.event_counts.specs.Sound as counts
 use Rattle.event_counts.specs.declared.name_counts.NameCounts.{NameCounts}
+use Rattle.change_outbox.specs.Contents as contents
+use Rattle.change_outbox.specs.Contents.{Contents}
 use Rattle.row_batches.specs.Batch.{ChangeList, IsBatch, applied, batch_text, whole_of}
 use Rattle.row_batches.specs.Between.{changes_between, between}
 use Rattle.row_batches.specs.declared.change.RowChange.{RowChange}
 use Rattle.row_batches.proofs.Sizes.{between_short}
 use Rattle.row_batches.proofs.Walks.{between_rule, applied_between}
-use Rattle.client_state.specs.Changes.{AreSoundIf, IsChangeOf, IsNextIf, enrolment_after, state_after}
+use Rattle.client_state.specs.Changes.{AreSoundIf, IsChangeOf, IsSoundIf, IsNextIf, enrolment_after, state_after}
 use Rattle.client_state.specs.Sound.{IsConsistent}
 use Rattle.client_state.specs.Spelling.{rows_of, spelling}
 use Rattle.client_state.specs.declared.client_state.ClientState.{ClientState}
@@ -29,10 +31,18 @@ pub events_sound : (next : Option (List NameCounts)) (ns : List NameCounts) → 
 events_sound None ns is can = is
 events_sound (Some next) ns is can = can
 
+pub outbox_sound : (next : Option Contents) (o : Contents) → contents.IsSound o → IsSoundIf next → contents.IsSound (unwrap_or next o)
+outbox_sound None o is can = is
+outbox_sound (Some next) o is can = can
+
 -- the state after one of its changes is one that a client can have
 pub change_consistent : (s : ClientState) (change : StateChange) → IsConsistent s → IsChangeOf s change → IsConsistent (state_after change s)
 change_consistent s change is of =
-    record { enrolment = enrolment_consistent change.enrolment s.enrolment is.enrolment of.enrolment; events = events_sound change.events s.events is.events of.events }
+    record {
+      enrolment = enrolment_consistent change.enrolment s.enrolment is.enrolment of.enrolment;
+      events = events_sound change.events s.events is.events of.events;
+      outbox = outbox_sound change.outbox s.outbox is.outbox of.outbox;
+    }
 
 -- ---- the batch between two states
 

@@ -1,6 +1,6 @@
 -- Rows are divided by the bytes that begin their keys in one way.
 use Rattle.std.proofs.Common.{◌≡◌, ◌≤◌, ◌<◌, ◌+◌, ◌++◌, ◌∷◌, [], List, ℕ, Bool, true, false, Less, map, length, get_or, take, drop, refl, sym, ap, subst, arith}
-use Rattle.std.specs.Prelude.{◌&&◌, nat_le, nat_lt}
+use Rattle.std.specs.Prelude.{◌&&◌, nat_le, nat_lt, if◌then◌else◌}
 use Rattle.std.specs.Cmp.{nat_cmp_is}
 use Rattle.std.specs.Cmp.Lexicographic.{slice_cmp}
 use Rattle.std.specs.List.{AllByRecursion}
@@ -14,6 +14,10 @@ use Rattle.row_batches.specs.declared.store_row.StoreRow.{StoreRow}
 use Rattle.row_batches.proofs.Joining.{Precede}
 use Rattle.event_counts.specs.Rows as count_rows
 use Rattle.event_counts.specs.declared.name_counts.NameCounts.{NameCounts}
+use Rattle.change_outbox.specs.Contents.{Contents}
+use Rattle.change_outbox.specs.Rows as change_rows
+use Rattle.change_outbox.specs.Rows.{change_row, next_rows, next_row}
+use Rattle.change_outbox.specs.declared.change.Change.{Change}
 use Rattle.state_codec.specs.Spelling.{first_rows, later_rows}
 use Rattle.state_codec.proofs.Letters.{all_append, first_all, later_all}
 use Rattle.client_state.specs.Sections.{is_below, AreBelow, StartsFrom}
@@ -84,9 +88,33 @@ letter_from end letter most is = le-ltb letter end (omega (arith, most, leb-true
 pub later_from : (end byte : ℕ) (e : State) → end ≤ 105 → AreFrom end (later_rows byte e)
 later_from end byte e most = later_all (λ (r : StoreRow). is_below end r.key ≡ false) byte e (λ letter rest value is. letter_from end letter most is)
 
-pub behind_from : (byte : ℕ) (ns : List NameCounts) (e : State) → AreFrom 101 (count_rows.rows_of ns ++ later_rows byte e)
-behind_from byte ns e =
-    all_append (λ (r : StoreRow). is_below 101 r.key ≡ false) (count_rows.rows_of ns) (later_rows byte e) (events_from ns) (later_from 101 byte e (omega arith))
+right : (a b : Bool) → (a && b) ≡ true → b ≡ true
+right true b is = is
+right false b is = absurd cc
+
+pub later_below : (byte : ℕ) (e : State) → AreBelow 120 (later_rows byte e)
+later_below byte e = later_all (λ (r : StoreRow). is_below 120 r.key ≡ true) byte e (λ letter rest value is. right (nat_le 105 letter) (nat_lt letter 120) is)
+
+next_from : (end : ℕ) (b : Bool) (n : ℕ) → end ≤ 120 → AreFrom end (if b then next_row n ∷ [] else [])
+next_from end true n most = (le-ltb 120 end most, tt)
+next_from end false n most = tt
+
+changes_above : (end : ℕ) (cs : List Change) → end ≤ 120 → AreFrom end (map change_row cs)
+changes_above end [] most = tt
+changes_above end (c ∷ cs) most = (le-ltb 120 end most, changes_above end cs most)
+
+pub outbox_from : (end : ℕ) (o : Contents) → end ≤ 120 → AreFrom end (change_rows.rows_of o)
+outbox_from end o most =
+    all_append (λ (r : StoreRow). is_below end r.key ≡ false) (next_rows o.next) (map change_row o.entries) (next_from end (nat_lt 1 o.next) o.next most) (changes_above end o.entries most)
+
+-- the later rows, and those of an outbox behind them
+pub last_from : (end byte : ℕ) (e : State) (o : Contents) → end ≤ 105 → AreFrom end (later_rows byte e ++ change_rows.rows_of o)
+last_from end byte e o most =
+    all_append (λ (r : StoreRow). is_below end r.key ≡ false) (later_rows byte e) (change_rows.rows_of o) (later_from end byte e most) (outbox_from end o (omega (arith, most)))
+
+pub behind_from : (byte : ℕ) (ns : List NameCounts) (e : State) (o : Contents) → AreFrom 101 (count_rows.rows_of ns ++ (later_rows byte e ++ change_rows.rows_of o))
+behind_from byte ns e o =
+    all_append (λ (r : StoreRow). is_below 101 r.key ≡ false) (count_rows.rows_of ns) (later_rows byte e ++ change_rows.rows_of o) (events_from ns) (last_from 101 byte e o (omega arith))
 
 -- one row more that is below the byte
 pub below_more : (end : ℕ) (rows : List StoreRow) (i : ℕ) (r : StoreRow) → i < length rows → r ≡ get_or rows i r → AreBelow end (take i rows) → is_below end r.key ≡ true → AreBelow end (take (i + 1) rows)

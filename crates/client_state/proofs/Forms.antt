@@ -1,6 +1,6 @@
 -- The forms of a state: both are batches of one length, and each is told from the other by the row `p`.
-use Rattle.std.proofs.Common.{◌≡◌, ◌<◌, ◌^◌, ◌++◌, ◌∷◌, [], List, ℕ, Bool, true, false, inl, inr, length, refl, sym, ap, ◌∙◌, subst, arith}
-use Rattle.std.specs.Prelude.{◌||◌}
+use Rattle.std.proofs.Common.{◌≡◌, ◌<◌, ◌^◌, ◌++◌, ◌∷◌, [], List, ℕ, Bool, true, false, map, inl, inr, length, refl, sym, ap, ◌∙◌, subst, arith}
+use Rattle.std.specs.Prelude.{◌||◌, nat_lt, if◌then◌else◌}
 use Rattle.std.specs.List.{AllByRecursion}
 use Rattle.row_batches.specs.Batch.{IsBatch, batch_text, whole_of}
 use Rattle.row_batches.specs.Batches.{HaveRoom}
@@ -9,12 +9,16 @@ use Rattle.row_batches.specs.declared.store_row.StoreRow.{StoreRow}
 use Rattle.row_batches.proofs.Walks.{whole_rule}
 use Rattle.event_counts.specs.Rows as count_rows
 use Rattle.event_counts.specs.declared.name_counts.NameCounts.{NameCounts}
+use Rattle.change_outbox.specs.Contents.{Contents}
+use Rattle.change_outbox.specs.Rows as change_rows
+use Rattle.change_outbox.specs.Rows.{change_row, next_row, next_rows, number_text}
+use Rattle.change_outbox.specs.declared.change.Change.{Change}
 use Rattle.enrol_states.specs.declared.state.State.{State}
 use Rattle.state_values.specs.Values.{bit, participation}
 use Rattle.state_codec.specs.Forms.{is_old}
 use Rattle.state_codec.specs.Spelling.{first_rows, later_rows}
 use Rattle.state_codec.proofs.Forms.{later_is_new, later_is_old}
-use Rattle.state_codec.proofs.Letters.{first_all}
+use Rattle.state_codec.proofs.Letters.{all_append, first_all}
 use Rattle.client_state.specs.declared.client_state.ClientState.{ClientState}
 use Rattle.client_state.specs.Forms.{IsForm, IsOldForm, IsSpelled, needs_migration, old_rows, old_spelling}
 use Rattle.client_state.specs.Sound.{IsConsistent, IsSound}
@@ -74,11 +78,33 @@ events_none : (ns : List NameCounts) → AllByRecursion (λ r. is_old r ≡ fals
 events_none [] = tt
 events_none (n ∷ ns) = (refl, events_none ns)
 
+next_none : (b : Bool) (n : ℕ) → AllByRecursion (λ r. is_old r ≡ false) (if b then next_row n ∷ [] else [])
+next_none true n = (refl, tt)
+next_none false n = tt
+
+changes_none : (cs : List Change) → AllByRecursion (λ r. is_old r ≡ false) (map change_row cs)
+changes_none [] = tt
+changes_none (c ∷ cs) = (refl, changes_none cs)
+
+outbox_none : (o : Contents) → AllByRecursion (λ r. is_old r ≡ false) (change_rows.rows_of o)
+outbox_none o = all_append (λ (r : StoreRow). is_old r ≡ false) (next_rows o.next) (map change_row o.entries) (next_none (nat_lt 1 o.next) o.next) (changes_none o.entries)
+
+none_at_all : (rows : List StoreRow) → AllByRecursion (λ r. is_old r ≡ false) rows → needs_migration rows ≡ false
+none_at_all [] none = refl
+none_at_all (r ∷ rs) none = ap (λ b. b || needs_migration rs) none.0 ∙ none_at_all rs none.1
+
+none_behind : (rows rest : List StoreRow) → needs_migration rest ≡ false → needs_migration (rows ++ rest) ≡ needs_migration rows
+none_behind [] rest none = none
+none_behind (r ∷ rs) rest none = ap (λ b. is_old r || b) (none_behind rs rest none)
+
 with_byte : (byte : ℕ) (s : ClientState) → needs_migration (rows_with byte s) ≡ needs_migration (later_rows byte s.enrolment)
 unfolding rows_with
 with_byte byte s =
-    none_in_front (first_rows s.enrolment) (count_rows.rows_of s.events ++ later_rows byte s.enrolment) (first_none s.enrolment)
-    ∙ none_in_front (count_rows.rows_of s.events) (later_rows byte s.enrolment) (events_none s.events)
+    let later = later_rows byte s.enrolment in
+    let outbox = change_rows.rows_of s.outbox in
+    none_in_front (first_rows s.enrolment) (count_rows.rows_of s.events ++ (later ++ outbox)) (first_none s.enrolment)
+    ∙ none_in_front (count_rows.rows_of s.events) (later ++ outbox) (events_none s.events)
+    ∙ none_behind later outbox (none_at_all outbox (outbox_none s.outbox))
 
 pub spelled_is_new : (s : ClientState) → needs_migration (rows_of s) ≡ false
 spelled_is_new s = with_byte (participation s.enrolment) s ∙ later_is_new s.enrolment

@@ -1,8 +1,9 @@
--- How many bytes a state is spelled in: those of its enrolment, and those of the rows of its events.
+-- How many bytes a state is spelled in: those of its enrolment, and those of the rows of its events and of its outbox.
 use Rattle.std.proofs.Common.{◌≡◌, ◌+◌, ◌≤◌, ◌^◌, ◌++◌, ℕ, length, sym, subst, arith}
 use Rattle.row_batches.specs.Batch.{batch_text, puts_text, whole_of}
 use Rattle.row_batches.proofs.Sizes.{puts_size-append}
 use Rattle.event_counts.specs.Rows as count_rows
+use Rattle.change_outbox.specs.Rows as change_rows
 use Rattle.state_values.specs.Values.{participation}
 use Rattle.state_codec.specs.Sizes as codec_sizes
 use Rattle.state_codec.specs.Sound as codec_sound
@@ -20,15 +21,20 @@ use Rattle.client_state.specs.Spelling.{rows_with, spelling}
 abbrev pub events_size : ClientState → ℕ
 events_size s = length (puts_text (count_rows.rows_of s.events))
 
-pub length-with : (byte : ℕ) (s : ClientState) → length (batch_text (whole_of (rows_with byte s))) ≡ length (batch_text (whole_of (codec.rows_with byte s.enrolment))) + events_size s
+-- and of the outbox's
+abbrev pub outbox_size : ClientState → ℕ
+outbox_size s = length (puts_text (change_rows.rows_of s.outbox))
+
+pub length-with : (byte : ℕ) (s : ClientState) → length (batch_text (whole_of (rows_with byte s))) ≡ length (batch_text (whole_of (codec.rows_with byte s.enrolment))) + events_size s + outbox_size s
 unfolding rows_with codec.rows_with
 length-with byte s =
     let first = first_rows s.enrolment in
     let events = count_rows.rows_of s.events in
     let later = later_rows byte s.enrolment in
-    omega (arith, puts_size-append first (events ++ later), puts_size-append events later, puts_size-append first later)
+    let outbox = change_rows.rows_of s.outbox in
+    omega (arith, puts_size-append first (events ++ (later ++ outbox)), puts_size-append events (later ++ outbox), puts_size-append later outbox, puts_size-append first later)
 
-pub length-spelling : (s : ClientState) → length (spelling s) ≡ length (codec.spelling s.enrolment) + events_size s
+pub length-spelling : (s : ClientState) → length (spelling s) ≡ length (codec.spelling s.enrolment) + events_size s + outbox_size s
 unfolding spelling codec.spelling
 length-spelling s = length-with (participation s.enrolment) s
 
@@ -44,8 +50,12 @@ enrolment_sound s is = record { consistent = is.consistent.enrolment; records = 
 pub events_fit : (s : ClientState) (sizes : ClientSizes) → IsSound s → IsSizeOf s sizes → sizes.events ≤ 2 ^ 100
 events_fit s sizes is are = omega (arith, are.events, length-spelling s, is.size)
 
+-- and so are those of its outbox
+pub outbox_fits : (s : ClientState) (sizes : ClientSizes) → IsSound s → IsSizeOf s sizes → sizes.outbox ≤ 2 ^ 100
+outbox_fits s sizes is are = omega (arith, are.outbox, length-spelling s, is.size)
+
 -- the sizes of a state by those of its parts
-pub sizes_are : (s : ClientState) (enrolment : StateSizes) (events : ℕ) (sizes : ClientSizes) → sizes ≡ record { total = enrolment.total + events; enrolment = enrolment; events = events } → codec_sizes.IsSizeOf s.enrolment enrolment
-    → events ≡ events_size s → IsSizeOf s sizes
-sizes_are s enrolment events sizes is are events_are =
-    subst (IsSizeOf s) (sym is) (record { total = omega (arith, length-spelling s, are.total, events_are); enrolment = are; events = events_are })
+pub sizes_are : (s : ClientState) (enrolment : StateSizes) (events outbox : ℕ) (sizes : ClientSizes) → sizes ≡ record { total = enrolment.total + events + outbox; enrolment = enrolment; events = events; outbox = outbox }
+    → codec_sizes.IsSizeOf s.enrolment enrolment → events ≡ events_size s → outbox ≡ outbox_size s → IsSizeOf s sizes
+sizes_are s enrolment events outbox sizes is are events_are outbox_are =
+    subst (IsSizeOf s) (sym is) (record { total = omega (arith, length-spelling s, are.total, events_are, outbox_are); enrolment = are; events = events_are; outbox = outbox_are })

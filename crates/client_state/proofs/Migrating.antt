@@ -5,20 +5,24 @@ use Rattle.row_batches.specs.Between.{changes_between, between}
 use Rattle.row_batches.specs.declared.change.RowChange.{RowChange}
 use Rattle.row_batches.specs.declared.change.RowChange.TheVariants.{Put}
 use Rattle.row_batches.specs.declared.store_row.StoreRow.{StoreRow}
+use Rattle.row_batches.proofs.Joining.{between-append}
 use Rattle.row_batches.proofs.Walks.{applied_between}
+use Rattle.std.proofs.lemmas.List.{append-nil}
 use Rattle.event_counts.specs.Rows as count_rows
+use Rattle.change_outbox.specs.Rows as change_rows
 use Rattle.state_values.specs.Values.{bit, participation}
 use Rattle.state_codec.specs.Spelling as codec
 use Rattle.state_codec.specs.Spelling.{row, first_rows, later_rows}
+use Rattle.state_codec.proofs.Joined.{between_itself}
 use Rattle.state_codec.proofs.Migrating as codec_migrating
 use Rattle.state_codec.proofs.Migrating.{same_front}
 use Rattle.client_state.specs.declared.client_state.ClientState.{ClientState}
 use Rattle.client_state.specs.Forms.{old_rows}
 use Rattle.client_state.specs.Sound.{IsConsistent}
 use Rattle.client_state.specs.Spelling.{rows_with, rows_of, spelling}
-use Rattle.client_state.proofs.KeyOrder.{with_rise}
+use Rattle.client_state.proofs.KeyOrder.{later_before, with_rise}
 
--- rows that the states have before the later ones change nothing
+-- rows that the states have before the later ones, and behind them, change nothing
 with_bytes : (byte other : ℕ) (s : ClientState) → changes_between (rows_with byte s) (rows_with other s) ≡ changes_between (codec.rows_with byte s.enrolment) (codec.rows_with other s.enrolment)
 unfolding rows_with codec.rows_with
 with_bytes byte other s =
@@ -26,7 +30,10 @@ with_bytes byte other s =
     let events = count_rows.rows_of s.events in
     let olds = later_rows byte s.enrolment in
     let news = later_rows other s.enrolment in
-    same_front first (events ++ olds) (events ++ news) ∙ same_front events olds news ∙ sym (same_front first olds news)
+    let outbox = change_rows.rows_of s.outbox in
+    let behind : changes_between (olds ++ outbox) (news ++ outbox) ≡ changes_between olds news =
+    between-append outbox outbox olds news (later_before byte s s) (later_before other s s) ∙ ap (λ l. changes_between olds news ++ l) (between_itself outbox) ∙ append-nil (changes_between olds news) in
+    same_front first (events ++ (olds ++ outbox)) (events ++ (news ++ outbox)) ∙ same_front events (olds ++ outbox) (news ++ outbox) ∙ behind ∙ sym (same_front first olds news)
 
 pub migrating : (s : ClientState) → changes_between (old_rows s) (rows_of s) ≡ Put (row (112 ∷ []) (participation s.enrolment ∷ [])) ∷ []
 migrating s = with_bytes (bit s.enrolment.experiments) (participation s.enrolment) s ∙ codec_migrating.migrating s.enrolment

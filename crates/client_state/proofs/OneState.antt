@@ -8,6 +8,8 @@ use Rattle.row_batches.proofs.Cleared.{one_whole}
 use Rattle.row_batches.proofs.OneSpelling.{one_spelling as batch_spelling}
 use Rattle.event_counts.specs.Rows as count_rows
 use Rattle.event_counts.proofs.SameRows.{one_list_of_rows}
+use Rattle.change_outbox.specs.Rows as change_rows
+use Rattle.change_outbox.proofs.OneList.{one_list}
 use Rattle.state_codec.specs.Forms.{AreParts, IsLaterForm}
 use Rattle.state_codec.specs.Spelling.{first_rows, later_rows}
 use Rattle.state_codec.proofs.Forms.{parts_read}
@@ -21,23 +23,26 @@ use Rattle.client_state.proofs.Forms.{Text, form_rises, form_rule, text_of_form}
 use Rattle.client_state.proofs.SectionsRead.{byte_of, own_division, sound_parts}
 
 -- states whose parts have the same rows
-pub one_of_parts : (first events later : List StoreRow) (s t : ClientState) → AreSoundParts s → AreSoundParts t → AreParts s.enrolment first later → AreParts t.enrolment first later
-    → events ≡ count_rows.rows_of s.events → events ≡ count_rows.rows_of t.events → s ≡ t
-one_of_parts first events later s t s_is t_is s_parts t_parts s_events t_events =
+pub one_of_parts : (first events later outbox : List StoreRow) (s t : ClientState) → AreSoundParts s → AreSoundParts t → AreParts s.enrolment first later → AreParts t.enrolment first later
+    → events ≡ count_rows.rows_of s.events → events ≡ count_rows.rows_of t.events → outbox ≡ change_rows.rows_of s.outbox → outbox ≡ change_rows.rows_of t.outbox → s ≡ t
+one_of_parts first events later outbox s t s_is t_is s_parts t_parts s_events t_events s_outbox t_outbox =
     let enrolment : s.enrolment ≡ t.enrolment = one_state first later s.enrolment t.enrolment (parts_read first later s.enrolment s_is.enrolment s_parts) (parts_read first later t.enrolment t_is.enrolment t_parts) in
     let counts : s.events ≡ t.events = one_list_of_rows s.events t.events s_is.events t_is.events (sym s_events ∙ t_events) in
-    λ i. record { enrolment = enrolment i; events = counts i }
+    let changes : s.outbox ≡ t.outbox = one_list s.outbox t.outbox s_is.outbox t_is.outbox (sym s_outbox ∙ t_outbox) in
+    λ i. record { enrolment = enrolment i; events = counts i; outbox = changes i }
 
 pub one_form : (rows : List StoreRow) (s t : ClientState) → IsSound s → IsSound t → IsForm s rows → IsForm t rows → s ≡ t
 one_form rows s t s_is t_is s_has t_has =
     let one = byte_of s rows s_has in
     let other = byte_of t rows t_has in
     let own = own_division one.byte other.byte s t (sym one.same ∙ other.same) in
-    one_of_parts (first_rows s.enrolment) (count_rows.rows_of s.events) (later_rows one.byte s.enrolment) s t (sound_parts s s_is) (sound_parts t t_is)
+    one_of_parts (first_rows s.enrolment) (count_rows.rows_of s.events) (later_rows one.byte s.enrolment) (change_rows.rows_of s.outbox) s t (sound_parts s s_is) (sound_parts t t_is)
     (record { first_are = refl; later_are = one.later })
     (record { first_are = own.first_are; later_are = subst (IsLaterForm t.enrolment) (sym own.later_are) other.later })
     refl
     own.events_are
+    refl
+    own.outbox_are
 
 one_text : (bytes : List ℕ) (s t : ClientState) → IsSound s → IsSound t → Text s bytes → Text t bytes → s ≡ t
 one_text bytes s t s_is t_is a b =

@@ -1,5 +1,6 @@
 -- The rows of a state that isn't spelled in 4 GiB have room in a batch.
-use Rattle.std.proofs.Common.{◌<◌, ◌^◌, ◌++◌, ◌∷◌, [], List, ℕ, length, arith}
+use Rattle.std.proofs.Common.{◌≤◌, ◌<◌, ◌^◌, ◌++◌, ◌∷◌, [], List, ℕ, Bool, true, false, map, length, arith}
+use Rattle.std.specs.Prelude.{nat_lt, if◌then◌else◌}
 use Rattle.std.specs.List.{AllByRecursion}
 use Rattle.row_batches.specs.Batch.{batch_text, puts_text, whole_of}
 use Rattle.row_batches.specs.Batches.{HaveRoom}
@@ -8,6 +9,10 @@ use Rattle.event_counts.specs.Rows as count_rows
 use Rattle.event_counts.specs.Sound.{IsSoundName}
 use Rattle.event_counts.specs.declared.name_counts.NameCounts.{NameCounts}
 use Rattle.event_counts.proofs.RowSizes.{name_short}
+use Rattle.change_outbox.specs.Contents.{Contents}
+use Rattle.change_outbox.specs.Rows as change_rows
+use Rattle.change_outbox.specs.Rows.{change_key, change_row, next_row, next_rows, number_text}
+use Rattle.change_outbox.specs.declared.change.Change.{Change}
 use Rattle.state_values.specs.Values.{participation}
 use Rattle.state_codec.specs.Spelling.{first_rows, later_rows}
 use Rattle.state_codec.proofs.Room.{HaveShortKeys, short-append, first_short, later_short, room_of}
@@ -19,14 +24,30 @@ events_short : (ns : List NameCounts) → AllByRecursion IsSoundName ns → Have
 events_short [] sound = tt
 events_short (n ∷ ns) sound = (omega (arith, name_short n.name sound.0.name), events_short ns sound.1)
 
+number_short : (n : ℕ) → length (change_key n) ≤ 81
+unfolding number_text
+number_short n = omega arith
+
+next_short : (b : Bool) (n : ℕ) → HaveShortKeys (if b then next_row n ∷ [] else [])
+next_short true n = (omega arith, tt)
+next_short false n = tt
+
+changes_short : (cs : List Change) → HaveShortKeys (map change_row cs)
+changes_short [] = tt
+changes_short (c ∷ cs) = (number_short c.number, changes_short cs)
+
+outbox_short : (o : Contents) → HaveShortKeys (change_rows.rows_of o)
+outbox_short o = short-append (next_rows o.next) (map change_row o.entries) (next_short (nat_lt 1 o.next) o.next) (changes_short o.entries)
+
 keys_short : (byte : ℕ) (s : ClientState) → IsConsistent s → HaveShortKeys (rows_with byte s)
 unfolding rows_with
 keys_short byte s is =
     let events = count_rows.rows_of s.events in
     let later = later_rows byte s.enrolment in
-    short-append (first_rows s.enrolment) (events ++ later)
+    let outbox = change_rows.rows_of s.outbox in
+    short-append (first_rows s.enrolment) (events ++ (later ++ outbox))
     (first_short s.enrolment is.enrolment)
-    (short-append events later (events_short s.events is.events.names) (later_short byte s.enrolment is.enrolment))
+    (short-append events (later ++ outbox) (events_short s.events is.events.names) (short-append later outbox (later_short byte s.enrolment is.enrolment) (outbox_short s.outbox)))
 
 puts_fit : (rows : List StoreRow) → length (batch_text (whole_of rows)) < 2 ^ 32 → length (puts_text rows) < 2 ^ 32
 puts_fit rows fits = omega (arith, fits)

@@ -5,6 +5,8 @@ use Rattle.enrol_states.specs.Consistent as states
 use Rattle.enrol_states.specs.declared.state.State.{State}
 use Rattle.event_counts.specs.Sound as counts
 use Rattle.event_counts.specs.declared.name_counts.NameCounts.{NameCounts}
+use Rattle.change_outbox.specs.Contents as contents
+use Rattle.change_outbox.specs.Contents.{Contents}
 use Rattle.state_codec.specs.RecipeLists.{HasLists}
 use Rattle.state_codec.specs.declared.recipe_lists.RecipeLists.{RecipeLists}
 use Rattle.client_state.specs.declared.client_state.ClientState.{ClientState}
@@ -17,13 +19,21 @@ abbrev pub next_of : State → RecipeLists → NextEnrolment
 next_of e recipes = record { state = e; recipes = recipes }
 
 abbrev pub of_enrolment : State → RecipeLists → StateChange
-of_enrolment e recipes = record { enrolment = Some (next_of e recipes); events = None }
+of_enrolment e recipes = record { enrolment = Some (next_of e recipes); events = None; outbox = None }
 
 abbrev pub of_events : List NameCounts → StateChange
-of_events ns = record { enrolment = None; events = Some ns }
+of_events ns = record { enrolment = None; events = Some ns; outbox = None }
 
 abbrev pub of_both : State → RecipeLists → List NameCounts → StateChange
-of_both e recipes ns = record { enrolment = Some (next_of e recipes); events = Some ns }
+of_both e recipes ns = record { enrolment = Some (next_of e recipes); events = Some ns; outbox = None }
+
+abbrev pub of_outbox : Contents → StateChange
+of_outbox o = record { enrolment = None; events = None; outbox = Some o }
+
+-- the change with this outbox, where there is one
+abbrev pub with_outbox : Option Contents → StateChange → StateChange
+with_outbox None change = change
+with_outbox (Some o) change = record change { outbox = Some o }
 
 -- ---- the state after a change
 
@@ -34,7 +44,7 @@ enrolment_after (Some next) e = next.state
 
 -- the state with the parts that the change has
 abbrev pub state_after : StateChange → ClientState → ClientState
-state_after change s = record { enrolment = enrolment_after change.enrolment s.enrolment; events = unwrap_or change.events s.events }
+state_after change s = record { enrolment = enrolment_after change.enrolment s.enrolment; events = unwrap_or change.events s.events; outbox = unwrap_or change.outbox s.outbox }
 
 -- ---- which changes a state may have
 
@@ -51,7 +61,12 @@ abbrev pub AreSoundIf : Option (List NameCounts) → Type 0
 AreSoundIf None = ⊤
 AreSoundIf (Some ns) = counts.IsSound ns
 
+abbrev pub IsSoundIf : Option Contents → Type 0
+IsSoundIf None = ⊤
+IsSoundIf (Some o) = contents.IsSound o
+
 -- the change is one of the state: each part that it has can be a client's
 pub record IsChangeOf (s : ClientState) (change : StateChange) : Type 0 where
   pub enrolment : IsNextIf s.enrolment change.enrolment
   pub events : AreSoundIf change.events
+  pub outbox : IsSoundIf change.outbox

@@ -3,6 +3,7 @@ pub mod Spelling
 pub mod Forms
 pub mod Sound
 pub mod Changes
+pub mod Following
 pub mod Sizes
 pub mod Sections
 pub mod Laws

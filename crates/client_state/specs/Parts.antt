@@ -1,8 +1,9 @@
 -- The state of a client that knows of nothing but its enrolment.
 use Rattle.std.specs.Prelude.{[]}
+use Rattle.change_outbox.specs.Contents.{no_changes}
 use Rattle.enrol_states.specs.declared.state.State.{State}
 use Rattle.client_state.specs.declared.client_state.ClientState.{ClientState}
 
--- no event was counted
+-- no event was counted, and no enrolment changed
 abbrev pub with_empty_parts : State → ClientState
-with_empty_parts e = record { enrolment = e; events = [] }
+with_empty_parts e = record { enrolment = e; events = []; outbox = no_changes }

@@ -6,6 +6,8 @@ use Rattle.state_codec.specs.Forms.{AreParts}
 use Rattle.state_codec.specs.Sound as enrolments
 use Rattle.event_counts.specs.Rows as count_rows
 use Rattle.event_counts.specs.Sound as counts
+use Rattle.change_outbox.specs.Contents as contents
+use Rattle.change_outbox.specs.Rows as change_rows
 use Rattle.client_state.specs.declared.client_state.ClientState.{ClientState}
 use Rattle.client_state.specs.declared.sections.Sections.{Sections}
 
@@ -29,18 +31,22 @@ pub record IsSection (end : ℕ) (section rest rows : List StoreRow) : Type 0 wh
   pub below : AreBelow end section
   pub end_there : StartsFrom end rest
 
--- the sections of rows, one after the other: up to 'e', up to 'f', and all others
+-- the sections of rows, one after the other: up to 'e', up to 'f', up to 'x', and all others
 pub record AreSections (sections : Sections) (rows : List StoreRow) : Type 0 where
-  pub behind : List StoreRow
-  pub first : IsSection 101 sections.first.now behind rows
-  pub events : IsSection 102 sections.events.now sections.later.now behind
+  pub behind_first : List StoreRow
+  pub behind_events : List StoreRow
+  pub first : IsSection 101 sections.first.now behind_first rows
+  pub events : IsSection 102 sections.events.now behind_events behind_first
+  pub later : IsSection 120 sections.later.now sections.outbox.now behind_events
 
 -- the sections have the rows of the state's parts, or those of its old form
 pub record HasSections (s : ClientState) (sections : Sections) : Type 0 where
   pub enrolment : AreParts s.enrolment sections.first.now sections.later.now
   pub events : sections.events.now ≡ count_rows.rows_of s.events
+  pub outbox : sections.outbox.now ≡ change_rows.rows_of s.outbox
 
 -- each part of the state is sound by itself
 pub record AreSoundParts (s : ClientState) : Type 0 where
   pub enrolment : enrolments.IsSound s.enrolment
   pub events : counts.IsSound s.events
+  pub outbox : contents.IsSound s.outbox

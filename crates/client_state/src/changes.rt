@@ -8,6 +8,7 @@ ghost use Rattle.row_batches.specs.Between.{changes_between, between};
 ghost use Rattle.state_values.specs.Values.{participation};
 ghost use Rattle.state_codec.specs.Spelling.{first_rows, later_rows};
 ghost use Rattle.event_counts.specs.Rows as count_rows;
+ghost use Rattle.change_outbox.specs.Rows as change_rows;
 ghost use Rattle.client_state.specs.Changes.{IsChangeOf, IsNextIf, enrolment_after, state_after};
 ghost use Rattle.client_state.specs.Sound.{IsConsistent};
 ghost use Rattle.client_state.specs.Spelling.{rows_of, spelling};
@@ -15,6 +16,7 @@ ghost use Rattle.client_state.specs.Spelling.{rows_of, spelling};
 use crate::client_state::ClientState;
 use crate::rows::{joined, rows_of};
 use crate::state_change::{NextEnrolment, StateChange};
+use change_outbox::Outbox;
 use enrol_states::State;
 use event_counts::Counts;
 use row_batches::{Batch, RowChange};
@@ -71,7 +73,8 @@ fn row_changes(
     let first = first_row_changes(alloc, &old.enrolment, &change.enrolment)?;
     let events = event_changes(alloc, &old.events, &change.events)?;
     let later = later_row_changes(alloc, &old.enrolment, &change.enrolment)?;
-    joined(first, events, later)
+    let outbox = outbox_changes(alloc, &old.outbox, &change.outbox)?;
+    joined(first, events, later, outbox)
 }
 
 // The changes of the enrolment's first rows.
@@ -114,6 +117,20 @@ fn later_row_changes(
 {
     match next {
         Some(next) => later_changes(alloc, old, &next.state, next.recipes),
+        None => Ok(Sequence::new(alloc)),
+    }
+}
+
+// The changes of the outbox's rows.
+fn outbox_changes(
+    alloc: Global,
+    old: &Outbox,
+    next: &Option<Outbox>,
+) -> Result<Sequence<RowChange>, AllocError>
+    ensures { IfOk result (λ changes. changes ≡ changes_between (change_rows.rows_of old.now) (change_rows.rows_of (unwrap_or next.now old.now))) }
+{
+    match next {
+        Some(next) => old.changes_to(alloc, next),
         None => Ok(Sequence::new(alloc)),
     }
 }

@@ -4,18 +4,21 @@ ghost use Rattle.client_state.specs.Changes.{state_after};
 ghost use Rattle.client_state.specs.Parts.{with_empty_parts};
 
 use crate::state_change::StateChange;
+use change_outbox::Outbox;
 use enrol_states::State;
 use event_counts::Counts;
 use sequences::ExactClone;
 use std::alloc::{AllocError, Global};
 
-/// What a client knows of itself, of the recipes and of what it is to each, and what its user did. A clone is the same state, and
-/// shares all that has a length.
+/// What a client knows of itself, of the recipes and of what it is to each, what its user did, and what it has to tell. A clone is
+/// the same state, and shares all that has a length.
 #[derive(Drop)]
 pub struct ClientState {
     pub enrolment: State,
     /// What the user did.
     pub events: Counts,
+    /// The changes of enrolments that the host application hasn't confirmed yet.
+    pub outbox: Outbox,
 }
 
 /// The same state. It takes no memory.
@@ -26,6 +29,7 @@ impl Clone for ClientState {
         Ok(ClientState {
             enrolment: self.enrolment.clone()?,
             events: self.events.clone()?,
+            outbox: self.outbox.clone()?,
         })
     }
 }
@@ -35,13 +39,14 @@ impl ExactClone for ClientState {
 }
 
 impl ClientState {
-    /// The state with this enrolment and empty parts: no event was counted. It takes no memory.
+    /// The state with this enrolment and empty parts: no event was counted, and no enrolment changed. It takes no memory.
     pub fn new(alloc: Global, enrolment: State) -> ClientState
         ensures { result ≡ with_empty_parts enrolment }
     {
         ClientState {
             enrolment,
             events: Counts::new(alloc),
+            outbox: Outbox::new(alloc),
         }
     }
 
@@ -52,6 +57,7 @@ impl ClientState {
         Ok(ClientState {
             enrolment: change.enrolment_or(&self.enrolment).clone()?,
             events: change.events_or(&self.events).clone()?,
+            outbox: change.outbox_or(&self.outbox).clone()?,
         })
     }
 }

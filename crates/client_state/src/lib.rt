@@ -1,9 +1,11 @@
-//! The state of a client with its parts, the enrolment and the counts of events: its rows in a store, its one spelling, what
-//! changes its rows to those of the next state, how many bytes it is spelled in, and the state of rows.
+//! The state of a client with its parts, the enrolment, the counts of events and the outbox of changes of enrolments: its rows in a
+//! store, its one spelling, what changes its rows to those of the next state, what follows a change of the enrolment, how many bytes
+//! it is spelled in, and the state of rows.
 #![tactic(auto)]
 
 mod changes;
 mod client_state;
+mod following;
 mod laws;
 mod old_form;
 mod reading;
@@ -14,6 +16,7 @@ mod state_change;
 
 pub use changes::{changes_to, whole_batch};
 pub use client_state::ClientState;
+pub use following::follow;
 pub use laws::{empty_parts, one_spelling, one_state};
 pub use old_form::{migration, needs_migration};
 pub use reading::client_state_of;

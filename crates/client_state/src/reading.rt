@@ -3,6 +3,9 @@ ghost use Rattle.std.specs.Prelude.{◌≡◌, ◌↔◌, List, IfOk, IsErrOf, I
 ghost use Rattle.event_counts.specs.Rows as count_rows;
 ghost use Rattle.event_counts.specs.Sound as counts;
 ghost use Rattle.event_counts.specs.declared.name_counts.NameCounts.{NameCounts};
+ghost use Rattle.change_outbox.specs.Contents as contents;
+ghost use Rattle.change_outbox.specs.Contents.{Contents};
+ghost use Rattle.change_outbox.specs.Rows as change_rows;
 ghost use Rattle.client_state.specs.declared.client_state.ClientState.{ClientState};
 ghost use Rattle.client_state.specs.Forms.{IsForm};
 ghost use Rattle.client_state.specs.Sections.{AreSoundParts, HasSections};
@@ -11,6 +14,7 @@ ghost use Rattle.client_state.specs.Sound.{IsSound};
 use crate::client_state::ClientState;
 use crate::sections::{Sections, sections_of};
 use crate::sizes::sizes_of;
+use change_outbox::{Outbox, OutboxFault, outbox_of};
 use event_counts::{Counts, CountsFault, counts_of};
 use row_batches::StoreRow;
 use state_codec::{CodecFault, state_of_parts};
@@ -42,6 +46,7 @@ fn state_in(alloc: Global, sections: &Sections) -> Result<ClientState, CodecFaul
     Ok(ClientState {
         enrolment: state_of_parts(alloc, sections.first, sections.later)?,
         events: counts_in(alloc, sections.events)?,
+        outbox: outbox_in(alloc, sections.outbox)?,
     })
 }
 
@@ -63,5 +68,18 @@ fn counts_in(alloc: Global, rows: &[StoreRow]) -> Result<Counts, CodecFault>
         Ok(counts) => Ok(counts),
         Err(CountsFault::NotCounts) => Err(CodecFault::NotAState),
         Err(CountsFault::OutOfMemory) => Err(CodecFault::OutOfMemory),
+    }
+}
+
+// The outbox that has these rows.
+fn outbox_in(alloc: Global, rows: &[StoreRow]) -> Result<Outbox, CodecFault>
+    ensures sound { IfOk result contents.IsSound }
+    ensures rows { IfOk result (λ o. rows.now ≡ change_rows.rows_of o) }
+    ensures not_a_state { IsErrOf result CodecFault.NotAState → (o : Contents) → contents.IsSound o → rows.now ≡ change_rows.rows_of o → ⊥ }
+{
+    match outbox_of(alloc, rows) {
+        Ok(outbox) => Ok(outbox),
+        Err(OutboxFault::NotAnOutbox) => Err(CodecFault::NotAState),
+        Err(OutboxFault::OutOfMemory) => Err(CodecFault::OutOfMemory),
     }
 }

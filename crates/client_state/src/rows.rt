@@ -19,21 +19,25 @@ pub(crate) fn rows_of(alloc: Global, state: &ClientState) -> Result<Sequence<Sto
     let first = first_rows_of(alloc, &state.enrolment)?;
     let events = state.events.rows(alloc)?;
     let later = later_rows_of(alloc, &state.enrolment)?;
-    joined(first, events, later)
+    let outbox = state.outbox.rows(alloc)?;
+    joined(first, events, later, outbox)
 }
 
-/// The items of three sequences, one after the other.
+/// The items of four sequences, one after the other.
 pub(crate) fn joined<T: Drop>(
     first: Sequence<T>,
     second: Sequence<T>,
     third: Sequence<T>,
+    fourth: Sequence<T>,
 ) -> Result<Sequence<T>, AllocError>
-    ensures { IfOk result (λ all. all ≡ first ++ (second ++ third)) }
+    ensures { IfOk result (λ all. all ≡ first ++ (second ++ (third ++ fourth))) }
 {
     let mut all = first.into_vec();
     let mut second = second.into_vec();
     let mut third = third.into_vec();
+    let mut fourth = fourth.into_vec();
     all.append(&mut second)?;
     all.append(&mut third)?;
+    all.append(&mut fourth)?;
     Ok(Sequence::from_vec(all))
 }

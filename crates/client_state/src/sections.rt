@@ -4,15 +4,17 @@ ghost use Rattle.client_state.specs.Sections.{AreSections, IsSection, is_below};
 
 use row_batches::StoreRow;
 
-/// The rows of the enrolment and of the events, in the order of their keys.
+/// The rows of the enrolment, of the events and of the outbox, in the order of their keys.
 #[derive(Clone, Copy, Drop)]
 pub(crate) struct Sections<'a> {
     /// Of the enrolment: those whose keys begin below `e`.
     pub first: &'a [StoreRow],
     /// Those whose keys begin with `e`, where the rows are in the order of their keys.
     pub events: &'a [StoreRow],
-    /// Of the enrolment: all others.
+    /// Of the enrolment: those behind them whose keys begin below `x`.
     pub later: &'a [StoreRow],
+    /// All others.
+    pub outbox: &'a [StoreRow],
 }
 
 /// The sections of the rows. None is copied.
@@ -20,11 +22,13 @@ pub(crate) fn sections_of(rows: &[StoreRow]) -> Sections<'_>
     ensures { AreSections result rows.now }
 {
     let (first, behind) = section(rows, b'e');
-    let (events, later) = section(behind, b'f');
+    let (events, behind) = section(behind, b'f');
+    let (later, outbox) = section(behind, b'x');
     Sections {
         first,
         events,
         later,
+        outbox,
     }
 }
 

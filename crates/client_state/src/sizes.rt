@@ -6,12 +6,15 @@ ghost use Rattle.state_codec.specs.Sound as codec;
 ghost use Rattle.state_codec.specs.Sizes as codec_sizes;
 ghost use Rattle.event_counts.specs.Rows as count_rows;
 ghost use Rattle.event_counts.specs.declared.name_counts.NameCounts.{NameCounts};
+ghost use Rattle.change_outbox.specs.Contents.{Contents};
+ghost use Rattle.change_outbox.specs.Rows as change_rows;
 ghost use Rattle.client_state.specs.Changes.{IsChangeOf, IsNextIf, enrolment_after, state_after};
 ghost use Rattle.client_state.specs.Sizes.{IsSizeOf};
 ghost use Rattle.client_state.specs.Sound.{IsConsistent, IsSound, HaveRecords};
 
 use crate::client_state::ClientState;
 use crate::state_change::{NextEnrolment, StateChange};
+use change_outbox::Outbox;
 use enrol_states::State;
 use event_counts::Counts;
 use state_codec::StateSizes;
@@ -25,6 +28,8 @@ pub struct ClientSizes {
     pub enrolment: StateSizes,
     /// Of the rows of counts.
     pub events: u128,
+    /// Of the rows of the outbox.
+    pub outbox: u128,
 }
 
 /// The sizes of the state. They are counted without a text, and take no memory.
@@ -34,7 +39,9 @@ pub fn sizes_of(state: &ClientState) -> ClientSizes
     ensures records { HaveRecords state.now.enrolment }
 {
     let enrolment = state_codec::sizes_of(&state.enrolment);
-    sizes_with(enrolment, state.events.size())
+    let events = state.events.size();
+    let outbox = state.outbox.size();
+    sizes_with(enrolment, events, outbox)
 }
 
 /// The sizes of the state after a change, by those of the state before. Parts that the change doesn't have aren't looked at, and of
@@ -48,19 +55,22 @@ pub fn sizes_after(before: ClientSizes, old: &ClientState, change: &StateChange)
 {
     let enrolment = enrolment_after(before.enrolment, &old.enrolment, &change.enrolment);
     let events = events_after(before.events, &change.events);
-    sizes_with(enrolment, events)
+    let outbox = outbox_after(before.outbox, &change.outbox);
+    sizes_with(enrolment, events, outbox)
 }
 
 // The sizes of a state by those of its parts.
-fn sizes_with(enrolment: StateSizes, events: u128) -> ClientSizes
+fn sizes_with(enrolment: StateSizes, events: u128, outbox: u128) -> ClientSizes
     requires enrolment { enrolment.total ≤ 2 ^ 100 }
     requires events { events ≤ 2 ^ 100 }
-    ensures { result ≡ record { total = enrolment.total + events; enrolment = enrolment; events = events } }
+    requires outbox { outbox ≤ 2 ^ 100 }
+    ensures { result ≡ record { total = enrolment.total + events + outbox; enrolment = enrolment; events = events; outbox = outbox } }
 {
     ClientSizes {
-        total: enrolment.total + events,
+        total: enrolment.total + events + outbox,
         enrolment,
         events,
+        outbox,
     }
 }
 
@@ -83,6 +93,18 @@ fn enrolment_after(before: StateSizes, old: &State, next: &Option<NextEnrolment>
 fn events_after(before: u128, next: &Option<Counts>) -> u128
     requires { before ≤ 2 ^ 100 }
     ensures size { (old : List NameCounts) → before ≡ length (puts_text (count_rows.rows_of old)) → result ≡ length (puts_text (count_rows.rows_of (unwrap_or next.now old))) }
+    ensures bound { result ≤ 2 ^ 100 }
+{
+    match next {
+        Some(next) => next.size(),
+        None => before,
+    }
+}
+
+// The size of the next outbox's rows, or that of before.
+fn outbox_after(before: u128, next: &Option<Outbox>) -> u128
+    requires { before ≤ 2 ^ 100 }
+    ensures size { (old : Contents) → before ≡ length (puts_text (change_rows.rows_of old)) → result ≡ length (puts_text (change_rows.rows_of (unwrap_or next.now old))) }
     ensures bound { result ≤ 2 ^ 100 }
 {
     match next {

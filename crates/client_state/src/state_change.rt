@@ -1,8 +1,9 @@
 // What a command makes of a client's state.
 ghost use Rattle.std.specs.Prelude.{◌≡◌};
 ghost use Rattle.std.specs.Option.{unwrap_or};
-ghost use Rattle.client_state.specs.Changes.{enrolment_after, of_both, of_enrolment, of_events};
+ghost use Rattle.client_state.specs.Changes.{enrolment_after, of_both, of_enrolment, of_events, of_outbox, with_outbox};
 
+use change_outbox::Outbox;
 use enrol_states::State;
 use event_counts::Counts;
 use state_codec::RecipeLists;
@@ -12,6 +13,7 @@ use state_codec::RecipeLists;
 pub struct StateChange {
     pub enrolment: Option<NextEnrolment>,
     pub events: Option<Counts>,
+    pub outbox: Option<Outbox>,
 }
 
 /// The next enrolment, and which of its lists of recipes are those of before.
@@ -29,6 +31,7 @@ impl StateChange {
         StateChange {
             enrolment: Some(NextEnrolment { state, recipes }),
             events: None,
+            outbox: None,
         }
     }
 
@@ -39,6 +42,7 @@ impl StateChange {
         StateChange {
             enrolment: None,
             events: Some(events),
+            outbox: None,
         }
     }
 
@@ -49,6 +53,28 @@ impl StateChange {
         StateChange {
             enrolment: Some(NextEnrolment { state, recipes }),
             events: Some(events),
+            outbox: None,
+        }
+    }
+
+    /// A change to this outbox. It takes no memory.
+    pub fn of_outbox(outbox: Outbox) -> StateChange
+        ensures { result ≡ of_outbox outbox }
+    {
+        StateChange {
+            enrolment: None,
+            events: None,
+            outbox: Some(outbox),
+        }
+    }
+
+    /// The change with this outbox, where there is one.
+    pub(crate) fn with_outbox(self, outbox: Option<Outbox>) -> StateChange
+        ensures { result ≡ with_outbox outbox self }
+    {
+        match outbox {
+            Some(_) => StateChange { outbox, ..self },
+            None => self,
         }
     }
 
@@ -68,6 +94,16 @@ impl StateChange {
     {
         match &self.events {
             Some(events) => events,
+            None => before,
+        }
+    }
+
+    /// The next outbox, or that of before.
+    pub(crate) fn outbox_or<'a>(&'a self, before: &'a Outbox) -> &'a Outbox
+        ensures { result.now ≡ unwrap_or self.now.outbox before.now }
+    {
+        match &self.outbox {
+            Some(outbox) => outbox,
             None => before,
         }
     }

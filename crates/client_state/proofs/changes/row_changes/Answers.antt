@@ -16,6 +16,7 @@ returns c =
     let first = c.in_ok-first.first in
     let events = c.in_ok-events.events in
     let later = c.in_ok-later.later in
-    if_ok_weaker (λ (all : List RowChange). all ≡ first ++ (events ++ later)) (λ (all : List RowChange). all ≡ changes_between (rows_of s) (rows_of t)) c.joined.result
-    (λ all is. is ∙ all_joined (participation s.enrolment) (participation t.enrolment) s t first events later c.in_ok-first.ensures c.in_ok-events.ensures c.in_ok-later.ensures)
+    let outbox = c.in_ok-outbox.outbox in
+    if_ok_weaker (λ (all : List RowChange). all ≡ first ++ (events ++ (later ++ outbox))) (λ (all : List RowChange). all ≡ changes_between (rows_of s) (rows_of t)) c.joined.result
+    (λ all is. is ∙ all_joined (participation s.enrolment) (participation t.enrolment) s t first events later outbox c.in_ok-first.ensures c.in_ok-events.ensures c.in_ok-later.ensures c.in_ok-outbox.ensures)
     c.joined.ensures

@@ -29,5 +29,5 @@ returns-else-fits-clause-not_a_state c none s sound form =
     let t = c.in_ok-state.state in
     let parts = form_sections s c.args.rows.now sections c.sections_of.ensures form in
     let read = c.in_ok-state.ensures.sections in
-    let same : s ≡ t = one_of_parts sections.first.now sections.events.now sections.later.now s t (sound_parts s sound) c.in_ok-state.ensures.sound parts.enrolment read.enrolment parts.events read.events in
+    let same : s ≡ t = one_of_parts sections.first.now sections.events.now sections.later.now sections.outbox.now s t (sound_parts s sound) c.in_ok-state.ensures.sound parts.enrolment read.enrolment parts.events read.events parts.outbox read.outbox in
     apart c.fits.result (c.fits.ensures.1 (subst IsSound same sound)) c.if-fits.false

@@ -15,8 +15,10 @@ returns-clause-rows c =
     let first = c.in_ok-first.first in
     let events = c.in_ok-events.events in
     let later = c.in_ok-later.later in
-    if_ok_weaker (λ (all : List StoreRow). all ≡ first ++ (events ++ later)) (λ (all : List StoreRow). all ≡ rows_of s) c.joined.result
-    (λ all is. is ∙ all_of (participation s.enrolment) s first events later (record { first_are = c.in_ok-first.ensures; events_are = c.in_ok-events.ensures.rows; later_are = c.in_ok-later.ensures }))
+    let outbox = c.in_ok-outbox.outbox in
+    if_ok_weaker (λ (all : List StoreRow). all ≡ first ++ (events ++ (later ++ outbox))) (λ (all : List StoreRow). all ≡ rows_of s) c.joined.result
+    (λ all is. is ∙ all_of (participation s.enrolment) s first events later outbox
+    (record { first_are = c.in_ok-first.ensures; events_are = c.in_ok-events.ensures.rows; later_are = c.in_ok-later.ensures; outbox_are = c.in_ok-outbox.ensures.rows }))
     c.joined.ensures
 
 pub returns-clause-order : goal.returns-clause-order
