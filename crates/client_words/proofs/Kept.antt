@@ -9,10 +9,10 @@ use Rattle.uuid.specs.Text.{parsed}
 use Rattle.enrol_states.specs.Consistent.{IsId}
 use Rattle.enrol_states.specs.Statuses.{IsSlug}
 use Rattle.client_words.specs.declared.command.Command.{Command}
-use Rattle.client_words.specs.declared.command.Command.TheVariants.{Apply, Show, WriteManifest}
+use Rattle.client_words.specs.declared.command.Command.TheVariants.{Apply, Show, WriteManifest, Changes}
 use Rattle.client_words.specs.declared.line.LineFault.{LineFault}
 use Rattle.client_words.specs.declared.line.LineFault.TheVariants.{BadWords}
-use Rattle.client_words.specs.Commands.{IsCommand, words_of, ◌>>=◌, yes_or_no_in, part_in, text_in, unless_bad, slug_in, id_read, id_in, manifest_file, context_file, fetching, alone, participation, opting_out, opting_in, resetting, feature_name, name_in, is_count, count_in, event_count, command_named, command_of_words, command_of}
+use Rattle.client_words.specs.Commands.{IsCommand, words_of, ◌>>=◌, yes_or_no_in, part_in, text_in, unless_bad, slug_in, id_read, id_in, manifest_file, context_file, fetching, alone, participation, opting_out, opting_in, resetting, feature_name, name_in, is_count, count_in, event_count, number_in, confirming, command_named, command_of_words, command_of}
 use Rattle.client_words.proofs.Ids.{IsIdIn, id_in_text}
 
 abbrev Kept : Result Command LineFault → Type 0
@@ -130,6 +130,11 @@ event-kept (word ∷ next ∷ []) =
     bound IsCounted (count_in next) _ (is_counted next) (λ count counted. record { name = named; least = counted.0; most = counted.1 }))
 event-kept (word ∷ next ∷ more ∷ rest) = tt
 
+confirm-kept : (words : List (List ℕ)) → Kept (confirming words)
+confirm-kept [] = tt
+confirm-kept (word ∷ []) = free (number_in word) _ (λ number. tt)
+confirm-kept (word ∷ next ∷ more) = tt
+
 named-kept : (name : List ℕ) (words : List (List ℕ)) → Kept (command_named name words)
 named-kept name words =
     either (bytes_eq name (codes "manifest")) _ _ (manifest-kept words)
@@ -143,7 +148,9 @@ named-kept name words =
     (either (bytes_eq name (codes "show")) _ _ (alone-kept Show words tt)
     (either (bytes_eq name (codes "feature")) _ _ (feature-kept words)
     (either (bytes_eq name (codes "write-manifest")) _ _ (alone-kept WriteManifest words tt)
-    (either (bytes_eq name (codes "event")) _ _ (event-kept words) tt)))))))))))
+    (either (bytes_eq name (codes "event")) _ _ (event-kept words)
+    (either (bytes_eq name (codes "changes")) _ _ (alone-kept Changes words tt)
+    (either (bytes_eq name (codes "confirm")) _ _ (confirm-kept words) tt)))))))))))))
 
 words-kept : (words : List (List ℕ)) → Kept (command_of_words words)
 words-kept [] = tt

@@ -5,6 +5,9 @@ use Rattle.json_tree.specs.Json.{text}
 use Rattle.json_tree.specs.Bytes.{text_of}
 use Rattle.json_tree.specs.Tree.{json_of}
 use Rattle.app_context.specs.Keys.{name_of}
+use Rattle.change_outbox.specs.declared.change.Change.{Change}
+use Rattle.change_outbox.specs.declared.change.ChangeKind.{ChangeKind}
+use Rattle.change_outbox.specs.declared.change.ChangeKind.TheVariants as change
 use Rattle.recipe_reader.specs.declared.recipe.SkipReason.{SkipReason}
 use Rattle.recipe_reader.specs.declared.recipe.SkipReason.TheVariants as skip
 use Rattle.enrol_states.specs.declared.state.Row.{Row}
@@ -19,7 +22,7 @@ use Rattle.enrol_states.specs.declared.status.DisqualifiedReason.TheVariants as 
 use Rattle.enrol_states.specs.declared.status.ErrorCause.{ErrorCause}
 use Rattle.enrol_states.specs.declared.status.ErrorCause.TheVariants as error
 use Rattle.client_words.specs.declared.answer.Answer.{Answer}
-use Rattle.client_words.specs.declared.answer.Answer.TheVariants.{Okay, Fetched, Applied, Value, Shown, Manifest, NoManifest, NoContext, AbsentFile, FileTooLarge, NotJson, BadContext, NoData, TooManyRecipes, BadShape, TooManyFiles, ImportClash, DuplicateName, UnknownType, EndlessObject, ObjectTooLarge, UnknownChannel, UnknownImport, UnknownOverride, BadDefault, UnknownFeature, OptedOutLimit, NotParticipating, NoSuchExperiment, NoSuchBranch, FeatureTaken, EventLimit, StateTooLarge}
+use Rattle.client_words.specs.declared.answer.Answer.TheVariants.{Okay, Fetched, Applied, Value, Shown, Manifest, Changes, NoManifest, NoContext, AbsentFile, FileTooLarge, NotJson, BadContext, NoData, TooManyRecipes, BadShape, TooManyFiles, ImportClash, DuplicateName, UnknownType, EndlessObject, ObjectTooLarge, UnknownChannel, UnknownImport, UnknownOverride, BadDefault, UnknownFeature, OptedOutLimit, NotParticipating, NoSuchExperiment, NoSuchBranch, FeatureTaken, EventLimit, NoSuchChange, ChangesSpent, StateTooLarge}
 use Rattle.client_words.specs.declared.line.LineFault.{LineFault}
 use Rattle.client_words.specs.declared.line.LineFault.TheVariants.{LineTooLong, Blank, UnknownCommand, BadWords, BadSlug, BadId, OutOfMemory}
 
@@ -92,6 +95,14 @@ status_words (status.Error cause) = codes "Error " ++ cause_name cause
 abbrev pub row_line : Row → List ℕ
 row_line row = row.slug ++ codes " " ++ status_words row.status ++ 10 ∷ []
 
+abbrev pub kind_word : ChangeKind → List ℕ
+kind_word change.Join = codes "join"
+kind_word change.Leave = codes "leave"
+
+-- a change of an enrolment, with its number
+unfoldable pub change_line : Change → List ℕ
+change_line c = (codes "change " ++ decimal c.number) ++ (codes " " ++ kind_word c.kind) ++ (codes " " ++ c.slug) ++ (codes " " ++ c.branch) ++ 10 ∷ []
+
 -- the kinds of recipes that the client takes part in: `yes` for both, `no` for none
 abbrev pub participating_in : Bool → Bool → List ℕ
 participating_in true true = codes "yes"
@@ -108,6 +119,10 @@ shown_lines id experiments rollouts pending opted_out rows =
 unfoldable pub fetched_lines : ℕ → List (ℕ × SkipReason) → List ℕ
 fetched_lines kept skipped = codes "fetched " ++ decimal kept ++ codes " skipped " ++ decimal (length skipped) ++ codes "\n" ++ lines_for skipped_line skipped
 
+-- what `changes` says
+unfoldable pub changes_lines : List Change → List ℕ
+changes_lines changes = lines_for change_line changes ++ codes "end\n"
+
 -- the answer to a command
 unfoldable pub answer_lines : Answer → List ℕ
 answer_lines Okay = codes "ok\n"
@@ -115,6 +130,7 @@ answer_lines (Fetched kept skipped) = fetched_lines kept skipped
 answer_lines (Applied enrolled rows) = codes "applied " ++ decimal enrolled ++ codes " of " ++ decimal rows ++ 10 ∷ []
 answer_lines (Value tree) = codes "value " ++ text_of (json_of tree) ++ 10 ∷ []
 answer_lines (Manifest tree) = codes "manifest " ++ text_of (json_of tree) ++ 10 ∷ []
+answer_lines (Changes changes) = changes_lines changes
 answer_lines (Shown id experiments rollouts pending opted_out rows) = shown_lines id experiments rollouts pending opted_out rows
 answer_lines NoManifest = codes "refused NoManifest\n"
 answer_lines NoContext = codes "refused NoContext\n"
@@ -142,6 +158,8 @@ answer_lines NoSuchExperiment = codes "refused NoSuchExperiment\n"
 answer_lines NoSuchBranch = codes "refused NoSuchBranch\n"
 answer_lines (FeatureTaken holder feature) = codes "refused FeatureTaken " ++ holder ++ codes " " ++ feature ++ 10 ∷ []
 answer_lines EventLimit = codes "refused EventLimit\n"
+answer_lines (NoSuchChange next) = codes "refused NoSuchChange " ++ decimal next ++ 10 ∷ []
+answer_lines ChangesSpent = codes "refused ChangesSpent\n"
 answer_lines (StateTooLarge size) = codes "refused StateTooLarge " ++ decimal size ++ 10 ∷ []
 
 -- the answer to a line that has no command. A blank line has none, and want of memory ends the run without one

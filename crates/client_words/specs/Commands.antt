@@ -10,7 +10,7 @@ use Rattle.enrol_states.specs.declared.participation.Part.TheVariants.{Both, Exp
 use Rattle.enrol_states.specs.Consistent.{IsId}
 use Rattle.enrol_states.specs.Statuses.{IsSlug}
 use Rattle.client_words.specs.declared.command.Command.{Command}
-use Rattle.client_words.specs.declared.command.Command.TheVariants.{Manifest, Context, Fetch, Apply, Participate, OptOut, OptIn, Reset, Show, Feature, WriteManifest, Event}
+use Rattle.client_words.specs.declared.command.Command.TheVariants.{Manifest, Context, Fetch, Apply, Participate, OptOut, OptIn, Reset, Show, Feature, WriteManifest, Event, Changes, Confirm}
 use Rattle.client_words.specs.declared.line.LineFault.{LineFault}
 use Rattle.client_words.specs.declared.line.LineFault.TheVariants.{LineTooLong, Blank, UnknownCommand, BadWords, BadSlug, BadId}
 
@@ -139,6 +139,20 @@ event_count (word ∷ []) = Err BadWords
 event_count (word ∷ next ∷ []) = name_in word >>= λ name. count_in next >>= λ count. Ok (Event name count)
 event_count (word ∷ next ∷ more ∷ rest) = Err BadWords
 
+-- the word is this number in decimal, and the number is below 2 to the 64
+abbrev pub is_number : ℕ → List ℕ → Bool
+is_number n word = nat_lt n 18446744073709551616 && bytes_eq word (decimal n)
+
+-- a number below 2 to the 64 in decimal
+unfoldable pub number_in : List ℕ → Result ℕ LineFault
+number_in word = if is_number (digits_value 10 word) word then Ok (digits_value 10 word) else Err BadWords
+
+-- the words behind `confirm`
+abbrev pub confirming : List (List ℕ) → Result Command LineFault
+confirming [] = Err BadWords
+confirming (word ∷ []) = number_in word >>= λ number. Ok (Confirm number)
+confirming (word ∷ next ∷ more) = Err BadWords
+
 -- the command of this name, with the words behind it
 abbrev pub command_named : List ℕ → List (List ℕ) → Result Command LineFault
 command_named name arguments =
@@ -154,6 +168,8 @@ command_named name arguments =
     else if bytes_eq name (codes "feature") then feature_name arguments
     else if bytes_eq name (codes "write-manifest") then alone WriteManifest arguments
     else if bytes_eq name (codes "event") then event_count arguments
+    else if bytes_eq name (codes "changes") then alone Changes arguments
+    else if bytes_eq name (codes "confirm") then confirming arguments
     else Err UnknownCommand
 
 -- the command of these words

@@ -1,5 +1,6 @@
 // What a command is answered.
 use app_context::ContextKey;
+use change_outbox::Change;
 use enrol_states::Row;
 use json_tree::Tree;
 use plain_text::Slug;
@@ -39,6 +40,8 @@ pub enum Answer {
     },
     /// The tree of the manifest as a single file.
     Manifest(Tree),
+    /// The changes of enrolments that aren't confirmed, in order by number.
+    Changes(Sequence<Change>),
     /// No manifest was set in this run.
     NoManifest,
     /// No context was read in this run.
@@ -95,6 +98,10 @@ pub enum Answer {
     FeatureTaken(Slug, Text),
     /// The name has no counts, and 64 names have.
     EventLimit,
+    /// No change has the number yet: this is the next one.
+    NoSuchChange(u64),
+    /// The numbers of changes are spent: the next one would pass 9,223,372,036,854,775,807.
+    ChangesSpent,
     /// The spelling of the new state would have so many bytes, which is more than 16,777,216.
     StateTooLarge(u128),
 }

@@ -1,6 +1,6 @@
 // The words behind the name of a command.
 ghost use Rattle.std.specs.Prelude.{◌≡◌, ◌⊎◌, List, ℕ, Err, All, map, length};
-ghost use Rattle.client_words.specs.Commands.{yes_or_no_in, part_in, text_in, name_in, count_in, slug_in, id_in, manifest_file, context_file, fetching, feature_name, participation, opting_out, opting_in, resetting, event_count, bytes_at, IsWithin};
+ghost use Rattle.client_words.specs.Commands.{yes_or_no_in, part_in, text_in, name_in, count_in, number_in, slug_in, id_in, manifest_file, context_file, fetching, feature_name, participation, opting_out, opting_in, resetting, event_count, confirming, bytes_at, IsWithin};
 ghost use Rattle.client_words.specs.Commands as spec;
 
 use crate::command::Command;
@@ -175,6 +175,18 @@ pub(crate) fn event_count(
     Ok(Command::Event { name, count })
 }
 
+/// The words behind `confirm`: the one number.
+pub(crate) fn confirming(line: &[u8], arguments: &[(usize, usize)]) -> Result<Command, LineFault>
+    requires { All (IsWithin (length line.now)) arguments.now }
+    ensures { result ≡ confirming (map (bytes_at line.now) arguments.now) }
+{
+    let [word] = arguments else {
+        return Err(LineFault::BadWords);
+    };
+    let number = number_in(bytes_at(line, *word))?;
+    Ok(Command::Confirm { number })
+}
+
 // ---- words
 
 /// Whether the word is `yes`, where it is that or `no`.
@@ -231,6 +243,17 @@ fn count_in(word: &[u8]) -> Result<u32, LineFault>
     match read_number(word) {
         Some(count) if 1 <= count && count <= COUNT_LIMIT => Ok(count as u32),
         _ => Err(LineFault::BadWords),
+    }
+}
+
+/// The number below 2 to the 64 that the word is in decimal, with no sign and no leading zero.
+#[tactic(auto, unfolding(crate::specs::Commands::number_in))]
+fn number_in(word: &[u8]) -> Result<u64, LineFault>
+    ensures { result ≡ number_in word.now }
+{
+    match read_number(word) {
+        Some(number) => Ok(number),
+        None => Err(LineFault::BadWords),
     }
 }
 

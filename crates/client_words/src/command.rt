@@ -30,4 +30,8 @@ pub enum Command {
     WriteManifest,
     /// The user did what this name stands for, so many times: 1 to 1,000,000.
     Event { name: Text, count: u32 },
+    /// The changes of enrolments that aren't confirmed, as an answer.
+    Changes,
+    /// The host application knows the changes up to this number.
+    Confirm { number: u64 },
 }

@@ -4,8 +4,8 @@ ghost use Rattle.plain_text.specs.Spans.{words};
 ghost use Rattle.client_words.specs.Commands.{command_of, command_of_words, words_of, bytes_at, IsCommand, IsWithin};
 
 use crate::arguments::{
-    alone, context_file, event_count, feature_name, fetching, manifest_file, opting_in, opting_out,
-    participation, resetting,
+    alone, confirming, context_file, event_count, feature_name, fetching, manifest_file, opting_in,
+    opting_out, participation, resetting,
 };
 use crate::command::Command;
 use plain_text::words;
@@ -24,8 +24,9 @@ pub enum LineFault {
     /// The first word is no command.
     UnknownCommand,
     /// The words behind the first are not those of the command: there are more or fewer, those behind `participate` are
-    /// others, the name of a file, a channel or a feature isn't in UTF-8, or those behind `event` aren't a name of 1 to 80
-    /// ASCII letters, digits, `-`, `_` and `.`, and a number from 1 to 1,000,000.
+    /// others, the name of a file, a channel or a feature isn't in UTF-8, those behind `event` aren't a name of 1 to 80
+    /// ASCII letters, digits, `-`, `_` and `.`, and a number from 1 to 1,000,000, or that behind `confirm` isn't a number
+    /// below 2 to the 64.
     BadWords,
     /// A word that stands for a slug fails to be one at this place: the first such word.
     BadSlug(usize),
@@ -105,6 +106,10 @@ fn named(
         alone(Command::WriteManifest, arguments)
     } else if name == b"event".as_slice() {
         event_count(alloc, line, arguments)
+    } else if name == b"changes".as_slice() {
+        alone(Command::Changes, arguments)
+    } else if name == b"confirm".as_slice() {
+        confirming(line, arguments)
     } else {
         Err(LineFault::UnknownCommand)
     }

@@ -1,8 +1,9 @@
-// Lines of lists: the skipped records, the slugs that are opted out, and the rows.
+// Lines of lists: the skipped records, the slugs that are opted out, the rows, and the changes of enrolments.
 ghost use Rattle.std.specs.Prelude.{◌≡◌, ◌++◌, OnOk, string_bytes};
-ghost use Rattle.client_words.specs.Answers.{lines_for, skipped_line, out_line, status_words, row_line};
+ghost use Rattle.client_words.specs.Answers.{lines_for, skipped_line, out_line, status_words, row_line, change_line};
 ghost use Rattle.client_words.specs.Answers as spec;
 
+use change_outbox::{Change, ChangeKind};
 use enrol_states::{
     DisqualifiedReason, EnrolledReason, ErrorCause, NotEnrolledReason, Row, Status,
 };
@@ -71,6 +72,36 @@ fn push_row_line(text: &mut String, row: &Row) -> Result<(), AllocError>
     text.push_str(" ")?;
     push_status(text, &row.status)?;
     text.push_str("\n")
+}
+
+/// A line for each change.
+pub(crate) fn push_change_lines(text: &mut String, changes: &[Change]) -> Result<(), AllocError>
+    ensures { OnOk result (string_bytes text.new ≡ string_bytes text.old ++ lines_for change_line changes.now) }
+{
+    for change in changes {
+        push_change_line(text, change)?;
+    }
+    Ok(())
+}
+
+#[tactic(auto, unfolding(crate::specs::Answers::change_line))]
+fn push_change_line(text: &mut String, change: &Change) -> Result<(), AllocError>
+    ensures { OnOk result (string_bytes text.new ≡ string_bytes text.old ++ change_line change.now) }
+{
+    push_words(text, "change ", Buffer::new().format(change.number))?;
+    push_words(text, " ", kind_word(change.kind))?;
+    push_words(text, " ", change.slug.text())?;
+    push_words(text, " ", change.branch.text())?;
+    text.push_str("\n")
+}
+
+fn kind_word(kind: ChangeKind) -> &'static str
+    ensures { result.now ≡ spec.kind_word kind }
+{
+    match kind {
+        ChangeKind::Join => "join",
+        ChangeKind::Leave => "leave",
+    }
 }
 
 fn push_status(text: &mut String, status: &Status) -> Result<(), AllocError>

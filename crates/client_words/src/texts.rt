@@ -2,7 +2,7 @@
 ghost use Rattle.std.specs.Prelude.{◌≡◌, ◌≢◌, [], ◌∷◌, ◌++◌, IfOk};
 ghost use Rattle.json_tree.specs.Bytes.{text_of};
 ghost use Rattle.json_tree.specs.Tree.{json_of};
-ghost use Rattle.client_words.specs.Answers.{participating_in, yes_or_no, shown_lines, fetched_lines, answer_lines, fault_answer};
+ghost use Rattle.client_words.specs.Answers.{participating_in, yes_or_no, shown_lines, fetched_lines, changes_lines, answer_lines, fault_answer};
 ghost use Rattle.client_words.specs.Answers as spec;
 
 use crate::answer::Answer;
@@ -10,7 +10,8 @@ use crate::line::LineFault;
 use crate::refusals::{
     counted, default_text, file_length_text, named, quoted_name, shape_text, taken_text,
 };
-use crate::rows::{push_out_lines, push_row_lines, push_skipped_lines};
+use crate::rows::{push_change_lines, push_out_lines, push_row_lines, push_skipped_lines};
+use change_outbox::Change;
 use enrol_states::Row;
 use itoa::Buffer;
 use json_tree::{Tree, write};
@@ -31,6 +32,7 @@ pub fn answer_text(alloc: Global, answer: &Answer) -> Result<Text, AllocError>
         Answer::Applied { enrolled, rows } => applied_text(alloc, *enrolled, *rows),
         Answer::Value(tree) => tree_text(alloc, "value ", tree),
         Answer::Manifest(tree) => tree_text(alloc, "manifest ", tree),
+        Answer::Changes(changes) => changes_text(alloc, changes),
         Answer::Shown {
             id,
             experiments,
@@ -79,6 +81,8 @@ pub fn answer_text(alloc: Global, answer: &Answer) -> Result<Text, AllocError>
         Answer::NoSuchBranch => Text::new(alloc, "refused NoSuchBranch\n"),
         Answer::FeatureTaken(holder, feature) => taken_text(alloc, holder, feature),
         Answer::EventLimit => Text::new(alloc, "refused EventLimit\n"),
+        Answer::NoSuchChange(next) => counted(alloc, "refused NoSuchChange ", u128::from(*next)),
+        Answer::ChangesSpent => Text::new(alloc, "refused ChangesSpent\n"),
         Answer::StateTooLarge(size) => counted(alloc, "refused StateTooLarge ", *size),
     }
 }
@@ -146,6 +150,17 @@ fn tree_text(alloc: Global, front: &str, tree: &Tree) -> Result<Text, AllocError
     let mut text = String::from_str(alloc, front)?;
     text.push_str(write(alloc, tree)?.as_str())?;
     text.push_str("\n")?;
+    Ok(Text::from_string(text))
+}
+
+/// What `changes` says.
+#[tactic(auto, unfolding(crate::specs::Answers::changes_lines))]
+fn changes_text(alloc: Global, changes: &Sequence<Change>) -> Result<Text, AllocError>
+    ensures { IfOk result (λ text. text ≡ changes_lines changes.now) }
+{
+    let mut text = String::from_str(alloc, "")?;
+    push_change_lines(&mut text, changes.as_slice())?;
+    text.push_str("end\n")?;
     Ok(Text::from_string(text))
 }
 
