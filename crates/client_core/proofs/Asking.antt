@@ -3,7 +3,7 @@ use Rattle.std.proofs.Common.{◌≡◌, List, ℕ, false, [], ◌∷◌, refl, 
 use Rattle.host_model.specs.declared.shelf.Shelf.{Ghosts}
 use Rattle.fml_link.specs.Asked.{IsAskedFrom}
 use Rattle.client_words.specs.declared.command.Command.{Command}
-use Rattle.client_words.specs.declared.command.Command.TheVariants.{Apply, Participate, OptOut, OptIn, Reset, Show, Feature, Fetch, Event, WriteManifest}
+use Rattle.client_words.specs.declared.command.Command.TheVariants.{Apply, Participate, OptOut, OptIn, Reset, Show, Feature, Fetch, Event, Confirm, WriteManifest}
 use Rattle.client_words.specs.declared.command.Command.TheVariants as commands
 use Rattle.client_core.specs.Commands.{names_file, HasAsked}
 
@@ -30,4 +30,6 @@ none_asked f shelf (Reset id) is = record { names = []; files = refl; reached = 
 none_asked f shelf Show is = record { names = []; files = refl; reached = refl }
 none_asked f shelf (Feature name) is = record { names = []; files = refl; reached = refl }
 none_asked f shelf (Event name count) is = record { names = []; files = refl; reached = refl }
+none_asked f shelf commands.Changes is = record { names = []; files = refl; reached = refl }
+none_asked f shelf (Confirm number) is = record { names = []; files = refl; reached = refl }
 none_asked f shelf WriteManifest is = record { names = []; files = refl; reached = refl }

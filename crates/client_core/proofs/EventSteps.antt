@@ -1,10 +1,11 @@
 -- A step counts an event that is done, forgets the counts at a reset that is done, and else leaves them.
 use Rattle.std.proofs.Common.{◌≡◌, ℕ, Bool, true, false, List, [], length, Option, Some, None, Result, Ok, Err, refl, sym}
-use Rattle.std.specs.Prelude.{nat_lt, if◌then◌else◌}
+use Rattle.std.specs.Prelude.{nat_lt, nat_le, if◌then◌else◌}
 use Rattle.json_tree.specs.Json.{Json}
 use Rattle.app_context.specs.Contexts.{context_of}
 use Rattle.app_context.specs.declared.context.Context.{Context}
 use Rattle.app_context.specs.declared.key.ContextKey.{ContextKey}
+use Rattle.change_outbox.specs.Contents.{confirmed}
 use Rattle.enrol_states.specs.Commands.{after_reset}
 use Rattle.event_counts.specs.Kept.{counted_in}
 use Rattle.fml_types.specs.declared.manifest.Manifest.{Manifest}
@@ -14,16 +15,17 @@ use Rattle.client_state.specs.Sound.{max_size}
 use Rattle.client_state.specs.Spelling.{spelling}
 use Rattle.client_state.specs.declared.client_state.ClientState.{ClientState}
 use Rattle.client_words.specs.declared.answer.Answer.{Answer}
-use Rattle.client_words.specs.declared.answer.Answer.TheVariants.{Okay, EventLimit, StateTooLarge}
+use Rattle.client_words.specs.declared.answer.Answer.TheVariants.{Okay, EventLimit, NoSuchChange, StateTooLarge}
 use Rattle.client_words.specs.declared.command.Command.{Command}
-use Rattle.client_words.specs.declared.command.Command.TheVariants.{Fetch, Apply, Participate, OptOut, OptIn, Reset, Show, Feature, Event, WriteManifest}
+use Rattle.client_words.specs.declared.command.Command.TheVariants.{Fetch, Apply, Participate, OptOut, OptIn, Reset, Show, Feature, Event, Confirm, WriteManifest}
 use Rattle.client_words.specs.declared.command.Command.TheVariants as commands
 use Rattle.client_core.specs.declared.session.Session.{Session}
 use Rattle.client_core.specs.EventSteps.{is_okay, counts_after, EventsFollow}
 use Rattle.client_core.specs.Fetching.{file_tree}
 use Rattle.client_core.specs.Manifests.{manifest_of}
 use Rattle.client_core.specs.Settings.{Setting}
-use Rattle.client_core.specs.Steps.{EnrolmentOutcome, Outcome, Accepted, Refused, Step, enrolling, seeing, has_no_room_for, opting_out, opting_in, participation, fetching, context_read, reading_context, setting_manifest, applying, valued, serving, showing, writing_manifest, done, step}
+use Rattle.client_core.specs.Steps.{EnrolmentOutcome, Outcome, Accepted, Refused, Step, with_enrolment, whole, enrolling, resetting, seeing, has_no_room_for, opting_out, opting_in, participation, fetching, context_read, reading_context, setting_manifest, applying, valued, serving, showing, listing_changes, confirming, writing_manifest, done, step}
+use Rattle.client_core.proofs.Stepping.{whole_either}
 
 either_step : (P : Step → Type 0) (b : Bool) (x y : Step) → P x → P y → P (if b then x else y)
 either_step P true x y here there = here
@@ -41,7 +43,7 @@ module _ (at : Setting) (s : ClientState) (session : Session) where
   done-keeps (Refused answer) keeps = refl
 
   enrolment-keeps : (asked : EnrolmentOutcome) → Keeps (enrolling s asked)
-  enrolment-keeps (Accepted e next answer) = refl
+  enrolment-keeps (Accepted e next answer) = whole_either Keeps s s.events e next answer tt (λ fits. refl)
   enrolment-keeps (Refused answer) = tt
 
   context-keeps : (read : Result Context ContextKey) → Keeps (context_read s session read)
@@ -68,6 +70,10 @@ module _ (at : Setting) (s : ClientState) (session : Session) where
   written-keeps None = tt
   written-keeps (Some manifest) = refl
 
+  confirm-keeps : (number : ℕ) (unknown : Bool) → Keeps (if unknown then Refused (NoSuchChange s.outbox.next) else Accepted (record s { outbox = confirmed number s.outbox }) session Okay)
+  confirm-keeps number true = tt
+  confirm-keeps number false = refl
+
   -- ---- they change
 
   -- what a command that changes them leaves, where it isn't refused
@@ -84,6 +90,12 @@ module _ (at : Setting) (s : ClientState) (session : Session) where
       let t : ClientState = record s { events = counted_in name count at.now s.events } in
       changes_at (Event name count) t refl refl (nat_lt max_size (length (spelling t)))
 
+  forgotten : (id : List ℕ) → let to : Step = done s session (whole s [] (resetting s.enrolment session id)) in to.state.events ≡ counts_after at.now (Reset id) (is_okay to.answer) s.events
+  forgotten id =
+      let t : ClientState = with_enrolment s (after_reset s.enrolment id) [] in
+      whole_either (λ asked. let to : Step = done s session asked in to.state.events ≡ counts_after at.now (Reset id) (is_okay to.answer) s.events) s [] (after_reset s.enrolment id) session Okay refl
+      (λ fits. changes_at (Reset id) t refl refl (nat_lt max_size (length (spelling t))))
+
   follows : (command : Command) → (step at s session command).state.events ≡ counts_after at.now command (is_okay (step at s session command).answer) s.events
   unfolding step
   follows (commands.Manifest file channel) = done-keeps (setting_manifest s session (manifest_of at.files file channel)) (manifest-keeps (manifest_of at.files file channel))
@@ -93,10 +105,12 @@ module _ (at : Setting) (s : ClientState) (session : Session) where
   follows (Participate part on) = let asked = participation s.enrolment session part on in done-keeps (enrolling s asked) (enrolment-keeps asked)
   follows (OptOut slug) = let asked = opting_out s.enrolment session slug in done-keeps (enrolling s asked) (enrolment-keeps asked)
   follows (OptIn slug branch) = let asked = opting_in s.enrolment session slug branch in done-keeps (enrolling s asked) (enrolment-keeps asked)
-  follows (Reset id) = let t : ClientState = record { enrolment = after_reset s.enrolment id; events = [] } in changes_at (Reset id) t refl refl (nat_lt max_size (length (spelling t)))
+  follows (Reset id) = forgotten id
   follows Show = done-keeps (showing s session) refl
   follows (Feature name) = done-keeps (serving s session name session.manifest) (feature-keeps name session.manifest)
   follows (Event name count) = counted name count (has_no_room_for name s.events)
+  follows commands.Changes = done-keeps (listing_changes s session) refl
+  follows (Confirm number) = done-keeps (confirming s session number) (confirm-keeps number (nat_le s.outbox.next number))
   follows WriteManifest = done-keeps (writing_manifest s session session.manifest) (written-keeps session.manifest)
 
 pub events_follow : EventsFollow

@@ -1,6 +1,6 @@
 -- A step keeps the records of a state's recipes sound.
-use Rattle.std.proofs.Common.{ℕ, Bool, true, false, List, length, Option, Some, None, Result, Ok, Err, unwrap_or}
-use Rattle.std.specs.Prelude.{IfOk, nat_lt, if◌then◌else◌}
+use Rattle.std.proofs.Common.{ℕ, Bool, true, false, List, [], length, Option, Some, None, Result, Ok, Err, unwrap_or}
+use Rattle.std.specs.Prelude.{IfOk, nat_lt, nat_le, if◌then◌else◌}
 use Rattle.json_tree.specs.Json.{Json, IsSound}
 use Rattle.recipe_reader.specs.Kinds.{kind_of}
 use Rattle.recipe_reader.specs.Payloads.{payload_of, recipe_with}
@@ -11,6 +11,7 @@ use Rattle.recipe_reader.specs.declared.recipe.Recipe.{Recipe}
 use Rattle.app_context.specs.Contexts.{context_of}
 use Rattle.app_context.specs.declared.context.Context.{Context}
 use Rattle.app_context.specs.declared.key.ContextKey.{ContextKey}
+use Rattle.change_outbox.specs.Contents.{confirmed}
 use Rattle.enrol_evolver.specs.Evolution.{evolution}
 use Rattle.enrol_states.specs.Choices.{has_no_room}
 use Rattle.event_counts.specs.Kept.{counted_in}
@@ -26,18 +27,19 @@ use Rattle.fml_types.specs.declared.manifest.Manifest.{Manifest}
 use Rattle.fml_value.specs.Typed.{TypedValue}
 use Rattle.feature_serving.specs.Serving.{served}
 use Rattle.client_words.specs.declared.answer.Answer.{Answer}
-use Rattle.client_words.specs.declared.answer.Answer.TheVariants.{Okay, OptedOutLimit, EventLimit, NotParticipating, NoSuchBranch}
+use Rattle.client_words.specs.declared.answer.Answer.TheVariants.{Okay, OptedOutLimit, EventLimit, NoSuchChange, NotParticipating, NoSuchBranch}
 use Rattle.client_words.specs.declared.command.Command.{Command}
-use Rattle.client_words.specs.declared.command.Command.TheVariants.{Fetch, Apply, Participate, OptOut, OptIn, Reset, Show, Feature, Event, WriteManifest}
+use Rattle.client_words.specs.declared.command.Command.TheVariants.{Fetch, Apply, Participate, OptOut, OptIn, Reset, Show, Feature, Event, Confirm, WriteManifest}
 use Rattle.client_words.specs.declared.command.Command.TheVariants as commands
 use Rattle.client_core.specs.declared.session.Session.{Session}
 use Rattle.client_core.specs.Choosing.{first_taker}
 use Rattle.client_core.specs.Fetching.{file_tree}
 use Rattle.client_core.specs.Manifests.{manifest_of}
 use Rattle.client_core.specs.Settings.{Setting}
-use Rattle.client_core.specs.Steps.{EnrolmentOutcome, Outcome, Accepted, Refused, Step, whole, seeing, has_no_room_for, opting_out, opting_in, taking, offering, choosing, fetched, fetching, context_read, reading_context, setting_manifest, applying, valued, serving, writing_manifest, outcome, done, step}
+use Rattle.client_core.specs.Steps.{EnrolmentOutcome, Outcome, Accepted, Refused, Step, whole, seeing, has_no_room_for, participation, resetting, opting_out, opting_in, taking, offering, choosing, fetched, fetching, context_read, reading_context, setting_manifest, applying, valued, serving, writing_manifest, outcome, done, step}
 use Rattle.client_core.proofs.ReadFiles.{file_sound}
 use Rattle.client_core.proofs.ReadRecords.{OfPayload, payload_records}
+use Rattle.client_core.proofs.Stepping.{whole_either}
 
 either_step : (P : Step → Type 0) (b : Bool) (x y : Step) → P x → P y → P (if b then x else y)
 either_step P true x y here there = here
@@ -59,7 +61,7 @@ module _ (at : Setting) (s : ClientState) (session : Session) (h : HaveRecords s
   KeepsEnrolment (Refused answer) = Unit {0}
 
   whole-keeps : (counts : List NameCounts) (asked : EnrolmentOutcome) → KeepsEnrolment asked → Keeps (whole s counts asked)
-  whole-keeps counts (Accepted e next answer) keeps = keeps
+  whole-keeps counts (Accepted e next answer) keeps = whole_either Keeps s counts e next answer tt (λ fits. keeps)
   whole-keeps counts (Refused answer) keeps = tt
 
   done-keeps : (asked : Outcome) → Keeps asked → HaveRecords (done s session asked).state.enrolment
@@ -131,18 +133,24 @@ module _ (at : Setting) (s : ClientState) (session : Session) (h : HaveRecords s
   count-keeps name count true = tt
   count-keeps name count false = h
 
+  confirm-keeps : (number : ℕ) (unknown : Bool) → Keeps (if unknown then Refused (NoSuchChange s.outbox.next) else Accepted (record s { outbox = confirmed number s.outbox }) session Okay)
+  confirm-keeps number true = tt
+  confirm-keeps number false = h
+
   outcome-keeps : (command : Command) → Keeps (outcome at s session command)
   outcome-keeps (commands.Manifest file channel) = manifest-keeps (manifest_of at.files file channel)
   outcome-keeps (commands.Context file) = file-keeps (file_tree file (at.files file))
   outcome-keeps (Fetch file) = whole-keeps s.events (fetching s.enrolment session (file_tree file (at.files file))) (fetch-keeps (file_tree file (at.files file)) (file_sound file (at.files file)))
   outcome-keeps Apply = whole-keeps s.events (applying at.now s.enrolment session session.manifest (seeing at.now s.events session.context)) (apply-keeps session.manifest (seeing at.now s.events session.context))
-  outcome-keeps (Participate part on) = record { live = h.live; pending = h.pending }
+  outcome-keeps (Participate part on) = whole-keeps s.events (participation s.enrolment session part on) (record { live = h.live; pending = h.pending })
   outcome-keeps (OptOut slug) = whole-keeps s.events (opting_out s.enrolment session slug) (out-keeps slug (has_no_room s.enrolment.opted_out slug))
   outcome-keeps (OptIn slug branch) = whole-keeps s.events (opting_in s.enrolment session slug branch) (choosing-keeps slug branch (recipe_with slug s.enrolment.live))
-  outcome-keeps (Reset id) = record { live = h.live; pending = h.pending }
+  outcome-keeps (Reset id) = whole-keeps [] (resetting s.enrolment session id) (record { live = h.live; pending = h.pending })
   outcome-keeps Show = h
   outcome-keeps (Feature name) = feature-keeps name session.manifest
   outcome-keeps (Event name count) = count-keeps name count (has_no_room_for name s.events)
+  outcome-keeps commands.Changes = h
+  outcome-keeps (Confirm number) = confirm-keeps number (nat_le s.outbox.next number)
   outcome-keeps WriteManifest = written-keeps session.manifest
 
   pub step_keeps_records : (command : Command) → HaveRecords (step at s session command).state.enrolment

@@ -1,6 +1,6 @@
 -- A step keeps a session lawful, and its texts in UTF-8.
-use Rattle.std.proofs.Common.{◌≡◌, ℕ, Bool, true, false, List, length, Option, Some, None, Result, Ok, Err, IsUtf8, refl, subst}
-use Rattle.std.specs.Prelude.{IfOk, nat_lt, if◌then◌else◌}
+use Rattle.std.proofs.Common.{◌≡◌, ℕ, Bool, true, false, List, [], length, Option, Some, None, Result, Ok, Err, IsUtf8, refl, subst}
+use Rattle.std.specs.Prelude.{IfOk, nat_lt, nat_le, if◌then◌else◌}
 use Rattle.json_tree.specs.Json.{Json, IsSound}
 use Rattle.recipe_reader.specs.Kinds.{kind_of}
 use Rattle.recipe_reader.specs.Payloads.{payload_of, recipe_with}
@@ -11,6 +11,7 @@ use Rattle.recipe_reader.specs.declared.recipe.Recipe.{Recipe}
 use Rattle.app_context.specs.Contexts.{context_of}
 use Rattle.app_context.specs.declared.context.Context.{Context}
 use Rattle.app_context.specs.declared.key.ContextKey.{ContextKey}
+use Rattle.change_outbox.specs.Contents.{confirmed}
 use Rattle.enrol_evolver.specs.Evolution.{version_of}
 use Rattle.enrol_states.specs.Choices.{has_no_room}
 use Rattle.event_counts.specs.Kept.{counted_in}
@@ -25,9 +26,9 @@ use Rattle.fml_types.specs.declared.manifest.Manifest.{Manifest}
 use Rattle.fml_value.specs.Typed.{TypedValue}
 use Rattle.feature_serving.specs.Serving.{served}
 use Rattle.client_words.specs.declared.answer.Answer.{Answer}
-use Rattle.client_words.specs.declared.answer.Answer.TheVariants.{Okay, OptedOutLimit, EventLimit, NotParticipating, NoSuchBranch}
+use Rattle.client_words.specs.declared.answer.Answer.TheVariants.{Okay, OptedOutLimit, EventLimit, NoSuchChange, NotParticipating, NoSuchBranch}
 use Rattle.client_words.specs.declared.command.Command.{Command}
-use Rattle.client_words.specs.declared.command.Command.TheVariants.{Fetch, Apply, Participate, OptOut, OptIn, Reset, Show, Feature, Event, WriteManifest}
+use Rattle.client_words.specs.declared.command.Command.TheVariants.{Fetch, Apply, Participate, OptOut, OptIn, Reset, Show, Feature, Event, Confirm, WriteManifest}
 use Rattle.client_words.specs.declared.command.Command.TheVariants as commands
 use Rattle.client_core.specs.declared.session.Session.{Session}
 use Rattle.client_core.specs.Choosing.{first_taker}
@@ -36,10 +37,11 @@ use Rattle.client_core.specs.Manifests.{manifest_of}
 use Rattle.client_core.specs.Sessions.{with_manifest, with_context}
 use Rattle.client_core.specs.Settings.{Setting}
 use Rattle.client_core.specs.Soundness.{HasVersion, HasLinked, IsSession, IsLawfulManifest, IsLawfulContext, IsLawful}
-use Rattle.client_core.specs.Steps.{OutcomeOver, EnrolmentOutcome, Outcome, Accepted, Refused, Step, whole, seeing, has_no_room_for, opting_out, opting_in, taking, offering, choosing, fetched, fetching, context_read, reading_context, setting_manifest, applying, valued, serving, writing_manifest, outcome, done, step}
+use Rattle.client_core.specs.Steps.{OutcomeOver, EnrolmentOutcome, Outcome, Accepted, Refused, Step, whole, seeing, has_no_room_for, participation, resetting, opting_out, opting_in, taking, offering, choosing, fetched, fetching, context_read, reading_context, setting_manifest, applying, valued, serving, writing_manifest, outcome, done, step}
 use Rattle.client_core.proofs.LinkedManifests.{manifest_linked}
 use Rattle.client_core.proofs.ReadContexts.{context_version}
 use Rattle.client_core.proofs.ReadFiles.{file_sound}
+use Rattle.client_core.proofs.Stepping.{whole_either}
 
 either_step : (P : Step → Type 0) (b : Bool) (x y : Step) → P x → P y → P (if b then x else y)
 either_step P true x y here there = here
@@ -52,7 +54,7 @@ module _ (P : Session → Type 0) (at : Setting) (s : ClientState) (session : Se
   Carries (Refused answer) = Unit {0}
 
   whole-carries : (counts : List NameCounts) (asked : EnrolmentOutcome) → Carries asked → Carries (whole s counts asked)
-  whole-carries counts (Accepted e next answer) carries = carries
+  whole-carries counts (Accepted e next answer) carries = whole_either (λ (asked : Outcome). Carries asked) s counts e next answer tt (λ fits. carries)
   whole-carries counts (Refused answer) carries = tt
 
   done-carries : (asked : Outcome) → Carries asked → P (done s session asked).session
@@ -123,18 +125,24 @@ module _ (P : Session → Type 0) (at : Setting) (s : ClientState) (session : Se
   count-carries name count true = tt
   count-carries name count false = was
 
+  confirm-carries : (number : ℕ) (unknown : Bool) → Carries (if unknown then Refused (NoSuchChange s.outbox.next) else Accepted (record s { outbox = confirmed number s.outbox }) session Okay)
+  confirm-carries number true = tt
+  confirm-carries number false = was
+
   outcome-carries : (command : Command) → Carries (outcome at s session command)
   outcome-carries (commands.Manifest file channel) = manifest-carries file channel (manifest_of at.files file channel) refl
   outcome-carries (commands.Context file) = file-carries (file_tree file (at.files file)) (file_sound file (at.files file))
   outcome-carries (Fetch file) = whole-carries s.events (fetching s.enrolment session (file_tree file (at.files file))) (fetch-carries (file_tree file (at.files file)))
   outcome-carries Apply = whole-carries s.events (applying at.now s.enrolment session session.manifest (seeing at.now s.events session.context)) (apply-carries session.manifest (seeing at.now s.events session.context))
-  outcome-carries (Participate part on) = was
+  outcome-carries (Participate part on) = whole-carries s.events (participation s.enrolment session part on) was
   outcome-carries (OptOut slug) = whole-carries s.events (opting_out s.enrolment session slug) (out-carries slug (has_no_room s.enrolment.opted_out slug))
   outcome-carries (OptIn slug branch) = whole-carries s.events (opting_in s.enrolment session slug branch) (choosing-carries slug branch (recipe_with slug s.enrolment.live))
-  outcome-carries (Reset id) = was
+  outcome-carries (Reset id) = whole-carries [] (resetting s.enrolment session id) was
   outcome-carries Show = was
   outcome-carries (Feature name) = feature-carries name session.manifest
   outcome-carries (Event name count) = count-carries name count (has_no_room_for name s.events)
+  outcome-carries commands.Changes = was
+  outcome-carries (Confirm number) = confirm-carries number (nat_le s.outbox.next number)
   outcome-carries WriteManifest = written-carries session.manifest
 
   step-carries : (command : Command) → P (step at s session command).session

@@ -3,9 +3,12 @@ mod Coenrolling
 mod Payloads
 mod Stepping
 mod Counting
+mod Outboxes
+pub mod Confirming
 pub mod Asking
 pub mod OptOuts
 pub mod EventSteps
+pub mod OutboxSteps
 pub mod Holding
 mod Judging
 pub mod Placing

@@ -1,6 +1,6 @@
 -- A slug that is opted out stays so, until its user brings it back.
 use Rattle.std.proofs.Common.{Ordering, ◌≡◌, ℕ, Bool, true, false, List, [], ◌∷◌, length, Option, Some, None, Result, Ok, Err, Less, Equal, Greater, ◌||◌, refl, sym, ap, ◌∙◌, subst}
-use Rattle.std.specs.Prelude.{not, nat_lt, bytes_eq, if◌then◌else◌}
+use Rattle.std.specs.Prelude.{not, nat_lt, nat_le, bytes_eq, if◌then◌else◌}
 use Rattle.std.specs.BTreeSet.{insert_key}
 use Rattle.std.specs.Cmp.Lexicographic.{bytes_decides}
 use Rattle.std.specs.Ordering.{match_ordering}
@@ -11,6 +11,7 @@ use Rattle.recipe_reader.specs.declared.payload.Payload.{Payload}
 use Rattle.recipe_reader.specs.declared.payload.PayloadFault.{PayloadFault}
 use Rattle.recipe_reader.specs.declared.payload.PayloadFault.TheVariants as payload
 use Rattle.recipe_reader.specs.declared.recipe.Recipe.{Recipe}
+use Rattle.change_outbox.specs.Contents.{confirmed}
 use Rattle.enrol_states.specs.Choices.{has_no_room}
 use Rattle.event_counts.specs.Kept.{counted_in}
 use Rattle.event_counts.specs.declared.name_counts.NameCounts.{NameCounts}
@@ -31,9 +32,9 @@ use Rattle.fml_types.specs.declared.manifest.Manifest.{Manifest}
 use Rattle.fml_value.specs.Typed.{TypedValue}
 use Rattle.feature_serving.specs.Serving.{served}
 use Rattle.client_words.specs.declared.answer.Answer.{Answer}
-use Rattle.client_words.specs.declared.answer.Answer.TheVariants.{Okay, OptedOutLimit, EventLimit, NotParticipating, NoSuchBranch, StateTooLarge}
+use Rattle.client_words.specs.declared.answer.Answer.TheVariants.{Okay, OptedOutLimit, EventLimit, NoSuchChange, NotParticipating, NoSuchBranch, StateTooLarge}
 use Rattle.client_words.specs.declared.command.Command.{Command}
-use Rattle.client_words.specs.declared.command.Command.TheVariants.{Fetch, Apply, Participate, OptOut, OptIn, Reset, Show, Feature, Event, WriteManifest}
+use Rattle.client_words.specs.declared.command.Command.TheVariants.{Fetch, Apply, Participate, OptOut, OptIn, Reset, Show, Feature, Event, Confirm, WriteManifest}
 use Rattle.client_words.specs.declared.command.Command.TheVariants as commands
 use Rattle.client_core.specs.declared.session.Session.{Session}
 use Rattle.client_core.specs.Choosing.{first_taker}
@@ -41,7 +42,8 @@ use Rattle.client_core.specs.Fetching.{file_tree}
 use Rattle.client_core.specs.Manifests.{manifest_of}
 use Rattle.client_core.specs.OptOuts.{BringsBack, OptOutsHold}
 use Rattle.client_core.specs.Settings.{Setting}
-use Rattle.client_core.specs.Steps.{EnrolmentOutcome, Outcome, Accepted, Refused, Step, whole, enrolling, seeing, has_no_room_for, counting, participation, opting_out, taking, offering, choosing, fetched, fetching, context_read, reading_context, setting_manifest, applying, valued, serving, writing_manifest, done, step}
+use Rattle.client_core.specs.Steps.{EnrolmentOutcome, Outcome, Accepted, Refused, Step, with_enrolment, whole, enrolling, seeing, has_no_room_for, counting, listing_changes, confirming, participation, opting_out, taking, offering, choosing, fetched, fetching, context_read, reading_context, setting_manifest, applying, valued, serving, writing_manifest, done, step}
+use Rattle.client_core.proofs.Stepping.{whole_either}
 
 -- ---- one slug more or less
 
@@ -95,7 +97,7 @@ module _ (at : Setting) (s : ClientState) (session : Session) (slug : List ℕ) 
   KeepsEnrolment (Refused answer) = Unit {0}
 
   whole-keeps : (counts : List NameCounts) (asked : EnrolmentOutcome) → KeepsEnrolment asked → Keeps (whole s counts asked)
-  whole-keeps counts (Accepted e next answer) keeps = keeps
+  whole-keeps counts (Accepted e next answer) keeps = whole_either Keeps s counts e next answer tt (λ fits. keeps)
   whole-keeps counts (Refused answer) keeps = tt
 
   done-keeps : (asked : Outcome) → Keeps asked → is_in (done s session asked).state.enrolment.opted_out slug ≡ true
@@ -150,6 +152,10 @@ module _ (at : Setting) (s : ClientState) (session : Session) (slug : List ℕ) 
   count-keeps name count true = tt
   count-keeps name count false = there
 
+  confirm-keeps : (number : ℕ) (unknown : Bool) → Keeps (if unknown then Refused (NoSuchChange s.outbox.next) else Accepted (record s { outbox = confirmed number s.outbox }) session Okay)
+  confirm-keeps number true = tt
+  confirm-keeps number false = there
+
   -- what is asked of the enrolment, and done, keeps it
   enrolment-keeps : (asked : EnrolmentOutcome) → KeepsEnrolment asked → is_in (done s session (enrolling s asked)).state.enrolment.opted_out slug ≡ true
   enrolment-keeps asked keeps = done-keeps (enrolling s asked) (whole-keeps s.events asked keeps)
@@ -170,7 +176,10 @@ module _ (at : Setting) (s : ClientState) (session : Session) (slug : List ℕ) 
 
   module _ (other branch : List ℕ) where
     taking-unless : (taker : Option (List ℕ × List ℕ)) → KeepsUnless (bytes_eq other slug) (enrolling s (taking s.enrolment session other branch taker))
-    taking-unless None = accepted-unless (record s { enrolment = after_opt_in s.enrolment other branch }) session (bytes_eq other slug) (λ apart. kept-without other slug s.enrolment.opted_out apart there)
+    taking-unless None =
+        let e = after_opt_in s.enrolment other branch in
+        whole_either (KeepsUnless (bytes_eq other slug)) s s.events e session Okay (λ never. there)
+        (λ fits. accepted-unless (with_enrolment s e s.events) session (bytes_eq other slug) (λ apart. kept-without other slug s.enrolment.opted_out apart there))
     taking-unless (Some taker) = λ never. there
 
     branch-unless : (r : Recipe) (has : Bool) → KeepsUnless (bytes_eq other slug) (enrolling s (if has then taking s.enrolment session other branch (first_taker s.enrolment r s.enrolment.rows) else Refused NoSuchBranch))
@@ -194,10 +203,14 @@ module _ (at : Setting) (s : ClientState) (session : Session) (slug : List ℕ) 
   kept (Participate part on) never = enrolment-keeps (participation s.enrolment session part on) there
   kept (OptOut other) never = enrolment-keeps (opting_out s.enrolment session other) (out-keeps other (has_no_room s.enrolment.opted_out other))
   kept (OptIn other branch) never = choosing-unless other branch (recipe_with other s.enrolment.live) (λ back is_done. never (back, is_done))
-  kept (Reset id) never = accepted-unless (record { enrolment = after_reset s.enrolment id; events = [] }) session true (λ apart. absurd cc) (λ back is_done. never (back, is_done))
+  kept (Reset id) never =
+      let e = after_reset s.enrolment id in
+      whole_either (KeepsUnless true) s [] e session Okay (λ apart. there) (λ fits. accepted-unless (with_enrolment s e []) session true (λ apart. absurd cc)) (λ back is_done. never (back, is_done))
   kept Show never = done-keeps (Accepted s session _) there
   kept (Feature name) never = done-keeps (serving s session name session.manifest) (feature-keeps name session.manifest)
   kept (Event name count) never = done-keeps (counting at.now s session name count) (count-keeps name count (has_no_room_for name s.events))
+  kept commands.Changes never = done-keeps (listing_changes s session) there
+  kept (Confirm number) never = done-keeps (confirming s session number) (confirm-keeps number (nat_le s.outbox.next number))
   kept WriteManifest never = done-keeps (writing_manifest s session session.manifest) (written-keeps session.manifest)
 
 -- ---- an opt-out
@@ -210,12 +223,14 @@ taken_at s t session next slug false has is_done = has
 
 -- the state with the slug opted out
 abbrev out_of : ClientState → List ℕ → ClientState
-out_of s slug = record s { enrolment = after_opt_out s.enrolment slug }
+out_of s slug = with_enrolment s (after_opt_out s.enrolment slug) s.events
 
 room_at : (s : ClientState) (session : Session) (slug : List ℕ) (full : Bool) → (done s session (enrolling s (if full then Refused OptedOutLimit else Accepted (after_opt_out s.enrolment slug) session Okay))).answer ≡ Okay
     → is_in (done s session (enrolling s (if full then Refused OptedOutLimit else Accepted (after_opt_out s.enrolment slug) session Okay))).state.enrolment.opted_out slug ≡ true
 room_at s session slug true is_done = absurd cc
-room_at s session slug false is_done = taken_at s (out_of s slug) session session slug (nat_lt max_size (length (spelling (out_of s slug)))) (is_in-inserted slug s.enrolment.opted_out) is_done
+room_at s session slug false is_done =
+    whole_either (λ asked. (done s session asked).answer ≡ Okay → is_in (done s session asked).state.enrolment.opted_out slug ≡ true) s s.events (after_opt_out s.enrolment slug) session Okay (λ okay. absurd cc)
+    (λ fits. taken_at s (out_of s slug) session session slug (nat_lt max_size (length (spelling (out_of s slug)))) (is_in-inserted slug s.enrolment.opted_out)) is_done
 
 taken : (at : Setting) (s : ClientState) (session : Session) (slug : List ℕ) → (step at s session (OptOut slug)).answer ≡ Okay → is_in (step at s session (OptOut slug)).state.enrolment.opted_out slug ≡ true
 unfolding step

@@ -24,6 +24,7 @@ use Rattle.recipe_reader.specs.declared.recipe.Recipe.{Recipe}
 use Rattle.app_context.specs.Contexts.{context_of}
 use Rattle.app_context.specs.declared.context.Context.{Context}
 use Rattle.app_context.specs.declared.key.ContextKey.{ContextKey}
+use Rattle.change_outbox.specs.Contents.{confirmed}
 use Rattle.enrol_states.specs.Choices.{has_no_room}
 use Rattle.event_counts.specs.Kept.{counted_in}
 use Rattle.event_counts.specs.declared.name_counts.NameCounts.{NameCounts}
@@ -34,9 +35,9 @@ use Rattle.enrol_states.specs.Recipes.{has_branch}
 use Rattle.client_state.specs.Sound.{max_size}
 use Rattle.client_state.specs.Spelling.{spelling}
 use Rattle.client_words.specs.declared.answer.Answer.{Answer}
-use Rattle.client_words.specs.declared.answer.Answer.TheVariants.{Okay, Value, FileTooLarge, NotJson, OptedOutLimit, EventLimit, NotParticipating, NoSuchBranch, StateTooLarge}
+use Rattle.client_words.specs.declared.answer.Answer.TheVariants.{Okay, Value, FileTooLarge, NotJson, OptedOutLimit, EventLimit, NoSuchChange, NotParticipating, NoSuchBranch, StateTooLarge}
 use Rattle.client_words.specs.declared.command.Command.{Command}
-use Rattle.client_words.specs.declared.command.Command.TheVariants.{Fetch, Apply, Participate, OptOut, OptIn, Reset, Show, Feature, Event, WriteManifest}
+use Rattle.client_words.specs.declared.command.Command.TheVariants.{Fetch, Apply, Participate, OptOut, OptIn, Reset, Show, Feature, Event, Confirm, WriteManifest}
 use Rattle.client_words.specs.declared.command.Command.TheVariants as commands
 use Rattle.client_core.specs.declared.session.Session.{Session}
 use Rattle.client_core.specs.Choosing.{first_taker}
@@ -45,10 +46,11 @@ use Rattle.client_core.specs.Manifests.{IsLinked, link_refusal, where_fits, chec
 use Rattle.client_core.specs.ServedValues.{IsServed, ValuesAreServed, IsTyped, ValuesHaveTypes}
 use Rattle.client_core.specs.Settings.{Setting}
 use Rattle.client_core.specs.Soundness.{IsGiven, IsLawfulManifest}
-use Rattle.client_core.specs.Steps.{OutcomeOver, EnrolmentOutcome, Outcome, Accepted, Refused, Step, whole, seeing, has_no_room_for, counting, participation, opting_out, taking, offering, choosing, opting_in, resetting, showing, fetched, fetching, context_read, reading_context, setting_manifest, applying, valued, serving, writing_manifest, done, step}
+use Rattle.client_core.specs.Steps.{OutcomeOver, EnrolmentOutcome, Outcome, Accepted, Refused, Step, whole, seeing, has_no_room_for, counting, listing_changes, confirming, participation, opting_out, taking, offering, choosing, opting_in, resetting, showing, fetched, fetching, context_read, reading_context, setting_manifest, applying, valued, serving, writing_manifest, done, step}
 use Rattle.fml_reader.specs.Trees.{tree_from}
 use Rattle.client_core.proofs.LinkedManifests.{manifest_linked}
 use Rattle.client_core.proofs.SoundValues.{records_sound}
+use Rattle.client_core.proofs.Stepping.{whole_either}
 use Rattle.client_core.proofs.Trees.{tree_of_value, value_of_tree}
 
 abbrev is_value : Answer → Bool
@@ -118,7 +120,7 @@ module _ (at : Setting) (s : ClientState) (session : Session) where
   NoValue (Refused answer) = is_value answer ≡ false
 
   whole-none : (counts : List NameCounts) (asked : EnrolmentOutcome) → NoValue asked → NoValue (whole s counts asked)
-  whole-none counts (Accepted e next answer) none = none
+  whole-none counts (Accepted e next answer) none = whole_either (λ (asked : Outcome). NoValue asked) s counts e next answer refl (λ fits. none)
   whole-none counts (Refused answer) none = none
 
   done-none : (asked : Outcome) → NoValue asked → is_value (done s session asked).answer ≡ false
@@ -181,6 +183,10 @@ module _ (at : Setting) (s : ClientState) (session : Session) where
   count-none name count true = refl
   count-none name count false = refl
 
+  confirm-none : (number : ℕ) (unknown : Bool) → NoValue (if unknown then Refused (NoSuchChange s.outbox.next) else Accepted (record s { outbox = confirmed number s.outbox }) session Okay)
+  confirm-none number true = refl
+  confirm-none number false = refl
+
   never : (asked : Outcome) (tree : Tree) → NoValue asked → (done s session asked).answer ≡ Value tree → ⊥
   never asked tree none is = absurd (let clash = ap is_value is in let plain = done-none asked none in cc)
 
@@ -228,6 +234,8 @@ module _ (at : Setting) (s : ClientState) (session : Session) where
   values_at Show tree is = absurd (never (showing s session) tree refl is)
   values_at (Feature name) tree is = set_at name tree session.manifest refl is
   values_at (Event name count) tree is = absurd (never (counting at.now s session name count) tree (count-none name count (has_no_room_for name s.events)) is)
+  values_at commands.Changes tree is = absurd (never (listing_changes s session) tree refl is)
+  values_at (Confirm number) tree is = absurd (never (confirming s session number) tree (confirm-none number (nat_le s.outbox.next number)) is)
   values_at WriteManifest tree is = absurd (never (writing_manifest s session session.manifest) tree (written-none session.manifest) is)
 
 pub values_are_served : ValuesAreServed

@@ -1,7 +1,7 @@
 -- A step keeps a state sound and a session lawful, and so do many.
 use Rattle.std.proofs.Common.{◌≡◌, ◌≤◌, ℕ, Bool, true, false, List, [], ◌∷◌, length, Option, Some, None, Result, Ok, Err, refl}
-use Rattle.std.specs.Prelude.{All, nat_lt, if◌then◌else◌}
-use Rattle.std.proofs.lemmas.Bool.{ltb-false}
+use Rattle.std.specs.Prelude.{All, nat_lt, nat_le, if◌then◌else◌}
+use Rattle.std.proofs.lemmas.Bool.{leb-false, ltb-false}
 use Rattle.std.proofs.lemmas.List.Elements.{All-head, All-tail}
 use Rattle.json_tree.specs.Json.{Json}
 use Rattle.recipe_reader.specs.Kinds.{kind_of}
@@ -14,6 +14,7 @@ use Rattle.app_context.specs.Contexts.{context_of}
 use Rattle.app_context.specs.declared.context.Context.{Context}
 use Rattle.app_context.specs.declared.key.ContextKey.{ContextKey}
 use Rattle.enrol_evolver.proofs.Consistency.{evolved}
+use Rattle.change_outbox.specs.Contents.{confirmed}
 use Rattle.enrol_states.specs.Choices.{has_no_room}
 use Rattle.event_counts.specs.Kept.{counted_in}
 use Rattle.event_counts.specs.Sound as counts
@@ -36,9 +37,9 @@ use Rattle.fml_types.specs.declared.manifest.Manifest.{Manifest}
 use Rattle.fml_value.specs.Typed.{TypedValue}
 use Rattle.feature_serving.specs.Serving.{served}
 use Rattle.client_words.specs.declared.answer.Answer.{Answer}
-use Rattle.client_words.specs.declared.answer.Answer.TheVariants.{Okay, OptedOutLimit, EventLimit, NotParticipating, NoSuchBranch, StateTooLarge}
+use Rattle.client_words.specs.declared.answer.Answer.TheVariants.{Okay, OptedOutLimit, EventLimit, NoSuchChange, NotParticipating, NoSuchBranch, StateTooLarge}
 use Rattle.client_words.specs.declared.command.Command.{Command}
-use Rattle.client_words.specs.declared.command.Command.TheVariants.{Fetch, Apply, Participate, OptOut, OptIn, Reset, Show, Feature, Event, WriteManifest}
+use Rattle.client_words.specs.declared.command.Command.TheVariants.{Fetch, Apply, Participate, OptOut, OptIn, Reset, Show, Feature, Event, Confirm, WriteManifest}
 use Rattle.client_words.specs.declared.command.Command.TheVariants as commands
 use Rattle.client_core.specs.declared.session.Session.{Session}
 use Rattle.client_core.specs.Choosing.{first_taker}
@@ -47,13 +48,14 @@ use Rattle.client_core.specs.Manifests.{manifest_of}
 use Rattle.client_core.specs.Settings.{Setting}
 use Rattle.client_core.specs.Soundness.{HasVersion, HasLinked, IsSession, IsLawful, Line, IsLine, all_after, StepsStaySound}
 use Rattle.client_words.specs.Commands.{IsCommand, IsEvent}
-use Rattle.client_core.specs.Steps.{EnrolmentOutcome, Outcome, Accepted, Refused, Step, whole, enrolling, seeing, has_no_room_for, counting, participation, opting_out, taking, offering, choosing, opting_in, resetting, showing, fetched, fetching, context_read, reading_context, setting_manifest, applying, valued, serving, writing_manifest, outcome, done, step}
+use Rattle.client_core.specs.Steps.{EnrolmentOutcome, Outcome, Accepted, Refused, Step, whole, enrolling, seeing, has_no_room_for, counting, listing_changes, confirming, participation, opting_out, taking, offering, choosing, opting_in, resetting, showing, fetched, fetching, context_read, reading_context, setting_manifest, applying, valued, serving, writing_manifest, outcome, done, step}
 use Rattle.client_core.proofs.Coenrolling.{coenrolling_names, coenrolling_rise}
 use Rattle.client_core.proofs.Counting.{counted_sound}
 use Rattle.client_core.proofs.KeptRecords.{step_keeps_records}
 use Rattle.client_core.proofs.Lawfulness.{step_keeps_texts, step_keeps_lawful, lawful_texts}
 use Rattle.client_core.proofs.Payloads.{payload_kept}
-use Rattle.client_core.proofs.Stepping.{pending_consistent}
+use Rattle.client_core.proofs.Outboxes.{appended_is_sound, confirmed_is_sound}
+use Rattle.client_core.proofs.Stepping.{pending_consistent, whole_either}
 use Rattle.client_core.proofs.Takers.{free_where}
 
 either_step : (P : Step → Type 0) (b : Bool) (x y : Step) → P x → P y → P (if b then x else y)
@@ -74,7 +76,8 @@ module _ (at : Setting) (s : ClientState) (session : Session) (c : IsConsistent 
   KeepsEnrolment (Refused answer) = Unit {0}
 
   whole-keeps : (ns : List NameCounts) → counts.IsSound ns → (asked : EnrolmentOutcome) → KeepsEnrolment asked → Keeps (whole s ns asked)
-  whole-keeps ns sound (Accepted e next answer) keeps = record { enrolment = keeps; events = sound }
+  whole-keeps ns sound (Accepted e next answer) keeps =
+      whole_either Keeps s ns e next answer tt (λ fits. record { enrolment = keeps; events = sound; outbox = appended_is_sound s.enrolment e s.outbox c.enrolment keeps c.outbox fits })
   whole-keeps ns sound (Refused answer) keeps = tt
 
   done-keeps : (asked : Outcome) → Keeps asked → IsConsistent (done s session asked).state
@@ -150,7 +153,11 @@ module _ (at : Setting) (s : ClientState) (session : Session) (c : IsConsistent 
   count-keeps : (name : List ℕ) (count : ℕ) → IsEvent name count → at.now ≤ last_moment → (full : Bool) → has_no_room_for name s.events ≡ full
       → Keeps (if full then Refused EventLimit else Accepted (record s { events = counted_in name count at.now s.events }) session Okay)
   count-keeps name count is moment true e = tt
-  count-keeps name count is moment false e = record { enrolment = c.enrolment; events = counted_sound name count at.now s.events c.events is.name moment e }
+  count-keeps name count is moment false e = record { enrolment = c.enrolment; events = counted_sound name count at.now s.events c.events is.name moment e; outbox = c.outbox }
+
+  confirm-keeps : (number : ℕ) (unknown : Bool) → nat_le s.outbox.next number ≡ unknown → Keeps (if unknown then Refused (NoSuchChange s.outbox.next) else Accepted (record s { outbox = confirmed number s.outbox }) session Okay)
+  confirm-keeps number true e = tt
+  confirm-keeps number false e = record { enrolment = c.enrolment; events = c.events; outbox = confirmed_is_sound s.outbox number c.outbox (leb-false s.outbox.next number e) }
 
   enrolment-keeps : (asked : EnrolmentOutcome) → KeepsEnrolment asked → IsConsistent (done s session (enrolling s asked)).state
   enrolment-keeps asked keeps = done-keeps (enrolling s asked) (whole-keeps s.events c.events asked keeps)
@@ -171,6 +178,8 @@ module _ (at : Setting) (s : ClientState) (session : Session) (c : IsConsistent 
   consistent Show moment is texts = done-keeps (showing s session) c
   consistent (Feature name) moment is texts = done-keeps (serving s session name session.manifest) (feature-keeps name session.manifest)
   consistent (Event name count) moment is texts = done-keeps (counting at.now s session name count) (count-keeps name count is moment (has_no_room_for name s.events) refl)
+  consistent commands.Changes moment is texts = done-keeps (listing_changes s session) c
+  consistent (Confirm number) moment is texts = done-keeps (confirming s session number) (confirm-keeps number (nat_le s.outbox.next number) refl)
   consistent WriteManifest moment is texts = done-keeps (writing_manifest s session session.manifest) (written-keeps session.manifest)
 
 -- ---- the size

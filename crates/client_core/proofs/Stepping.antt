@@ -1,13 +1,18 @@
--- The step of an outcome, and the state with recipes pending.
-use Rattle.std.proofs.Common.{◌≡◌, List, ap, Some}
+-- The step of an outcome, the state with recipes pending, and what an accepted enrolment leaves.
+use Rattle.std.proofs.Common.{◌≡◌, Bool, true, false, List, ap, refl, Some}
+use Rattle.std.specs.Prelude.{if◌then◌else◌}
 use Rattle.recipe_reader.specs.declared.recipe.Recipe.{Recipe}
 use Rattle.enrol_states.specs.declared.state.State.{State}
 use Rattle.enrol_states.specs.Consistent.{IsConsistent, AreKept}
+use Rattle.event_counts.specs.declared.name_counts.NameCounts.{NameCounts}
+use Rattle.client_state.specs.Following.{is_spent}
 use Rattle.client_state.specs.declared.client_state.ClientState.{ClientState}
+use Rattle.client_words.specs.declared.answer.Answer.{Answer}
+use Rattle.client_words.specs.declared.answer.Answer.TheVariants.{ChangesSpent}
 use Rattle.client_words.specs.declared.command.Command.{Command}
 use Rattle.client_core.specs.declared.session.Session.{Session}
 use Rattle.client_core.specs.Settings.{Setting}
-use Rattle.client_core.specs.Steps.{Outcome, outcome, done, step}
+use Rattle.client_core.specs.Steps.{Outcome, Accepted, Refused, with_enrolment, whole, outcome, done, step}
 
 -- with these recipes pending, a state is as consistent as before
 pub pending_consistent : (s : State) (recipes : List Recipe) → IsConsistent s → AreKept recipes → IsConsistent (record s { pending = Some recipes })
@@ -32,6 +37,17 @@ pending_consistent s recipes was kept = record {
   row_participation = was.row_participation;
   exclusive = was.exclusive;
 }
+
+-- ---- an accepted enrolment
+
+either : (P : Outcome → Type 0) (b : Bool) (x y : Outcome) → P x → (b ≡ false → P y) → P (if b then x else y)
+either P true x y here there = here
+either P false x y here there = there refl
+
+-- what holds of both holds, whether the outbox has numbers for the changes or not
+pub whole_either : (P : Outcome → Type 0) (s : ClientState) (counts : List NameCounts) (e : State) (session : Session) (answer : Answer) → P (Refused ChangesSpent)
+    → (is_spent s.enrolment e s.outbox ≡ false → P (Accepted (with_enrolment s e counts) session answer)) → P (whole s counts (Accepted e session answer))
+whole_either P s counts e session answer spent fits = either P (is_spent s.enrolment e s.outbox) (Refused ChangesSpent) (Accepted (with_enrolment s e counts) session answer) spent fits
 
 -- ---- the step of each command
 

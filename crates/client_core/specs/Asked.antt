@@ -1,17 +1,23 @@
 -- What a command asks for, as it is found.
-use Rattle.std.specs.Prelude.{◌≡◌, ◌⊎◌, ℕ}
+use Rattle.std.specs.Prelude.{◌≡◌, ◌⊎◌, ℕ, if◌then◌else◌}
 use Rattle.client_state.specs.declared.client_state.ClientState.{ClientState}
-use Rattle.client_state.specs.Changes.{state_after, IsChangeOf}
+use Rattle.client_state.specs.Changes.{IsChangeOf}
+use Rattle.client_state.specs.Following.{followed, spends}
+use Rattle.client_state.specs.declared.state_change.StateChange.{StateChange}
 use Rattle.client_words.specs.declared.answer.Answer.{Answer}
-use Rattle.client_words.specs.declared.answer.Answer.TheVariants.{StateTooLarge}
+use Rattle.client_words.specs.declared.answer.Answer.TheVariants.{ChangesSpent, StateTooLarge}
 use Rattle.client_core.specs.declared.asked.Asked.{Asked}
 use Rattle.client_core.specs.declared.asked.Asked.TheVariants as asked
 use Rattle.client_core.specs.declared.session.Session.{Session}
 use Rattle.client_core.specs.Sessions.{changed_by}
 use Rattle.client_core.specs.Steps.{Outcome, Accepted, Refused}
 
+-- a change with what follows it, unless the outbox has no numbers for the changes of enrolments
+abbrev pub changed_outcome : ClientState → Session → StateChange → Answer → Outcome
+changed_outcome s session change answer = if spends change s then Refused ChangesSpent else Accepted (followed change s) session answer
+
 abbrev pub asked_outcome : ClientState → Session → Asked → Outcome
-asked_outcome s session (asked.NewState change answer) = Accepted (state_after change s) session answer
+asked_outcome s session (asked.NewState change answer) = changed_outcome s session change answer
 asked_outcome s session (asked.SameState change answer) = Accepted s (changed_by session change) answer
 asked_outcome s session (asked.Refused refusal) = Refused refusal
 
@@ -25,6 +31,6 @@ abbrev pub FollowsFrom : ClientState → Asked → Type 0
 FollowsFrom s (asked.NewState change answer) = IsChangeOf s change
 FollowsFrom s asked = Unit {0}
 
--- the answer, or that the new state is too large
-abbrev pub IsAnswerOrTooLarge : Answer → Answer → Type 0
-IsAnswerOrTooLarge asked given = (given ≡ asked) ⊎ ((size : ℕ) × (given ≡ StateTooLarge size))
+-- the answer, or that numbers are spent, or that the new state is too large
+abbrev pub IsAnswerOrRefused : Answer → Answer → Type 0
+IsAnswerOrRefused asked given = (given ≡ asked) ⊎ ((given ≡ ChangesSpent) ⊎ ((size : ℕ) × (given ≡ StateTooLarge size)))

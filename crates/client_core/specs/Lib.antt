@@ -14,6 +14,7 @@ pub mod NewStates
 pub mod OpenStore
 pub mod Openings
 pub mod OptOuts
+pub mod OutboxSteps
 pub mod Places
 pub mod Prepared
 pub mod ServedValues

@@ -18,6 +18,7 @@ use Rattle.enrol_states.specs.Choices.{has_no_room}
 use Rattle.event_counts.specs.Kept.{counted_in, found}
 use Rattle.event_counts.specs.View.{view_of}
 use Rattle.event_counts.specs.declared.name_counts.NameCounts.{NameCounts}
+use Rattle.change_outbox.specs.Contents.{confirmed}
 use Rattle.fml_types.specs.Coenrolling.{coenrolling}
 use Rattle.fml_types.specs.declared.manifest.Manifest.{Manifest}
 use Rattle.fml_imports.specs.Single.{single}
@@ -28,14 +29,15 @@ use Rattle.enrol_states.specs.Commands.{after_participate, after_opt_out, after_
 use Rattle.enrol_states.specs.Participation.{takes_part}
 use Rattle.enrol_states.specs.Recipes.{has_branch}
 use Rattle.enrol_states.specs.Statuses.{is_enrolled}
+use Rattle.client_state.specs.Following.{appended_changes, is_spent}
 use Rattle.client_state.specs.Spelling.{spelling}
 use Rattle.client_state.specs.Sound.{max_size}
 use Rattle.client_state.specs.declared.client_state.ClientState.{ClientState}
 use Rattle.client_words.specs.declared.command.Command.{Command}
-use Rattle.client_words.specs.declared.command.Command.TheVariants.{Apply, Participate, OptOut, OptIn, Reset, Show, Feature, Fetch, Event, WriteManifest}
+use Rattle.client_words.specs.declared.command.Command.TheVariants.{Apply, Participate, OptOut, OptIn, Reset, Show, Feature, Fetch, Event, Confirm, WriteManifest}
 use Rattle.client_words.specs.declared.command.Command.TheVariants as commands
 use Rattle.client_words.specs.declared.answer.Answer.{Answer}
-use Rattle.client_words.specs.declared.answer.Answer.TheVariants.{Okay, Fetched, Applied, Value, Shown, NoManifest, NoContext, BadContext, NoData, TooManyRecipes, UnknownFeature, OptedOutLimit, NotParticipating, NoSuchExperiment, NoSuchBranch, FeatureTaken, EventLimit, StateTooLarge}
+use Rattle.client_words.specs.declared.answer.Answer.TheVariants.{Okay, Fetched, Applied, Value, Shown, NoManifest, NoContext, BadContext, NoData, TooManyRecipes, UnknownFeature, OptedOutLimit, NotParticipating, NoSuchExperiment, NoSuchBranch, FeatureTaken, EventLimit, NoSuchChange, ChangesSpent, StateTooLarge}
 use Rattle.client_words.specs.declared.answer.Answer.TheVariants as answers
 use Rattle.client_core.specs.declared.session.Session.{Session}
 use Rattle.client_core.specs.Choosing.{first_taker}
@@ -118,9 +120,13 @@ applying now e session (Some manifest) (Some context) = Accepted (applied now e 
 
 -- ---- their state
 
--- the state with another enrolment, and these counts of events
+-- the state with another enrolment, whose changes are in the outbox, and these counts of events
+abbrev pub with_enrolment : ClientState → State → List NameCounts → ClientState
+with_enrolment s e counts = record { enrolment = e; events = counts; outbox = appended_changes s.enrolment e s.outbox }
+
+-- the same, unless the outbox has no numbers for the changes
 abbrev pub whole : ClientState → List NameCounts → EnrolmentOutcome → Outcome
-whole s counts (Accepted e session answer) = Accepted (record s { enrolment = e; events = counts }) session answer
+whole s counts (Accepted e session answer) = if is_spent s.enrolment e s.outbox then Refused ChangesSpent else Accepted (with_enrolment s e counts) session answer
 whole s counts (Refused answer) = Refused answer
 
 -- the counts stay
@@ -140,6 +146,12 @@ has_no_room_for name counts = is_none (found name counts) && nat_le 64 (length c
 -- `event`
 abbrev pub counting : ℕ → ClientState → Session → List ℕ → ℕ → Outcome
 counting now s session name count = if has_no_room_for name s.events then Refused EventLimit else Accepted (record s { events = counted_in name count now s.events }) session Okay
+
+-- ---- the command that confirms
+
+-- `confirm`: a change has the number
+abbrev pub confirming : ClientState → Session → ℕ → Outcome
+confirming s session number = if nat_le s.outbox.next number then Refused (NoSuchChange s.outbox.next) else Accepted (record s { outbox = confirmed number s.outbox }) session Okay
 
 -- ---- commands that change the session alone
 
@@ -166,6 +178,10 @@ shown_answer e = Shown e.id e.experiments e.rollouts (is_some e.pending) e.opted
 
 abbrev pub showing : ClientState → Session → Outcome
 showing s session = Accepted s session (shown_answer s.enrolment)
+
+-- `changes`
+abbrev pub listing_changes : ClientState → Session → Outcome
+listing_changes s session = Accepted s session (answers.Changes s.outbox.entries)
 
 -- `feature`, where the manifest has it
 abbrev pub valued : ClientState → Session → Option TypedValue → Outcome
@@ -197,6 +213,8 @@ outcome at s session Show = showing s session
 outcome at s session (Feature name) = serving s session name session.manifest
 outcome at s session (Fetch file) = enrolling s (fetching s.enrolment session (file_tree file (at.files file)))
 outcome at s session (Event name count) = counting at.now s session name count
+outcome at s session commands.Changes = listing_changes s session
+outcome at s session (Confirm number) = confirming s session number
 outcome at s session WriteManifest = writing_manifest s session session.manifest
 
 -- what a command leaves, and its answer

@@ -13,6 +13,7 @@ ghost use Rattle.client_core.specs.Sessions.{changed_by};
 use crate::prepared::{Change, Prepared};
 use crate::session::{Session, SessionChange};
 use crate::state_store::StateStore;
+use change_outbox::Outbox;
 use client_state::ClientState;
 use enrol_states::State;
 use event_counts::Counts;
@@ -46,6 +47,14 @@ impl Client {
         ensures consistent { IsConsistent (state_of self.now) }
     {
         &self.state().events
+    }
+
+    /// The changes of enrolments that aren't confirmed, and the number of the next one. It takes no memory.
+    pub fn outbox(&self) -> &Outbox
+        ensures outbox { result.now ≡ (state_of self.now).outbox }
+        ensures consistent { IsConsistent (state_of self.now) }
+    {
+        &self.state().outbox
     }
 
     /// The enrolment. It takes no memory.

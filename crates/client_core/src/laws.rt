@@ -3,6 +3,7 @@ ghost use Rattle.std.specs.Prelude.{◌≡◌, ℕ, List};
 ghost use Rattle.client_state.specs.declared.client_state.ClientState.{ClientState};
 ghost use Rattle.client_core.specs.EventSteps.{EventsFollow};
 ghost use Rattle.client_core.specs.OptOuts.{OptOutsHold};
+ghost use Rattle.client_core.specs.OutboxSteps.{OutboxFollows};
 ghost use Rattle.client_core.specs.ServedValues.{ValuesAreServed, ValuesHaveTypes};
 ghost use Rattle.client_core.specs.Soundness.{StepsStaySound};
 ghost use Rattle.client_core.specs.Store.{StandsFor, KeptFor};
@@ -30,6 +31,12 @@ pub fn steps_stay_sound()
 /// A step counts an event that it answers `Okay`, forgets the counts at a reset that it answers so, and else leaves them.
 pub fn events_follow()
     ensures { EventsFollow }
+{}
+
+/// The outbox that a step leaves has the changes of enrolments that the step makes, under the next numbers, and drops those that
+/// it confirms. A confirmation is done only where a change had its number.
+pub fn outbox_follows()
+    ensures { OutboxFollows }
 {}
 
 /// A step is answered a value only where it asks for a feature, and that is the tree of the value which the session's

@@ -4,7 +4,9 @@
 
 mod apply;
 mod asked;
+mod changes;
 mod client;
+mod confirm;
 mod context;
 mod event;
 mod faults;
@@ -32,7 +34,7 @@ mod write_manifest;
 pub use client::Client;
 pub use faults::{ClientFault, MakeFault, StepFault};
 pub use laws::{
-    events_follow, one_state, opt_outs_hold, steps_stay_sound, values_are_served,
+    events_follow, one_state, opt_outs_hold, outbox_follows, steps_stay_sound, values_are_served,
     values_have_types, whole_states_stand,
 };
 pub use prepared::Prepared;

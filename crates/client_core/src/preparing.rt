@@ -7,7 +7,7 @@ ghost use Rattle.client_state.specs.Changes.{state_after, IsChangeOf};
 ghost use Rattle.client_state.specs.Sound.{max_size};
 ghost use Rattle.client_state.specs.Spelling.{spelling};
 ghost use Rattle.client_words.specs.Commands.{IsCommand};
-ghost use Rattle.client_core.specs.Asked.{asked_outcome, answer_for, FollowsFrom, IsAnswerOrTooLarge};
+ghost use Rattle.client_core.specs.Asked.{asked_outcome, answer_for, changed_outcome, FollowsFrom, IsAnswerOrRefused};
 ghost use Rattle.client_core.specs.Commands.{names_file, HasAsked};
 ghost use Rattle.client_core.specs.ServedValues.{IsTyped};
 ghost use Rattle.client_core.specs.Settings.{setting};
@@ -22,7 +22,8 @@ use crate::fetch::fetching;
 use crate::manifest::setting_manifest;
 use crate::prepared::Prepared;
 use crate::session::SessionChange;
-use client_state::StateChange;
+use change_outbox::AppendChangesFault;
+use client_state::{StateChange, follow};
 use client_words::{Answer, Command};
 use host_model::Shelf;
 use jexl_transforms::TransformTable;
@@ -107,27 +108,51 @@ impl Client {
             Command::Feature { name } => Ok(self.serving(alloc, name)?),
             Command::WriteManifest => Ok(self.writing_manifest(alloc)?),
             Command::Event { name, count } => Ok(self.counting(alloc, name, *count, now)?),
+            Command::Changes => Ok(self.listing_changes(alloc)?),
+            Command::Confirm { number } => Ok(self.confirming(alloc, *number)?),
         }
     }
 
-    // The step of what is asked for, unless the new state is too large.
+    // The step of what is asked for, unless numbers of changes are spent or the new state is too large.
     fn done(&mut self, alloc: Global, asked: Asked) -> Result<Prepared, AllocError>
         requires { FollowsFrom (state_of self.old) asked }
         ensures same { IsSameClient self.old self.new }
         ensures made { IfOk result (λ prepared. IsMadeOn self.new prepared) }
         ensures step { IfOk result (λ prepared. Leads self.new prepared (done (state_of self.old) (session_of self.old)
             (asked_outcome (state_of self.old) (session_of self.old) asked))) }
-        ensures answer { IfOk result (λ prepared. IsAnswerOrTooLarge (answer_for asked) (answer_in prepared)) }
+        ensures answer { IfOk result (λ prepared. IsAnswerOrRefused (answer_for asked) (answer_in prepared)) }
     {
         match asked {
-            Asked::NewState { change, answer } => self.changed(alloc, &change, answer),
+            Asked::NewState { change, answer } => self.changed(alloc, change, answer),
             Asked::SameState { change, answer } => Ok(self.unchanged(change, answer)),
             Asked::Refused(refusal) => Ok(self.unchanged(SessionChange::Stays, refusal)),
         }
     }
 
-    // The step to the state after a change, unless it is too large.
+    // The step to the state after a change, with what follows the change: unless numbers are spent, or else the state is too large.
     fn changed(
+        &mut self,
+        alloc: Global,
+        change: StateChange,
+        answer: Answer,
+    ) -> Result<Prepared, AllocError>
+        requires { IsChangeOf (state_of self.old) change }
+        ensures same { IsSameClient self.old self.new }
+        ensures made { IfOk result (λ prepared. IsMadeOn self.new prepared) }
+        ensures step { IfOk result (λ prepared. Leads self.new prepared (done (state_of self.old) (session_of self.old) (changed_outcome (state_of self.old) (session_of self.old) change answer))) }
+        ensures answer { IfOk result (λ prepared. IsAnswerOrRefused answer (answer_in prepared)) }
+    {
+        match follow(alloc, self.state(), change) {
+            Ok(change) => self.changed_to(alloc, &change, answer),
+            Err(AppendChangesFault::ChangesSpent) => {
+                Ok(self.unchanged(SessionChange::Stays, Answer::ChangesSpent))
+            }
+            Err(AppendChangesFault::OutOfMemory) => Err(AllocError),
+        }
+    }
+
+    // The step to the state after a change, unless it is too large.
+    fn changed_to(
         &mut self,
         alloc: Global,
         change: &StateChange,
@@ -137,7 +162,7 @@ impl Client {
         ensures same { IsSameClient self.old self.new }
         ensures made { IfOk result (λ prepared. IsMadeOn self.new prepared) }
         ensures step { IfOk result (λ prepared. Leads self.new prepared (done (state_of self.old) (session_of self.old) (Accepted (state_after change.now (state_of self.old)) (session_of self.old) answer))) }
-        ensures answer { IfOk result (λ prepared. IsAnswerOrTooLarge answer (answer_in prepared)) }
+        ensures answer { IfOk result (λ prepared. IsAnswerOrRefused answer (answer_in prepared)) }
     {
         match self.store.sized(change)? {
             Ok(next) => Ok(Prepared {
