@@ -44,6 +44,8 @@ counts_noted now (commands.OptIn slug branch) es = refl
 counts_noted now commands.Show es = refl
 counts_noted now (commands.Feature name) es = refl
 counts_noted now commands.WriteManifest es = refl
+counts_noted now commands.Changes es = refl
+counts_noted now (commands.Confirm number) es = refl
 
 -- one that is not done makes nothing of them
 counts_stay : (now : ℕ) (command : Command) (ns : List NameCounts) → counts_then now command false ns ≡ ns
@@ -59,6 +61,8 @@ counts_stay now (commands.OptIn slug branch) ns = refl
 counts_stay now commands.Show ns = refl
 counts_stay now (commands.Feature name) ns = refl
 counts_stay now commands.WriteManifest ns = refl
+counts_stay now commands.Changes ns = refl
+counts_stay now (commands.Confirm number) ns = refl
 
 -- ---- a line
 

@@ -17,6 +17,7 @@ mod MadeStores
 mod Manifests
 mod Opened
 mod OptOuts
+mod Outboxes
 mod Outcomes
 mod Placing
 mod Running

@@ -1,6 +1,6 @@
 -- Which manifest a run has set.
 use Rattle.std.proofs.Common.{◌≡◌, ◌⊎◌, inl, inr, ⊎_elim, ℕ, zero, suc, ◌<◌, ◌≤◌, ◌+◌, Bool, true, false, List, [], length, get_or, refl, sym, ◌∙◌, ap, subst, arith, below_more, Option, Some, None, Result, Ok, Err}
-use Rattle.std.specs.Prelude.{nat_lt, slice_get, if◌then◌else◌}
+use Rattle.std.specs.Prelude.{nat_le, nat_lt, slice_get, if◌then◌else◌}
 use Rattle.std.proofs.lemmas.List.{take_more}
 use Rattle.std.proofs.lemmas.Option.{slice_get-get_or}
 use Rattle.json_tree.specs.Json.{Json}
@@ -18,18 +18,20 @@ use Rattle.enrol_states.specs.Commands.{after_opt_out}
 use Rattle.enrol_states.specs.Participation.{takes_part}
 use Rattle.enrol_states.specs.Recipes.{has_branch}
 use Rattle.enrol_states.specs.declared.state.State.{State}
+use Rattle.change_outbox.specs.Contents.{confirmed}
 use Rattle.event_counts.specs.Kept.{counted_in}
 use Rattle.event_counts.specs.declared.name_counts.NameCounts.{NameCounts}
 use Rattle.client_state.specs.declared.client_state.ClientState.{ClientState}
+use Rattle.client_state.specs.Following.{is_spent}
 use Rattle.client_state.specs.Sound.{max_size}
 use Rattle.client_state.specs.Spelling.{spelling}
 use Rattle.fml_types.specs.declared.manifest.Manifest.{Manifest}
 use Rattle.fml_value.specs.Typed.{TypedValue}
 use Rattle.feature_serving.specs.Serving.{served}
 use Rattle.client_words.specs.declared.answer.Answer.{Answer}
-use Rattle.client_words.specs.declared.answer.Answer.TheVariants.{Okay, OptedOutLimit, NotParticipating, NoSuchBranch, EventLimit, StateTooLarge}
+use Rattle.client_words.specs.declared.answer.Answer.TheVariants.{Okay, OptedOutLimit, NotParticipating, NoSuchBranch, EventLimit, NoSuchChange, ChangesSpent, StateTooLarge}
 use Rattle.client_words.specs.declared.command.Command.{Command}
-use Rattle.client_words.specs.declared.command.Command.TheVariants.{Fetch, Apply, Participate, OptOut, OptIn, Reset, Show, Feature, Event, WriteManifest}
+use Rattle.client_words.specs.declared.command.Command.TheVariants.{Fetch, Apply, Participate, OptOut, OptIn, Reset, Show, Feature, Event, Confirm, WriteManifest}
 use Rattle.client_words.specs.declared.command.Command.TheVariants as commands
 use Rattle.client_core.specs.declared.session.Session.{Session}
 use Rattle.client_core.specs.Choosing.{first_taker}
@@ -37,7 +39,7 @@ use Rattle.client_core.specs.Fetching.{file_tree}
 use Rattle.client_core.specs.Manifests.{manifest_of}
 use Rattle.client_core.specs.Sessions.{with_manifest}
 use Rattle.client_core.specs.Settings.{Setting}
-use Rattle.client_core.specs.Steps.{OutcomeOver, EnrolmentOutcome, Outcome, Accepted, Refused, Step, whole, enrolling, seeing, has_no_room_for, counting, participation, opting_out, taking, offering, choosing, opting_in, resetting, showing, fetched, fetching, context_read, reading_context, setting_manifest, applying, valued, serving, writing_manifest, done, step}
+use Rattle.client_core.specs.Steps.{OutcomeOver, EnrolmentOutcome, Outcome, Accepted, Refused, Step, with_enrolment, whole, enrolling, seeing, has_no_room_for, counting, confirming, participation, opting_out, taking, offering, choosing, opting_in, resetting, showing, listing_changes, fetched, fetching, context_read, reading_context, setting_manifest, applying, valued, serving, writing_manifest, done, step}
 use Rattle.client_words.specs.declared.line.LineFault.{LineFault}
 use Rattle.client_words.specs.Commands.{command_of}
 use Rattle.session_run.specs.Steps.{RunState, run_after, effect, run_at}
@@ -83,8 +85,13 @@ module _ (at : Setting) (s : ClientState) (session : Session) where
   done-keeps (Accepted t next answer) keeps = either_step (λ to. to.session.manifest ≡ session.manifest) (nat_lt max_size (length (spelling t))) _ _ refl keeps
   done-keeps (Refused answer) keeps = refl
 
+  -- whether the outbox has numbers for the changes or not
+  spent-keeps : (t : ClientState) (next : Session) (answer : Answer) (spent : Bool) → next.manifest ≡ session.manifest → Keeps {S = ClientState} (if spent then Refused ChangesSpent else Accepted t next answer)
+  spent-keeps t next answer true keeps = tt
+  spent-keeps t next answer false keeps = keeps
+
   whole-keeps : (counts : List NameCounts) (asked : EnrolmentOutcome) → Keeps asked → Keeps (whole s counts asked)
-  whole-keeps counts (Accepted e next answer) keeps = keeps
+  whole-keeps counts (Accepted e next answer) keeps = spent-keeps (with_enrolment s e counts) next answer (is_spent s.enrolment e s.outbox) keeps
   whole-keeps counts (Refused answer) keeps = tt
 
   -- where the counts stay
@@ -151,6 +158,10 @@ module _ (at : Setting) (s : ClientState) (session : Session) where
   count-keeps name count true = tt
   count-keeps name count false = refl
 
+  confirm-keeps : (number : ℕ) (unknown : Bool) → Keeps {S = ClientState} (if unknown then Refused (NoSuchChange s.outbox.next) else Accepted (record s { outbox = confirmed number s.outbox }) session Okay)
+  confirm-keeps number true = tt
+  confirm-keeps number false = refl
+
   -- a command that is no `manifest` stays
   stays : (command : Command) (m : Manifest) → ((file channel : List ℕ) → command ≡ commands.Manifest file channel → ⊥) → (step at s session command).session.manifest ≡ session.manifest
       → (step at s session command).session.manifest ≡ Some m → SetsOrStays at s session command m
@@ -198,10 +209,12 @@ module _ (at : Setting) (s : ClientState) (session : Session) where
   sets_or_stays (Participate part on) m is = stays (Participate part on) m (λ f c e. cc) (enrolling-keeps (participation s.enrolment session part on) refl) is
   sets_or_stays (OptOut slug) m is = stays (OptOut slug) m (λ f c e. cc) (enrolling-keeps (opting_out s.enrolment session slug) (out-keeps slug (has_no_room s.enrolment.opted_out slug))) is
   sets_or_stays (OptIn slug branch) m is = stays (OptIn slug branch) m (λ f c e. cc) (enrolling-keeps (opting_in s.enrolment session slug branch) (choosing-keeps slug branch (recipe_with slug s.enrolment.live))) is
-  sets_or_stays (Reset id) m is = stays (Reset id) m (λ f c e. cc) (done-keeps (whole s [] (resetting s.enrolment session id)) refl) is
+  sets_or_stays (Reset id) m is = stays (Reset id) m (λ f c e. cc) (done-keeps (whole s [] (resetting s.enrolment session id)) (whole-keeps [] (resetting s.enrolment session id) refl)) is
   sets_or_stays Show m is = stays Show m (λ f c e. cc) (done-keeps (showing s session) refl) is
   sets_or_stays (Feature name) m is = stays (Feature name) m (λ f c e. cc) (done-keeps (serving s session name session.manifest) (feature-keeps name session.manifest)) is
   sets_or_stays (Event name count) m is = stays (Event name count) m (λ f c e. cc) (done-keeps (counting at.now s session name count) (count-keeps name count (has_no_room_for name s.events))) is
+  sets_or_stays commands.Changes m is = stays commands.Changes m (λ f c e. cc) (done-keeps (listing_changes s session) refl) is
+  sets_or_stays (Confirm number) m is = stays (Confirm number) m (λ f c e. cc) (done-keeps (confirming s session number) (confirm-keeps number (nat_le s.outbox.next number))) is
   sets_or_stays WriteManifest m is = stays WriteManifest m (λ f c e. cc) (done-keeps (writing_manifest s session session.manifest) (written-keeps session.manifest)) is
 
 -- ---- one line

@@ -6,16 +6,17 @@ use Rattle.json_tree.specs.Bytes.{text_of}
 use Rattle.json_tree.specs.Tree.{json_of}
 use Rattle.json_tree.specs.declared.tree.Tree.{Tree}
 use Rattle.enrol_states.specs.Statuses.{last_moment}
+use Rattle.change_outbox.specs.declared.change.Change.{Change}
 use Rattle.client_state.specs.Sound.{IsSound}
 use Rattle.client_words.specs.declared.answer.Answer.{Answer}
-use Rattle.client_words.specs.declared.answer.Answer.TheVariants.{Okay, Fetched, Applied, Value, Shown, Manifest}
+use Rattle.client_words.specs.declared.answer.Answer.TheVariants.{Okay, Fetched, Applied, Value, Shown, Manifest, Changes}
 use Rattle.client_words.specs.declared.command.Command.{Command}
 use Rattle.client_core.specs.Settings.{Setting}
 use Rattle.client_core.specs.Steps.{step}
 use Rattle.client_core.proofs.ServedValues.{values_have_types}
 use Rattle.client_words.specs.declared.line.LineFault.{LineFault}
 use Rattle.client_words.specs.declared.line.LineFault.TheVariants.{Blank, OutOfMemory}
-use Rattle.client_words.specs.Answers.{answer_lines, fetched_lines, shown_lines}
+use Rattle.client_words.specs.Answers.{answer_lines, change_line, changes_lines, fetched_lines, shown_lines}
 use Rattle.client_words.specs.Commands.{command_of}
 use Rattle.session_run.specs.Runs.{ServesValues}
 use Rattle.session_run.specs.Starts.{Start}
@@ -42,6 +43,12 @@ record IsValue (answer : Answer) (text : List ℕ) : Type 0 where
 same_text : (a b : List ℕ) → value_line a ≡ value_line b → a ≡ b
 same_text a b is = append_cancel_left (codes "value ") a b (append_cancel_right (codes "value " ++ a) (codes "value " ++ b) (10 ∷ []) is)
 
+-- changes begin with `c`, and where there are none with `e`
+changes_apart : {P : Type 0} (changes : List Change) (text : List ℕ) → changes_lines changes ≡ value_line text → P
+unfolding changes_lines change_line
+changes_apart [] text is = apart 101 (omega arith) (ap first is)
+changes_apart (change ∷ changes) text is = apart 99 (omega arith) (ap first is)
+
 -- no other answer begins with `v`
 value_in : (answer : Answer) (text : List ℕ) → answer_lines answer ≡ value_line text → IsValue answer text
 unfolding answer_lines fetched_lines shown_lines
@@ -51,6 +58,7 @@ value_in (Fetched kept skipped) text is = apart 102 (omega arith) (ap first is)
 value_in (Applied enrolled rows) text is = apart 97 (omega arith) (ap first is)
 value_in (Shown id experiments rollouts pending opted_out rows) text is = apart 105 (omega arith) (ap first is)
 value_in (Manifest tree) text is = apart 109 (omega arith) (ap first is)
+value_in (Changes changes) text is = changes_apart changes text is
 value_in refusal text is = apart 114 (omega arith) (ap first is)
 
 -- the line has a command that is answered a value

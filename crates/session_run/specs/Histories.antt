@@ -16,6 +16,10 @@ pub record Turn : Type 0 where
   pub run : RunState
   pub line : List ℕ
 
+-- what it leaves
+abbrev pub turned : Turn → RunState
+turned turn = run_after turn.at turn.run turn.line
+
 -- these lines, the first of which comes to this run
 abbrev pub turns_of : Setting → RunState → List (List ℕ) → List Turn
 turns_of at run [] = []

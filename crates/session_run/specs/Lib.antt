@@ -12,6 +12,7 @@ pub mod Lines
 pub mod Making
 pub mod Moments
 pub mod OptOuts
+pub mod OutboxChains
 pub mod Places
 pub mod Runs
 pub mod Starts

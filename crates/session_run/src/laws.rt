@@ -8,6 +8,7 @@ ghost use Rattle.client_core.specs.Store.{KeptFor};
 ghost use Rattle.session_run.specs.Chains.{Link, IsChain, EndsKept, folded, MomentsAreLinks, IsHeldOutOver};
 ghost use Rattle.session_run.specs.EventChains.{EventsAreKept};
 ghost use Rattle.session_run.specs.OptOuts.{IsHeldOut, IsOut};
+ghost use Rattle.session_run.specs.OutboxChains.{OutboxIsKept};
 ghost use Rattle.session_run.specs.Runs.{ServesValues};
 ghost use Rattle.session_run.specs.Starts.{Start};
 ghost use Rattle.session_run.specs.Steps.{after};
@@ -34,6 +35,14 @@ pub fn kept_chain()
 /// last `reset` that was.
 pub fn event_chain()
     ensures { EventsAreKept }
+{}
+
+/// After any runs and crashes, from a store whose outbox was new, the outbox of the store holds exactly those changes of
+/// enrolments of the lines that counted, numbered from 1 run by run, that are above the greatest number of a `confirm` which
+/// was answered `ok`. Its next number is one above how many changes there were. So each change is told until it is
+/// confirmed, under one number, and none is told of a line that a crash undid.
+pub fn outbox_chain()
+    ensures { OutboxIsKept }
 {}
 
 /// From a sound state each line of a run leaves a sound state.
