@@ -32,6 +32,8 @@ commands of `nimbus run`:
   opt-in SLUG BRANCH     enrols the client in this branch of the slug's recipe
   reset ID               gives the client another id, with no rows, no opt-outs and no events
   event NAME COUNT       counts that the user did this so many times, from 1 to 1000000, for targeting
+  changes                prints each join and leave of a branch that isn't confirmed, with its number
+  confirm NUMBER         confirms the changes up to this one
   feature NAME           prints the value that the feature has
   show                   prints the state
   write-manifest         prints the manifest as one file

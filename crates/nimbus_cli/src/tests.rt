@@ -20,7 +20,9 @@ const FORMS: &str = "nimbus init ID\n\
     feature NAME\n\
     show\n\
     write-manifest\n\
-    event NAME COUNT";
+    event NAME COUNT\n\
+    changes\n\
+    confirm NUMBER";
 
 // A line of the text begins with this.
 fn has_line(text: &str, front: &str) -> bool {
