@@ -7,6 +7,9 @@ use Rattle.client_core.specs.Settings.{setting}
 use Rattle.client_core.specs.Store.{IsStore}
 use Rattle.client_words.specs.Commands.{IsWithin, bytes_at, lines_of}
 use Rattle.client_words.proofs.Within.{lines-within, lines_at}
+use Rattle.std.proofs.lemmas.Result.{IfErr-at_err}
+use Rattle.session_run.specs.declared.faults.RunFault.{RunFault}
+use Rattle.session_run.specs.declared.faults.RunFault.TheVariants as faults
 use Rattle.session_run.specs.declared.status.RunStatus.{RunStatus}
 use Rattle.session_run.specs.declared.status.RunStatus.TheVariants.{Done, OutOfMemory}
 use Rattle.session_run.specs.FaultCauses.{IsStatusOf, HasShelfCauses, HasHostCauses}
@@ -153,6 +156,18 @@ returns-clause-is_of g c = subst IsOfLines (sym c.into-in-Err.ensures) (store_is
 
 pub run_lines-requires-clause-holds : goal.run_lines-requires-clause-holds
 run_lines-requires-clause-holds g c tells = (c.in-Ok-open.ensures.ends tells).open_on
+
+-- ---- no fault is Done
+
+run_not_done : (f : RunFault) → of_run f ≡ Done → ⊥
+run_not_done faults.ShelfFault is = absurd cc
+run_not_done faults.DiskFault is = absurd cc
+run_not_done faults.SayFault is = absurd cc
+run_not_done faults.OutOfMemory is = absurd cc
+
+pub returns-in-Ok-open-clause-not_done : goal.returns-in-Ok-open-clause-not_done
+returns-in-Ok-open-clause-not_done g c is =
+    run_not_done c.in-Err-run_lines.fault (sym (IfErr-at_err (λ (status : RunStatus). status ≡ of_run c.in-Err-run_lines.fault) is c.into.ensures))
 
 -- ---- the causes
 
