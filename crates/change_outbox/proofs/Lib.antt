@@ -1,5 +1,6 @@
 pub mod ByteOrder
 pub mod Numbers
+pub mod Parts
 pub mod EntryTurns
 pub mod RowSizes
 pub mod RowsOfNext

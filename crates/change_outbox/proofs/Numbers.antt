@@ -5,7 +5,7 @@ use Rattle.std.proofs.Math.Seq.{drop-nil}
 use Rattle.std.proofs.lemmas.Bool.{cases_lt, lt-ltb, le-ltb}
 use Rattle.std.proofs.lemmas.List.{length-append, length-drop}
 use Rattle.change_outbox.specs.declared.change.Change.{Change}
-use Rattle.change_outbox.specs.Contents.{Contents, AreNumberedFrom, HasSlugs, HaveSlugs, IsNumbered, IsSound, last_number, no_changes, numbered, appended, above, confirmed}
+use Rattle.change_outbox.specs.Contents.{Contents, AreNumberedFrom, HaveSlugs, IsNumbered, IsSound, last_number, no_changes, numbered, appended, above, confirmed}
 
 pub from : (m n : ℕ) (cs : List Change) → m ≡ n → AreNumberedFrom m cs → AreNumberedFrom n cs
 from m n cs same are = subst (λ k. AreNumberedFrom k cs) same are

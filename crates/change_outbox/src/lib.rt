@@ -3,6 +3,7 @@
 #![tactic(auto)]
 
 mod change;
+mod entries;
 mod entry_changes;
 mod fault;
 mod laws;

@@ -1,10 +1,11 @@
 // The outbox: numbered changes that a host application hasn't confirmed yet.
-ghost use Rattle.std.specs.Prelude.{◌≡◌, ◌≤◌, ◌<◌, ◌+◌, ◌-◌, ◌^◌, ◌++◌, ◌∷◌, [], ◌↔◌, ℕ, drop, length, IfOk, IsErrOf, OnOk};
-ghost use Rattle.change_outbox.specs.Contents.{HasSlugs, HaveSlugs, IsSound, appended, confirmed, last_number, no_changes, numbered};
+ghost use Rattle.std.specs.Prelude.{◌≡◌, ◌≤◌, ◌<◌, ◌+◌, ◌↔◌, ℕ, length, IfOk, IsErrOf};
+ghost use Rattle.change_outbox.specs.Contents.{IsSound, appended, confirmed, last_number, no_changes};
 
 use crate::change::Change;
+use crate::entries::Entries;
 use crate::fault::{AppendChangesFault, ConfirmFault};
-use sequences::{ExactClone, Sequence, SharedList};
+use sequences::{ExactClone, Sequence};
 use std::alloc::{AllocError, Global};
 use std::marker::Model;
 
@@ -12,11 +13,12 @@ use std::marker::Model;
 pub const LAST_NUMBER: u64 = 9_223_372_036_854_775_807;
 
 /// The changes that a host application hasn't confirmed yet. Their numbers rise by one, from 1 in a new store, and are never
-/// given twice. Contracts see the next number and the entries. A clone shares the entries.
+/// given twice. Contracts see the next number and the entries. A clone shares the entries, and so does
+/// the outbox that an append or a confirmation makes.
 #[derive(Drop)]
 pub struct Outbox {
     next: u64,
-    entries: SharedList<Change>,
+    entries: Entries,
 }
 
 impl Model for Outbox {
@@ -52,7 +54,7 @@ impl Outbox {
     {
         Outbox {
             next: 1,
-            entries: SharedList::new(alloc),
+            entries: Entries::new(alloc),
         }
     }
 
@@ -72,27 +74,29 @@ impl Outbox {
         self.entries.as_slice()
     }
 
-    /// The outbox with the changes behind its entries, under the next numbers; the numbers that they had don't matter.
-    /// `ChangesSpent` comes exactly where the next number would pass 9,223,372,036,854,775,807. The entries' texts are shared.
-    pub fn appended(&self, changes: Sequence<Change>) -> Result<Outbox, AppendChangesFault>
-        ensures ok { IfOk result (λ outbox. outbox ≡ appended changes self.now) }
-        ensures spent { IsErrOf result AppendChangesFault.ChangesSpent ↔ (last_number < self.now.next + length changes) }
+    /// The outbox with the changes behind its entries, under the next numbers; the numbers that they had don't matter. This one
+    /// stays the same. `ChangesSpent` comes exactly where the next number would pass 9,223,372,036,854,775,807. Entries are copied
+    /// only where a further outbox shares them, or where more of them were confirmed than are left.
+    pub fn appended(&mut self, changes: Sequence<Change>) -> Result<Outbox, AppendChangesFault>
+        ensures same { self.new ≡ self.old }
+        ensures ok { IfOk result (λ outbox. outbox ≡ appended changes self.old) }
+        ensures spent { IsErrOf result AppendChangesFault.ChangesSpent ↔ (last_number < self.old.next + length changes) }
     {
-        let count = changes.len();
-        if count as u64 > LAST_NUMBER - self.next {
+        let next = self.next;
+        let count = changes.len() as u64;
+        if count > LAST_NUMBER - next {
             return Err(AppendChangesFault::ChangesSpent);
         }
-        let mut entries = self.entries.clone()?;
-        push_numbered(&mut entries, self.next, changes)?;
+        let entries = self.entries.appended(next, changes)?;
         Ok(Outbox {
-            next: self.next + count as u64,
+            next: next + count,
             entries,
         })
     }
 
     /// The outbox without the entries up to the number; where they were confirmed already it is the same. `NoSuchChange` comes
-    /// exactly where no change has the number yet, and says the next number. The entries' texts are shared.
-    pub fn confirmed(&self, alloc: Global, number: u64) -> Result<Outbox, ConfirmFault>
+    /// exactly where no change has the number yet, and says the next number. It takes no memory.
+    pub fn confirmed(&self, number: u64) -> Result<Outbox, ConfirmFault>
         ensures ok { IfOk result (λ outbox. outbox ≡ confirmed number self.now) }
         ensures none { (next : ℕ) → IsErrOf result (ConfirmFault.NoSuchChange next) ↔ ((next ≡ self.now.next) × (self.now.next ≤ number)) }
     {
@@ -101,14 +105,13 @@ impl Outbox {
             return Err(ConfirmFault::NoSuchChange(next));
         }
         let left = next - 1 - number;
-        let entries = self.entries();
-        if left >= entries.len() as u64 {
+        let count = self.entries().len();
+        if left >= count as u64 {
             return Ok(self.clone()?);
         }
-        let last = last_of(entries, left as usize);
         Ok(Outbox {
             next,
-            entries: copies(alloc, last)?,
+            entries: self.entries.without_first(count - left as usize)?,
         })
     }
 
@@ -123,54 +126,7 @@ impl Outbox {
     {
         Ok(Outbox {
             next,
-            entries: SharedList::from_sequence(alloc, Sequence::from_vec(entries))?,
+            entries: Entries::from_vec(alloc, entries)?,
         })
     }
-}
-
-// So many of the last changes.
-fn last_of(changes: &[Change], count: usize) -> &[Change]
-    requires { count ≤ length changes.now }
-    ensures { result.now ≡ drop (length changes.now - count) changes.now }
-{
-    &changes[changes.len() - count..]
-}
-
-// The changes in a list of their own.
-fn copies(alloc: Global, changes: &[Change]) -> Result<SharedList<Change>, AllocError>
-    ensures { IfOk result (λ list. list ≡ changes.now) }
-{
-    SharedList::from_sequence(alloc, Sequence::from_vec(changes.to_vec(alloc)?))
-}
-
-// Adds the changes, with numbers from this one on.
-fn push_numbered(
-    entries: &mut SharedList<Change>,
-    first: u64,
-    changes: Sequence<Change>,
-) -> Result<(), AllocError>
-    requires { first + length changes < 2 ^ 64 }
-    ensures entries { OnOk result (entries.new ≡ entries.old ++ numbered first changes) }
-    ensures slugs { OnOk result (HaveSlugs changes) }
-{
-    let mut number = first;
-    for change in changes.into_vec() {
-        push_change(entries, number, change)?;
-        number += 1;
-    }
-    Ok(())
-}
-
-// Adds a change under a number.
-fn push_change(
-    entries: &mut SharedList<Change>,
-    number: u64,
-    change: Change,
-) -> Result<(), AllocError>
-    ensures entries { OnOk result (entries.new ≡ entries.old ++ record change { number = number } ∷ []) }
-    ensures slugs { OnOk result (HasSlugs change) }
-{
-    let _slug = change.slug.text();
-    let _branch = change.branch.text();
-    entries.push(Change { number, ..change })
 }

@@ -9,12 +9,25 @@ use sequences::Sequence;
 use std::alloc::Global;
 
 /// The answers, and what the outbox then has. Row: actions with semicolons between them, which begin with a new outbox or with
-/// that of the rows that are given. An action is `append` and changes with commas between them, or `confirm` and a number.
+/// that of the rows that are given. An action is `append` and changes with commas between them, `prepare` and changes, which are
+/// appended without taking the outbox that this makes, or `confirm` and a number.
 pub(crate) fn outbox_after(alloc: Global, given: &str, input: &str) -> Result<String> {
     let mut outbox = given_outbox(alloc, given)?;
     let answers = act_all(alloc, &mut outbox, input)?;
     let left = outbox_text(alloc, &outbox)?;
     Ok(format!(in alloc; "{answers}; {left}")?)
+}
+
+/// What an outbox has after an append to it, and what the outbox that this makes has. Row: actions with semicolons between them,
+/// and behind ` | ` the changes that are then appended, with commas between them.
+pub(crate) fn both_after_append(alloc: Global, given: &str, input: &str) -> Result<String> {
+    let (actions, changes) = halves(input, " | ")?;
+    let mut outbox = given_outbox(alloc, given)?;
+    act_all(alloc, &mut outbox, actions)?;
+    let next = appended(alloc, &mut outbox, changes)?.context("no outbox")?;
+    let before = outbox_text(alloc, &outbox)?;
+    let after = outbox_text(alloc, &next)?;
+    Ok(format!(in alloc; "{before}; {after}")?)
 }
 
 /// Does the actions one after the other, and gives their answers.
@@ -31,26 +44,43 @@ fn act(alloc: Global, outbox: &mut Outbox, action: &str) -> Result<String> {
     let (verb, rest) = halves(action, " ")?;
     match verb {
         "append" => append(alloc, outbox, rest),
+        "prepare" => prepare(alloc, outbox, rest),
         "confirm" => confirm(alloc, outbox, rest),
         _ => bail!("no action: {action}"),
     }
 }
 
 fn append(alloc: Global, outbox: &mut Outbox, changes: &str) -> Result<String> {
-    let answer = match outbox.appended(changes_of(alloc, changes)?) {
-        Ok(next) => {
+    let answer = match appended(alloc, outbox, changes)? {
+        Some(next) => {
             *outbox = next;
             "ok"
         }
-        Err(AppendChangesFault::ChangesSpent) => "ChangesSpent",
-        Err(AppendChangesFault::OutOfMemory) => bail!("out of memory"),
+        None => "ChangesSpent",
     };
     Ok(String::from_str(alloc, answer)?)
 }
 
+fn prepare(alloc: Global, outbox: &mut Outbox, changes: &str) -> Result<String> {
+    let answer = match appended(alloc, outbox, changes)? {
+        Some(_) => "ok",
+        None => "ChangesSpent",
+    };
+    Ok(String::from_str(alloc, answer)?)
+}
+
+// The outbox with the changes that a text names behind its own, or none where the numbers are spent.
+fn appended(alloc: Global, outbox: &mut Outbox, changes: &str) -> Result<Option<Outbox>> {
+    match outbox.appended(changes_of(alloc, changes)?) {
+        Ok(next) => Ok(Some(next)),
+        Err(AppendChangesFault::ChangesSpent) => Ok(None),
+        Err(AppendChangesFault::OutOfMemory) => bail!("out of memory"),
+    }
+}
+
 fn confirm(alloc: Global, outbox: &mut Outbox, number: &str) -> Result<String> {
     let number = read_number(number.as_bytes()).context("no number")?;
-    Ok(match outbox.confirmed(alloc, number) {
+    Ok(match outbox.confirmed(number) {
         Ok(next) => {
             *outbox = next;
             String::from_str(alloc, "ok")?

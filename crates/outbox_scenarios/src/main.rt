@@ -21,6 +21,7 @@ fn found(alloc: Global, kind: &str, given: &str, input: &str) -> Result<String> 
     match kind {
         "changes" => slug_changes::changes_between(alloc, input),
         "actions" => actions::outbox_after(alloc, given, input),
+        "both" => actions::both_after_append(alloc, given, input),
         "rows" => stored::outbox_in(alloc, input),
         "row_changes" => stored::row_changes_after(alloc, given, input),
         "spelled" => stored::rows_after(alloc, input),
