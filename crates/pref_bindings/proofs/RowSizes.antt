@@ -1,12 +1,12 @@
 -- How many bytes the puts of preferences' rows have.
-use Rattle.std.proofs.Common.{◌≡◌, ◌+◌, ◌<◌, ◌≤◌, ◌++◌, ◌∷◌, [], List, ℕ, zero, suc, map, length, length-append, get_or, take, Option, Some, None, refl, ap, ◌∙◌, sym, arith}
+use Rattle.std.proofs.Common.{◌≡◌, ◌+◌, ◌<◌, ◌≤◌, ◌++◌, ◌∷◌, [], List, ℕ, zero, suc, length, length-append, get_or, take, Option, Some, None, refl, ap, ◌∙◌, sym, arith}
 use Rattle.std.proofs.lemmas.List.{take_more}
 use Rattle.row_batches.proofs.Sizes.{put_size, puts_size-append}
 use Rattle.row_batches.specs.Batch.{puts_text}
 use Rattle.pref_bindings.specs.declared.preference.Hold.{Hold}
 use Rattle.pref_bindings.specs.declared.preference.Preference.{Preference}
 use Rattle.pref_bindings.specs.Rows.{before_text, hold_row, hold_rows, rows_of, value_row, value_rows}
-use Rattle.pref_bindings.specs.Sizes.{hold_row_size, hold_size, preference_size}
+use Rattle.pref_bindings.specs.Sizes.{hold_row_size, preference_size}
 
 -- the rows of all preferences
 abbrev pub preferences_size : List Preference → ℕ

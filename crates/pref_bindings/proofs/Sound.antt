@@ -42,7 +42,7 @@ with_at q p ps Less e rise rest = ((e, above_trans q.name p.name (names_of ps) e
 with_at q p ps Equal e rise rest = (above_same p.name q.name (names_of ps) (sym (same_texts q.name p.name e)) rise.0, rise.1)
 with_at q p ps Greater e rise rest = (above_with p.name q ps (turned_down q.name p.name e) rise.0, rest)
 
-rise_with : (q : Preference) (ps : List Preference) → Rise (names_of ps) → Rise (names_of (with_preference q ps))
+pub rise_with : (q : Preference) (ps : List Preference) → Rise (names_of ps) → Rise (names_of (with_preference q ps))
 unfolding IsStrictlySortedBy
 rise_with q [] rise = (tt, tt)
 rise_with q (p ∷ ps) rise = with_at q p ps (slug_cmp q.name p.name) refl rise (rise_with q ps rise.1)
@@ -71,7 +71,7 @@ without_at name p ps Less rise rest = rise
 without_at name p ps Equal rise rest = rise.1
 without_at name p ps Greater rise rest = (above_without p.name name ps rise.0, rest)
 
-rise_without : (name : List ℕ) (ps : List Preference) → Rise (names_of ps) → Rise (names_of (without_name name ps))
+pub rise_without : (name : List ℕ) (ps : List Preference) → Rise (names_of ps) → Rise (names_of (without_name name ps))
 unfolding IsStrictlySortedBy
 rise_without name [] rise = tt
 rise_without name (p ∷ ps) rise = without_at name p ps (slug_cmp name p.name) rise (rise_without name ps rise.1)
@@ -122,7 +122,7 @@ one_at slug v p ps Equal e rise rest =
     (above_same p.name (joined_at slug v p).name (names_of ps) (sym (at_name (is_held p.hold) slug v p (sym (same_texts v.0 p.name e)))) rise.0, rise.1)
 one_at slug v p ps Greater e rise rest = (above_one p.name slug v ps (turned_down v.0 p.name e) rise.0, rest)
 
-rise_one : (slug : List ℕ) (v : Setting) (ps : List Preference) → Rise (names_of ps) → Rise (names_of (joined_one slug v ps))
+pub rise_one : (slug : List ℕ) (v : Setting) (ps : List Preference) → Rise (names_of ps) → Rise (names_of (joined_one slug v ps))
 unfolding IsStrictlySortedBy
 rise_one slug v [] rise = (tt, tt)
 rise_one slug v (p ∷ ps) rise = one_at slug v p ps (slug_cmp v.0 p.name) refl rise (rise_one slug v ps rise.1)

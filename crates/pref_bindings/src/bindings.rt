@@ -47,18 +47,11 @@ impl Model for Bindings {
 
 impl Bindings {
     /// Takes over bindings, with no memory.
-    pub fn from_sequence(bindings: Sequence<Binding>) -> Bindings
+    pub(crate) fn from_sequence(bindings: Sequence<Binding>) -> Bindings
         requires { AreBindings bindings }
         ensures { result ≡ bindings }
     {
         Bindings { bindings }
-    }
-
-    /// Gives the bindings back, with no memory.
-    pub fn into_sequence(self) -> Sequence<Binding>
-        ensures { result ≡ self }
-    {
-        self.bindings
     }
 
     /// The bindings. It takes no memory.

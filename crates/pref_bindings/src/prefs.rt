@@ -1,26 +1,36 @@
 // The preferences that have a value.
-ghost use Rattle.std.specs.Prelude.{◌≡◌, [], ⊤, IfOk, IsTrue, MatchOption, None, Some, option_map};
+ghost use Rattle.std.specs.Prelude.{◌≡◌, ◌≤◌, ◌^◌, [], ⊤, length, IfOk, IsTrue, MatchOption, None, Some, option_map};
 ghost use Rattle.plain_text.specs.Names.{is_name};
+ghost use Rattle.row_batches.specs.Batch.{puts_text};
 ghost use Rattle.pref_bindings.specs.Changes.{AreSettings, joined, left, set_by_user};
 ghost use Rattle.pref_bindings.specs.Preferences.{IsSound, IsValue, found, holder_of, value_of};
+ghost use Rattle.pref_bindings.specs.Rows.{rows_of};
 
 use crate::joining::joined;
 use crate::leaving::left;
 use crate::preference::Preference;
 use crate::setting::{users_preference, with_preference, without_name};
+use crate::size::preferences_size;
 use json_tree::Tree;
 use plain_text::Slug;
 use sequences::{ExactClone, Sequence, SharedList, Text};
 use std::alloc::{AllocError, Global};
 use std::marker::Model;
 
+// The most bytes that the puts of the rows of preferences have.
+const MOST_BYTES: u128 = 1 << 100;
+
 /// The preferences that have a value, in order by name. Contracts see it as their list. A clone shares the list.
 ///
 /// A recipe's slug that sets a preference holds it until it leaves, and the value of before is kept as long. One that is held
 /// isn't set by another slug.
+///
+/// The size of their rows is counted when they are made: more than 2^100 bytes of rows are want of memory.
 #[derive(Drop)]
 pub struct Prefs {
     preferences: SharedList<Preference>,
+    // How many bytes the puts of the rows have.
+    size: u128,
 }
 
 impl Model for Prefs {
@@ -28,7 +38,7 @@ impl Model for Prefs {
     ghost use Rattle.std.specs.Coded.{codes};
     ghost use Rattle.json_tree.specs.Json.{json_code};
     ghost use Rattle.pref_bindings.specs.declared.preference.Preference.{Preference};
-    ghost use Rattle.pref_bindings.specs.Preferences.{IsSound};
+    ghost use Rattle.pref_bindings.specs.Sizes.{AreSized};
 
     ghost Value = { List Preference };
 
@@ -36,7 +46,7 @@ impl Model for Prefs {
 
     ghost view = { λ p. p.preferences };
 
-    ghost invariant = { λ p. IsSound p.preferences };
+    ghost invariant = { λ p. AreSized p.preferences p.size };
 }
 
 /// The same preferences. It takes no memory.
@@ -46,6 +56,7 @@ impl Clone for Prefs {
     fn clone(&self) -> Result<Prefs, AllocError> {
         Ok(Prefs {
             preferences: self.preferences.clone()?,
+            size: self.size,
         })
     }
 }
@@ -61,6 +72,7 @@ impl Prefs {
     {
         Prefs {
             preferences: SharedList::new(alloc),
+            size: 0,
         }
     }
 
@@ -70,6 +82,14 @@ impl Prefs {
         ensures sound { IsSound self.now }
     {
         self.preferences.as_slice()
+    }
+
+    /// How many bytes the puts of the preferences' rows have, of holds and of values. They were counted before. It takes no memory.
+    pub fn size(&self) -> u128
+        ensures size { result ≡ length (puts_text (rows_of self.now)) }
+        ensures bound { result ≤ 2 ^ 100 }
+    {
+        self.size
     }
 
     /// The present value of a name, where it has one. It takes no memory.
@@ -147,19 +167,17 @@ impl Prefs {
         ensures { IfOk result (λ prefs. prefs ≡ set_by_user name.now (Some value.now) self.now) }
     {
         let preference = users_preference(name, value)?;
-        let preferences = with_preference(&self.preferences, preference)?;
-        Ok(Prefs { preferences })
+        Prefs::of_list(with_preference(&self.preferences, preference)?)
     }
 
     // The preferences where the user takes the value of this one away.
     fn without_value(&self, name: &Text) -> Result<Prefs, AllocError>
         ensures { IfOk result (λ prefs. prefs ≡ set_by_user name.now None self.now) }
     {
-        let preferences = without_name(&self.preferences, name)?;
-        Ok(Prefs { preferences })
+        Prefs::of_list(without_name(&self.preferences, name)?)
     }
 
-    /// The preferences of a list.
+    /// The preferences of a list. More than 2^100 bytes of rows are want of memory.
     pub(crate) fn of_preferences(
         alloc: Global,
         preferences: Sequence<Preference>,
@@ -167,9 +185,18 @@ impl Prefs {
         requires { IsSound preferences }
         ensures { IfOk result (λ prefs. prefs ≡ preferences) }
     {
-        Ok(Prefs {
-            preferences: SharedList::from_sequence(alloc, preferences)?,
-        })
+        Prefs::of_list(SharedList::from_sequence(alloc, preferences)?)
+    }
+
+    // The preferences of a list, and the size of their rows. More than 2^100 bytes are want of memory.
+    fn of_list(preferences: SharedList<Preference>) -> Result<Prefs, AllocError>
+        requires { IsSound preferences }
+        ensures { IfOk result (λ prefs. prefs ≡ preferences) }
+    {
+        match preferences_size(preferences.as_slice(), MOST_BYTES) {
+            Some(size) => Ok(Prefs { preferences, size }),
+            None => Err(AllocError),
+        }
     }
 }
 

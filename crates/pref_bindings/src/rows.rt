@@ -30,6 +30,24 @@ impl Prefs {
         add_value_rows(alloc, &mut rows, preferences)?;
         Ok(rows)
     }
+
+    /// The rows of the holds alone, in the order of their keys.
+    pub fn hold_rows(&self, alloc: Global) -> Result<Sequence<StoreRow>, AllocError>
+        ensures { IfOk result (λ rows. rows ≡ hold_rows self.now) }
+    {
+        let mut rows = Sequence::new(alloc);
+        add_hold_rows(alloc, &mut rows, self.as_slice())?;
+        Ok(rows)
+    }
+
+    /// The rows of the values alone, in the order of their keys.
+    pub fn value_rows(&self, alloc: Global) -> Result<Sequence<StoreRow>, AllocError>
+        ensures { IfOk result (λ rows. rows ≡ value_rows self.now) }
+    {
+        let mut rows = Sequence::new(alloc);
+        add_value_rows(alloc, &mut rows, self.as_slice())?;
+        Ok(rows)
+    }
 }
 
 // Adds the row of each hold.

@@ -5,27 +5,15 @@ ghost use Rattle.pref_bindings.specs.Rows.{rows_of, value_text};
 ghost use Rattle.pref_bindings.specs.Sizes.{hold_size, preference_size};
 
 use crate::preference::{Hold, Preference};
-use crate::prefs::Prefs;
 use json_length::length_within;
 use json_tree::Tree;
 
 // The bytes that a put has beside the name in its key and its value.
 const PUT: u128 = 8;
 
-impl Prefs {
-    /// How many bytes the puts of the preferences' rows have, of holds and of values, where they are at most `most`. They are
-    /// counted without a text, and it takes no memory. It ends at the first preference that goes past `most`.
-    pub fn size_within(&self, most: u128) -> Option<u128>
-        ensures some { IfSome result (λ size. size ≡ length (puts_text (rows_of self.now))) }
-        ensures within { IfSome result (λ size. size ≤ most) }
-        ensures beyond { IfNone result (most < length (puts_text (rows_of self.now))) }
-    {
-        preferences_size(self.as_slice(), most)
-    }
-}
-
-// The size of the rows of the preferences, where it is at most `most`.
-fn preferences_size(preferences: &[Preference], most: u128) -> Option<u128>
+/// How many bytes the puts of the preferences' rows have, of holds and of values, where they are at most `most`. They are counted
+/// without a text, and it takes no memory. It ends at the first preference that goes past `most`.
+pub(crate) fn preferences_size(preferences: &[Preference], most: u128) -> Option<u128>
     ensures some { IfSome result (λ size. size ≡ length (puts_text (rows_of preferences.now))) }
     ensures within { IfSome result (λ size. size ≤ most) }
     ensures beyond { IfNone result (most < length (puts_text (rows_of preferences.now))) }

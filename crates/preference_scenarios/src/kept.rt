@@ -2,7 +2,7 @@
 //! are a byte, and a comma stands between two rows.
 
 use crate::steps::prefs_after;
-use anyhow::{Context, Result, bail};
+use anyhow::{Result, bail};
 use plain_text::read_number;
 use pref_bindings::{PrefsFault, prefs_of};
 use row_batches::{RowChange, StoreRow};
@@ -56,8 +56,7 @@ pub(crate) fn row_changes(alloc: Global, input: &str) -> Result<String> {
     if text.is_empty() {
         text.push_str("none")?;
     }
-    let size = new.size_within(1_000).context("more than 1,000 bytes")?;
-    Ok(format!(in alloc; "{text}; {size} bytes")?)
+    Ok(format!(in alloc; "{text}; {} bytes", new.size())?)
 }
 
 fn add_changes(alloc: Global, text: &mut String, changes: &[RowChange]) -> Result<()> {

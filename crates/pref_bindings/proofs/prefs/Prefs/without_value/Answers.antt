@@ -1,5 +1,5 @@
 use Rattle.pref_bindings.proofs.Sound.{without_given}
 use Rattle.pref_bindings.proofs.prefs.Prefs.without_value.Goals as goal
 
-pub invariant_of-result : goal.invariant_of-result
-invariant_of-result c = without_given c.args.name.now c.self.inside.preferences c.in_ok-preferences.preferences c.self.invariant c.in_ok-preferences.ensures
+pub of_list-requires : goal.of_list-requires
+of_list-requires c = without_given c.args.name.now c.self.inside.preferences c.in_ok-without_name.field-0 c.self.invariant.sound c.in_ok-without_name.ensures
