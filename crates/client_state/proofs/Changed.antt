@@ -7,12 +7,14 @@ use Rattle.event_counts.specs.Sound as counts
 use Rattle.event_counts.specs.declared.name_counts.NameCounts.{NameCounts}
 use Rattle.change_outbox.specs.Contents as contents
 use Rattle.change_outbox.specs.Contents.{Contents}
+use Rattle.pref_bindings.specs.Preferences as preferences
+use Rattle.pref_bindings.specs.declared.preference.Preference.{Preference}
 use Rattle.row_batches.specs.Batch.{ChangeList, IsBatch, applied, batch_text, whole_of}
 use Rattle.row_batches.specs.Between.{changes_between, between}
 use Rattle.row_batches.specs.declared.change.RowChange.{RowChange}
 use Rattle.row_batches.proofs.Sizes.{between_short}
 use Rattle.row_batches.proofs.Walks.{between_rule, applied_between}
-use Rattle.client_state.specs.Changes.{AreSoundIf, IsChangeOf, IsSoundIf, IsNextIf, enrolment_after, state_after}
+use Rattle.client_state.specs.Changes.{ArePreferencesIf, AreSoundIf, IsSoundIf, IsNextIf, IsWholeChangeOf, enrolment_after, state_after}
 use Rattle.client_state.specs.Sound.{IsConsistent}
 use Rattle.client_state.specs.Spelling.{rows_of, spelling}
 use Rattle.client_state.specs.declared.client_state.ClientState.{ClientState}
@@ -35,13 +37,19 @@ pub outbox_sound : (next : Option Contents) (o : Contents) → contents.IsSound 
 outbox_sound None o is can = is
 outbox_sound (Some next) o is can = can
 
+pub preferences_sound : (next : Option (List Preference)) (ps : List Preference) → preferences.IsSound ps → ArePreferencesIf next → preferences.IsSound (unwrap_or next ps)
+preferences_sound None ps is can = is
+preferences_sound (Some next) ps is can = can
+
 -- the state after one of its changes is one that a client can have
-pub change_consistent : (s : ClientState) (change : StateChange) → IsConsistent s → IsChangeOf s change → IsConsistent (state_after change s)
+pub change_consistent : (s : ClientState) (change : StateChange) → IsConsistent s → IsWholeChangeOf s change → IsConsistent (state_after change s)
 change_consistent s change is of =
     record {
-      enrolment = enrolment_consistent change.enrolment s.enrolment is.enrolment of.enrolment;
-      events = events_sound change.events s.events is.events of.events;
-      outbox = outbox_sound change.outbox s.outbox is.outbox of.outbox;
+      enrolment = enrolment_consistent change.enrolment s.enrolment is.enrolment of.parts.enrolment;
+      events = events_sound change.events s.events is.events of.parts.events;
+      outbox = outbox_sound change.outbox s.outbox is.outbox of.parts.outbox;
+      preferences = preferences_sound change.preferences s.preferences is.preferences of.parts.preferences;
+      holders = of.holders;
     }
 
 -- ---- the batch between two states

@@ -1,6 +1,6 @@
 -- Rows are divided by the bytes that begin their keys in one way.
 use Rattle.std.proofs.Common.{◌≡◌, ◌≤◌, ◌<◌, ◌+◌, ◌++◌, ◌∷◌, [], List, ℕ, Bool, true, false, Less, map, length, get_or, take, drop, refl, sym, ap, subst, arith}
-use Rattle.std.specs.Prelude.{◌&&◌, nat_le, nat_lt, if◌then◌else◌}
+use Rattle.std.specs.Prelude.{◌&&◌, nat_le, nat_lt}
 use Rattle.std.specs.Cmp.{nat_cmp_is}
 use Rattle.std.specs.Cmp.Lexicographic.{slice_cmp}
 use Rattle.std.specs.List.{AllByRecursion}
@@ -16,11 +16,13 @@ use Rattle.event_counts.specs.Rows as count_rows
 use Rattle.event_counts.specs.declared.name_counts.NameCounts.{NameCounts}
 use Rattle.change_outbox.specs.Contents.{Contents}
 use Rattle.change_outbox.specs.Rows as change_rows
-use Rattle.change_outbox.specs.Rows.{change_row, next_rows, next_row}
-use Rattle.change_outbox.specs.declared.change.Change.{Change}
+use Rattle.pref_bindings.specs.Rows.{hold_rows, value_rows}
+use Rattle.pref_bindings.specs.declared.preference.Preference.{Preference}
 use Rattle.state_codec.specs.Spelling.{first_rows, later_rows}
 use Rattle.state_codec.proofs.Letters.{all_append, first_all, later_all}
 use Rattle.client_state.specs.Sections.{is_below, AreBelow, StartsFrom}
+use Rattle.client_state.specs.declared.client_state.ClientState.{ClientState}
+use Rattle.client_state.proofs.Letters.{events_all, holds_all, outbox_all, values_all}
 
 -- none of the rows has a key below that of the byte
 abbrev pub AreFrom : ℕ → List StoreRow → Type 0
@@ -70,23 +72,11 @@ precede end (r ∷ rs) behind below from = (keys_behind end r.key behind below.0
 pub first_below : (e : State) → AreBelow 101 (first_rows e)
 first_below e = first_all (λ (r : StoreRow). is_below 101 r.key ≡ true) e (λ rest value. refl)
 
-pub events_from : (ns : List NameCounts) → AreFrom 101 (count_rows.rows_of ns)
-events_from [] = tt
-events_from (n ∷ ns) = (refl, events_from ns)
-
 pub events_below : (ns : List NameCounts) → AreBelow 102 (count_rows.rows_of ns)
-events_below [] = tt
-events_below (n ∷ ns) = (refl, events_below ns)
+events_below ns = events_all (λ (r : StoreRow). is_below 102 r.key ≡ true) ns (λ rest value. refl)
 
-left : (a b : Bool) → (a && b) ≡ true → a ≡ true
-left true b is = refl
-left false b is = absurd cc
-
-letter_from : (end letter : ℕ) → end ≤ 105 → (nat_le 105 letter && nat_lt letter 120) ≡ true → nat_lt letter end ≡ false
-letter_from end letter most is = le-ltb letter end (omega (arith, most, leb-true 105 letter (left (nat_le 105 letter) (nat_lt letter 120) is)))
-
-pub later_from : (end byte : ℕ) (e : State) → end ≤ 105 → AreFrom end (later_rows byte e)
-later_from end byte e most = later_all (λ (r : StoreRow). is_below end r.key ≡ false) byte e (λ letter rest value is. letter_from end letter most is)
+pub holds_below : (ps : List Preference) → AreBelow 105 (hold_rows ps)
+holds_below ps = holds_all (λ (r : StoreRow). is_below 105 r.key ≡ true) ps (λ rest value. refl)
 
 right : (a b : Bool) → (a && b) ≡ true → b ≡ true
 right true b is = is
@@ -95,26 +85,60 @@ right false b is = absurd cc
 pub later_below : (byte : ℕ) (e : State) → AreBelow 120 (later_rows byte e)
 later_below byte e = later_all (λ (r : StoreRow). is_below 120 r.key ≡ true) byte e (λ letter rest value is. right (nat_le 105 letter) (nat_lt letter 120) is)
 
-next_from : (end : ℕ) (b : Bool) (n : ℕ) → end ≤ 120 → AreFrom end (if b then next_row n ∷ [] else [])
-next_from end true n most = (le-ltb 120 end most, tt)
-next_from end false n most = tt
+pub outbox_below : (o : Contents) → AreBelow 121 (change_rows.rows_of o)
+outbox_below o = outbox_all (λ (r : StoreRow). is_below 121 r.key ≡ true) o (λ rest value. refl)
 
-changes_above : (end : ℕ) (cs : List Change) → end ≤ 120 → AreFrom end (map change_row cs)
-changes_above end [] most = tt
-changes_above end (c ∷ cs) most = (le-ltb 120 end most, changes_above end cs most)
+pub values_from : (end : ℕ) (ps : List Preference) → end ≤ 121 → AreFrom end (value_rows ps)
+values_from end ps most = values_all (λ (r : StoreRow). is_below end r.key ≡ false) ps (λ rest value. le-ltb 121 end most)
 
-pub outbox_from : (end : ℕ) (o : Contents) → end ≤ 120 → AreFrom end (change_rows.rows_of o)
-outbox_from end o most =
-    all_append (λ (r : StoreRow). is_below end r.key ≡ false) (next_rows o.next) (map change_row o.entries) (next_from end (nat_lt 1 o.next) o.next most) (changes_above end o.entries most)
+outbox_from : (end : ℕ) (o : Contents) → end ≤ 120 → AreFrom end (change_rows.rows_of o)
+outbox_from end o most = outbox_all (λ (r : StoreRow). is_below end r.key ≡ false) o (λ rest value. le-ltb 120 end most)
 
--- the later rows, and those of an outbox behind them
-pub last_from : (end byte : ℕ) (e : State) (o : Contents) → end ≤ 105 → AreFrom end (later_rows byte e ++ change_rows.rows_of o)
-last_from end byte e o most =
-    all_append (λ (r : StoreRow). is_below end r.key ≡ false) (later_rows byte e) (change_rows.rows_of o) (later_from end byte e most) (outbox_from end o (omega (arith, most)))
+left : (a b : Bool) → (a && b) ≡ true → a ≡ true
+left true b is = refl
+left false b is = absurd cc
 
-pub behind_from : (byte : ℕ) (ns : List NameCounts) (e : State) (o : Contents) → AreFrom 101 (count_rows.rows_of ns ++ (later_rows byte e ++ change_rows.rows_of o))
-behind_from byte ns e o =
-    all_append (λ (r : StoreRow). is_below 101 r.key ≡ false) (count_rows.rows_of ns) (later_rows byte e ++ change_rows.rows_of o) (events_from ns) (last_from 101 byte e o (omega arith))
+letter_from : (end letter : ℕ) → end ≤ 105 → (nat_le 105 letter && nat_lt letter 120) ≡ true → nat_lt letter end ≡ false
+letter_from end letter most is = le-ltb letter end (omega (arith, most, leb-true 105 letter (left (nat_le 105 letter) (nat_lt letter 120) is)))
+
+later_from : (end byte : ℕ) (e : State) → end ≤ 105 → AreFrom end (later_rows byte e)
+later_from end byte e most = later_all (λ (r : StoreRow). is_below end r.key ≡ false) byte e (λ letter rest value is. letter_from end letter most is)
+
+holds_from : (end : ℕ) (ps : List Preference) → end ≤ 104 → AreFrom end (hold_rows ps)
+holds_from end ps most = holds_all (λ (r : StoreRow). is_below end r.key ≡ false) ps (λ rest value. le-ltb 104 end most)
+
+events_from : (end : ℕ) (ns : List NameCounts) → end ≤ 101 → AreFrom end (count_rows.rows_of ns)
+events_from end ns most = events_all (λ (r : StoreRow). is_below end r.key ≡ false) ns (λ rest value. le-ltb 101 end most)
+
+-- ---- the rows of a state from those of a part on
+
+from_append : (end : ℕ) (rows behind : List StoreRow) → AreFrom end rows → AreFrom end behind → AreFrom end (rows ++ behind)
+from_append end rows behind are behind_are = all_append (λ (r : StoreRow). is_below end r.key ≡ false) rows behind are behind_are
+
+module _ (s : ClientState) where
+  abbrev pub from_outbox : List StoreRow
+  from_outbox = change_rows.rows_of s.outbox ++ value_rows s.preferences
+
+  abbrev pub from_later : ℕ → List StoreRow
+  from_later byte = later_rows byte s.enrolment ++ from_outbox
+
+  abbrev pub from_holds : ℕ → List StoreRow
+  from_holds byte = hold_rows s.preferences ++ from_later byte
+
+  abbrev pub from_events : ℕ → List StoreRow
+  from_events byte = count_rows.rows_of s.events ++ from_holds byte
+
+  pub behind_later : (end : ℕ) → end ≤ 120 → AreFrom end from_outbox
+  behind_later end most = from_append end (change_rows.rows_of s.outbox) (value_rows s.preferences) (outbox_from end s.outbox most) (values_from end s.preferences (omega (arith, most)))
+
+  pub behind_holds : (end byte : ℕ) → end ≤ 105 → AreFrom end (from_later byte)
+  behind_holds end byte most = from_append end (later_rows byte s.enrolment) from_outbox (later_from end byte s.enrolment most) (behind_later end (omega (arith, most)))
+
+  pub behind_events : (end byte : ℕ) → end ≤ 104 → AreFrom end (from_holds byte)
+  behind_events end byte most = from_append end (hold_rows s.preferences) (from_later byte) (holds_from end s.preferences most) (behind_holds end byte (omega (arith, most)))
+
+  pub behind_first : (end byte : ℕ) → end ≤ 101 → AreFrom end (from_events byte)
+  behind_first end byte most = from_append end (count_rows.rows_of s.events) (from_holds byte) (events_from end s.events most) (behind_events end byte (omega (arith, most)))
 
 -- one row more that is below the byte
 pub below_more : (end : ℕ) (rows : List StoreRow) (i : ℕ) (r : StoreRow) → i < length rows → r ≡ get_or rows i r → AreBelow end (take i rows) → is_below end r.key ≡ true → AreBelow end (take (i + 1) rows)

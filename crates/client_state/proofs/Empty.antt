@@ -8,6 +8,7 @@ use Rattle.row_batches.specs.declared.store_row.StoreRow.{StoreRow}
 use Rattle.event_counts.specs.Sound as counts
 use Rattle.change_outbox.specs.Contents as contents
 use Rattle.change_outbox.specs.Contents.{no_changes}
+use Rattle.pref_bindings.specs.Preferences as preferences
 use Rattle.state_values.specs.Values.{bit, participation}
 use Rattle.state_codec.specs.Forms as enrolment_forms
 use Rattle.state_codec.specs.Sound as enrolments
@@ -36,8 +37,12 @@ none_sound = record { most = omega arith; order = tt; names = tt }
 no_changes_sound : contents.IsSound no_changes
 no_changes_sound = record { numbered = record { first = omega arith; last = omega arith; numbers = tt }; slugs = tt }
 
+no_preferences_sound : preferences.IsSound []
+unfolding IsStrictlySortedBy
+no_preferences_sound = record { names = tt; each = tt }
+
 pub empty_is_consistent : (e : State) → states.IsConsistent e → IsConsistent (with_empty_parts e)
-empty_is_consistent e is = record { enrolment = is; events = none_sound; outbox = no_changes_sound }
+empty_is_consistent e is = record { enrolment = is; events = none_sound; outbox = no_changes_sound; preferences = no_preferences_sound; holders = tt }
 
 pub empty_is_sound : (e : State) → enrolments.IsSound e → IsSound (with_empty_parts e)
 empty_is_sound e is = record { consistent = empty_is_consistent e is.consistent; records = is.records; size = omega (arith, spelled_as_enrolment e, is.size) }

@@ -1,6 +1,6 @@
 -- The forms of a state: both are batches of one length, and each is told from the other by the row `p`.
-use Rattle.std.proofs.Common.{◌≡◌, ◌<◌, ◌^◌, ◌++◌, ◌∷◌, [], List, ℕ, Bool, true, false, map, inl, inr, length, refl, sym, ap, ◌∙◌, subst, arith}
-use Rattle.std.specs.Prelude.{◌||◌, nat_lt, if◌then◌else◌}
+use Rattle.std.proofs.Common.{◌≡◌, ◌<◌, ◌^◌, ◌++◌, ◌∷◌, [], List, ℕ, Bool, true, false, inl, inr, length, refl, sym, ap, ◌∙◌, subst, arith}
+use Rattle.std.specs.Prelude.{◌||◌}
 use Rattle.std.specs.List.{AllByRecursion}
 use Rattle.row_batches.specs.Batch.{IsBatch, batch_text, whole_of}
 use Rattle.row_batches.specs.Batches.{HaveRoom}
@@ -8,11 +8,8 @@ use Rattle.row_batches.specs.Rows.{AreRows}
 use Rattle.row_batches.specs.declared.store_row.StoreRow.{StoreRow}
 use Rattle.row_batches.proofs.Walks.{whole_rule}
 use Rattle.event_counts.specs.Rows as count_rows
-use Rattle.event_counts.specs.declared.name_counts.NameCounts.{NameCounts}
-use Rattle.change_outbox.specs.Contents.{Contents}
 use Rattle.change_outbox.specs.Rows as change_rows
-use Rattle.change_outbox.specs.Rows.{change_row, next_row, next_rows, number_text}
-use Rattle.change_outbox.specs.declared.change.Change.{Change}
+use Rattle.pref_bindings.specs.Rows.{hold_rows, value_rows}
 use Rattle.enrol_states.specs.declared.state.State.{State}
 use Rattle.state_values.specs.Values.{bit, participation}
 use Rattle.state_codec.specs.Forms.{is_old}
@@ -23,7 +20,9 @@ use Rattle.client_state.specs.declared.client_state.ClientState.{ClientState}
 use Rattle.client_state.specs.Forms.{IsForm, IsOldForm, IsSpelled, needs_migration, old_rows, old_spelling}
 use Rattle.client_state.specs.Sound.{IsConsistent, IsSound}
 use Rattle.client_state.specs.Spelling.{rows_with, rows_of, spelling}
+use Rattle.client_state.proofs.Divided.{from_outbox, from_later, from_holds, from_events}
 use Rattle.client_state.proofs.KeyOrder.{with_rise}
+use Rattle.client_state.proofs.Letters.{events_all, holds_all, outbox_all, values_all}
 use Rattle.client_state.proofs.Room.{with_room}
 use Rattle.client_state.proofs.Lengths.{length-byte}
 
@@ -74,20 +73,11 @@ none_in_front (r ∷ rs) rest none = ap (λ b. b || needs_migration (rs ++ rest)
 first_none : (e : State) → AllByRecursion (λ r. is_old r ≡ false) (first_rows e)
 first_none e = first_all (λ (r : StoreRow). is_old r ≡ false) e (λ rest value. refl)
 
-events_none : (ns : List NameCounts) → AllByRecursion (λ r. is_old r ≡ false) (count_rows.rows_of ns)
-events_none [] = tt
-events_none (n ∷ ns) = (refl, events_none ns)
-
-next_none : (b : Bool) (n : ℕ) → AllByRecursion (λ r. is_old r ≡ false) (if b then next_row n ∷ [] else [])
-next_none true n = (refl, tt)
-next_none false n = tt
-
-changes_none : (cs : List Change) → AllByRecursion (λ r. is_old r ≡ false) (map change_row cs)
-changes_none [] = tt
-changes_none (c ∷ cs) = (refl, changes_none cs)
-
-outbox_none : (o : Contents) → AllByRecursion (λ r. is_old r ≡ false) (change_rows.rows_of o)
-outbox_none o = all_append (λ (r : StoreRow). is_old r ≡ false) (next_rows o.next) (map change_row o.entries) (next_none (nat_lt 1 o.next) o.next) (changes_none o.entries)
+-- the rows behind the later ones of the enrolment
+behind_none : (s : ClientState) → AllByRecursion (λ r. is_old r ≡ false) (from_outbox s)
+behind_none s =
+    let none = λ (r : StoreRow). is_old r ≡ false in
+    all_append none (change_rows.rows_of s.outbox) (value_rows s.preferences) (outbox_all none s.outbox (λ rest value. refl)) (values_all none s.preferences (λ rest value. refl))
 
 none_at_all : (rows : List StoreRow) → AllByRecursion (λ r. is_old r ≡ false) rows → needs_migration rows ≡ false
 none_at_all [] none = refl
@@ -100,11 +90,11 @@ none_behind (r ∷ rs) rest none = ap (λ b. is_old r || b) (none_behind rs rest
 with_byte : (byte : ℕ) (s : ClientState) → needs_migration (rows_with byte s) ≡ needs_migration (later_rows byte s.enrolment)
 unfolding rows_with
 with_byte byte s =
-    let later = later_rows byte s.enrolment in
-    let outbox = change_rows.rows_of s.outbox in
-    none_in_front (first_rows s.enrolment) (count_rows.rows_of s.events ++ (later ++ outbox)) (first_none s.enrolment)
-    ∙ none_in_front (count_rows.rows_of s.events) (later ++ outbox) (events_none s.events)
-    ∙ none_behind later outbox (none_at_all outbox (outbox_none s.outbox))
+    let none = λ (r : StoreRow). is_old r ≡ false in
+    none_in_front (first_rows s.enrolment) (from_events s byte) (first_none s.enrolment)
+    ∙ none_in_front (count_rows.rows_of s.events) (from_holds s byte) (events_all none s.events (λ rest value. refl))
+    ∙ none_in_front (hold_rows s.preferences) (from_later s byte) (holds_all none s.preferences (λ rest value. refl))
+    ∙ none_behind (later_rows byte s.enrolment) (from_outbox s) (none_at_all (from_outbox s) (behind_none s))
 
 pub spelled_is_new : (s : ClientState) → needs_migration (rows_of s) ≡ false
 spelled_is_new s = with_byte (participation s.enrolment) s ∙ later_is_new s.enrolment

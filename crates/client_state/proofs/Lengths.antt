@@ -1,9 +1,11 @@
--- How many bytes a state is spelled in: those of its enrolment, and those of the rows of its events and of its outbox.
-use Rattle.std.proofs.Common.{◌≡◌, ◌+◌, ◌≤◌, ◌^◌, ◌++◌, ℕ, length, sym, subst, arith}
+-- How many bytes a state is spelled in: those of its enrolment, and those of the rows of its events, its outbox and its preferences.
+use Rattle.std.proofs.Common.{◌≡◌, ◌+◌, ◌≤◌, ◌^◌, ℕ, length, sym, subst, arith}
 use Rattle.row_batches.specs.Batch.{batch_text, puts_text, whole_of}
 use Rattle.row_batches.proofs.Sizes.{puts_size-append}
 use Rattle.event_counts.specs.Rows as count_rows
 use Rattle.change_outbox.specs.Rows as change_rows
+use Rattle.pref_bindings.specs.Rows as preference_rows
+use Rattle.pref_bindings.specs.Rows.{hold_rows, value_rows}
 use Rattle.state_values.specs.Values.{participation}
 use Rattle.state_codec.specs.Sizes as codec_sizes
 use Rattle.state_codec.specs.Sound as codec_sound
@@ -16,6 +18,7 @@ use Rattle.client_state.specs.declared.sizes.ClientSizes.{ClientSizes}
 use Rattle.client_state.specs.Sizes.{IsSizeOf}
 use Rattle.client_state.specs.Sound.{IsSound}
 use Rattle.client_state.specs.Spelling.{rows_with, spelling}
+use Rattle.client_state.proofs.Divided.{from_outbox, from_later, from_holds, from_events}
 
 -- the bytes of the puts of the events' rows
 abbrev pub events_size : ClientState → ℕ
@@ -25,16 +28,29 @@ events_size s = length (puts_text (count_rows.rows_of s.events))
 abbrev pub outbox_size : ClientState → ℕ
 outbox_size s = length (puts_text (change_rows.rows_of s.outbox))
 
-pub length-with : (byte : ℕ) (s : ClientState) → length (batch_text (whole_of (rows_with byte s))) ≡ length (batch_text (whole_of (codec.rows_with byte s.enrolment))) + events_size s + outbox_size s
+-- and of the preferences'
+abbrev pub preferences_size : ClientState → ℕ
+preferences_size s = length (puts_text (preference_rows.rows_of s.preferences))
+
+pub length-with : (byte : ℕ) (s : ClientState) → length (batch_text (whole_of (rows_with byte s))) ≡ length (batch_text (whole_of (codec.rows_with byte s.enrolment))) + events_size s + outbox_size s + preferences_size s
 unfolding rows_with codec.rows_with
 length-with byte s =
     let first = first_rows s.enrolment in
-    let events = count_rows.rows_of s.events in
     let later = later_rows byte s.enrolment in
-    let outbox = change_rows.rows_of s.outbox in
-    omega (arith, puts_size-append first (events ++ (later ++ outbox)), puts_size-append events (later ++ outbox), puts_size-append later outbox, puts_size-append first later)
+    let holds = hold_rows s.preferences in
+    let values = value_rows s.preferences in
+    omega (
+      arith,
+      puts_size-append first (from_events s byte),
+      puts_size-append (count_rows.rows_of s.events) (from_holds s byte),
+      puts_size-append holds (from_later s byte),
+      puts_size-append later (from_outbox s),
+      puts_size-append (change_rows.rows_of s.outbox) values,
+      puts_size-append first later,
+      puts_size-append holds values,
+    )
 
-pub length-spelling : (s : ClientState) → length (spelling s) ≡ length (codec.spelling s.enrolment) + events_size s + outbox_size s
+pub length-spelling : (s : ClientState) → length (spelling s) ≡ length (codec.spelling s.enrolment) + events_size s + outbox_size s + preferences_size s
 unfolding spelling codec.spelling
 length-spelling s = length-with (participation s.enrolment) s
 
@@ -54,8 +70,20 @@ events_fit s sizes is are = omega (arith, are.events, length-spelling s, is.size
 pub outbox_fits : (s : ClientState) (sizes : ClientSizes) → IsSound s → IsSizeOf s sizes → sizes.outbox ≤ 2 ^ 100
 outbox_fits s sizes is are = omega (arith, are.outbox, length-spelling s, is.size)
 
+-- and of its preferences
+pub preferences_fit : (s : ClientState) (sizes : ClientSizes) → IsSound s → IsSizeOf s sizes → sizes.preferences ≤ 2 ^ 100
+preferences_fit s sizes is are = omega (arith, are.preferences, length-spelling s, is.size)
+
 -- the sizes of a state by those of its parts
-pub sizes_are : (s : ClientState) (enrolment : StateSizes) (events outbox : ℕ) (sizes : ClientSizes) → sizes ≡ record { total = enrolment.total + events + outbox; enrolment = enrolment; events = events; outbox = outbox }
-    → codec_sizes.IsSizeOf s.enrolment enrolment → events ≡ events_size s → outbox ≡ outbox_size s → IsSizeOf s sizes
-sizes_are s enrolment events outbox sizes is are events_are outbox_are =
-    subst (IsSizeOf s) (sym is) (record { total = omega (arith, length-spelling s, are.total, events_are, outbox_are); enrolment = are; events = events_are; outbox = outbox_are })
+pub sizes_are : (s : ClientState) (enrolment : StateSizes) (events outbox preferences : ℕ) (sizes : ClientSizes)
+    → sizes ≡ record { total = enrolment.total + events + outbox + preferences; enrolment = enrolment; events = events; outbox = outbox; preferences = preferences }
+    → codec_sizes.IsSizeOf s.enrolment enrolment → events ≡ events_size s → outbox ≡ outbox_size s → preferences ≡ preferences_size s → IsSizeOf s sizes
+sizes_are s enrolment events outbox preferences sizes is are events_are outbox_are preferences_are =
+    subst (IsSizeOf s) (sym is)
+    (record {
+      total = omega (arith, length-spelling s, are.total, events_are, outbox_are, preferences_are);
+      enrolment = are;
+      events = events_are;
+      outbox = outbox_are;
+      preferences = preferences_are;
+    })

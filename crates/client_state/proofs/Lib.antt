@@ -1,3 +1,4 @@
+pub mod Letters
 pub mod Divided
 pub mod KeyOrder
 pub mod Joined
@@ -9,3 +10,7 @@ pub mod OneState
 pub mod Empty
 pub mod Changed
 pub mod Migrating
+pub mod Ended
+pub mod HoldersAfter
+pub mod Followed
+pub mod EnrolledHolders

@@ -9,7 +9,7 @@ use Rattle.row_batches.proofs.Joining.{between-append}
 use Rattle.row_batches.proofs.Walks.{applied_between}
 use Rattle.std.proofs.lemmas.List.{append-nil}
 use Rattle.event_counts.specs.Rows as count_rows
-use Rattle.change_outbox.specs.Rows as change_rows
+use Rattle.pref_bindings.specs.Rows.{hold_rows}
 use Rattle.state_values.specs.Values.{bit, participation}
 use Rattle.state_codec.specs.Spelling as codec
 use Rattle.state_codec.specs.Spelling.{row, first_rows, later_rows}
@@ -20,6 +20,7 @@ use Rattle.client_state.specs.declared.client_state.ClientState.{ClientState}
 use Rattle.client_state.specs.Forms.{old_rows}
 use Rattle.client_state.specs.Sound.{IsConsistent}
 use Rattle.client_state.specs.Spelling.{rows_with, rows_of, spelling}
+use Rattle.client_state.proofs.Divided.{from_outbox, from_later, from_holds, from_events}
 use Rattle.client_state.proofs.KeyOrder.{later_before, with_rise}
 
 -- rows that the states have before the later ones, and behind them, change nothing
@@ -28,12 +29,17 @@ unfolding rows_with codec.rows_with
 with_bytes byte other s =
     let first = first_rows s.enrolment in
     let events = count_rows.rows_of s.events in
+    let holds = hold_rows s.preferences in
     let olds = later_rows byte s.enrolment in
     let news = later_rows other s.enrolment in
-    let outbox = change_rows.rows_of s.outbox in
-    let behind : changes_between (olds ++ outbox) (news ++ outbox) ≡ changes_between olds news =
-    between-append outbox outbox olds news (later_before byte s s) (later_before other s s) ∙ ap (λ l. changes_between olds news ++ l) (between_itself outbox) ∙ append-nil (changes_between olds news) in
-    same_front first (events ++ (olds ++ outbox)) (events ++ (news ++ outbox)) ∙ same_front events (olds ++ outbox) (news ++ outbox) ∙ behind ∙ sym (same_front first olds news)
+    let last = from_outbox s in
+    let behind : changes_between (olds ++ last) (news ++ last) ≡ changes_between olds news =
+    between-append last last olds news (later_before byte s s) (later_before other s s) ∙ ap (λ l. changes_between olds news ++ l) (between_itself last) ∙ append-nil (changes_between olds news) in
+    same_front first (from_events s byte) (from_events s other)
+    ∙ same_front events (from_holds s byte) (from_holds s other)
+    ∙ same_front holds (from_later s byte) (from_later s other)
+    ∙ behind
+    ∙ sym (same_front first olds news)
 
 pub migrating : (s : ClientState) → changes_between (old_rows s) (rows_of s) ≡ Put (row (112 ∷ []) (participation s.enrolment ∷ [])) ∷ []
 migrating s = with_bytes (bit s.enrolment.experiments) (participation s.enrolment) s ∙ codec_migrating.migrating s.enrolment

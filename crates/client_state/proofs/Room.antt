@@ -1,7 +1,8 @@
 -- The rows of a state that isn't spelled in 4 GiB have room in a batch.
-use Rattle.std.proofs.Common.{◌≤◌, ◌<◌, ◌^◌, ◌++◌, ◌∷◌, [], List, ℕ, Bool, true, false, map, length, arith}
+use Rattle.std.proofs.Common.{◌≤◌, ◌<◌, ◌^◌, ◌∷◌, [], List, ℕ, Bool, true, false, IsTrue, Option, Some, None, map, length, arith}
 use Rattle.std.specs.Prelude.{nat_lt, if◌then◌else◌}
 use Rattle.std.specs.List.{AllByRecursion}
+use Rattle.plain_text.specs.Names.{is_name}
 use Rattle.row_batches.specs.Batch.{batch_text, puts_text, whole_of}
 use Rattle.row_batches.specs.Batches.{HaveRoom}
 use Rattle.row_batches.specs.declared.store_row.StoreRow.{StoreRow}
@@ -13,12 +14,17 @@ use Rattle.change_outbox.specs.Contents.{Contents}
 use Rattle.change_outbox.specs.Rows as change_rows
 use Rattle.change_outbox.specs.Rows.{change_key, change_row, next_row, next_rows, number_text}
 use Rattle.change_outbox.specs.declared.change.Change.{Change}
+use Rattle.pref_bindings.specs.Preferences.{IsPreference}
+use Rattle.pref_bindings.specs.Rows.{hold_row, hold_rows, value_rows}
+use Rattle.pref_bindings.specs.declared.preference.Hold.{Hold}
+use Rattle.pref_bindings.specs.declared.preference.Preference.{Preference}
 use Rattle.state_values.specs.Values.{participation}
 use Rattle.state_codec.specs.Spelling.{first_rows, later_rows}
 use Rattle.state_codec.proofs.Room.{HaveShortKeys, short-append, first_short, later_short, room_of}
 use Rattle.client_state.specs.declared.client_state.ClientState.{ClientState}
 use Rattle.client_state.specs.Sound.{IsConsistent}
 use Rattle.client_state.specs.Spelling.{rows_with, rows_of, spelling}
+use Rattle.client_state.proofs.Divided.{from_outbox, from_later, from_holds, from_events}
 
 events_short : (ns : List NameCounts) → AllByRecursion IsSoundName ns → HaveShortKeys (count_rows.rows_of ns)
 events_short [] sound = tt
@@ -39,15 +45,26 @@ changes_short (c ∷ cs) = (number_short c.number, changes_short cs)
 outbox_short : (o : Contents) → HaveShortKeys (change_rows.rows_of o)
 outbox_short o = short-append (next_rows o.next) (map change_row o.entries) (next_short (nat_lt 1 o.next) o.next) (changes_short o.entries)
 
+hold_short : (name : List ℕ) (h : Option Hold) → IsTrue (is_name name) → HaveShortKeys (hold_row name h)
+hold_short name None is = tt
+hold_short name (Some h) is = (omega (arith, name_short name is), tt)
+
+holds_short : (ps : List Preference) → AllByRecursion IsPreference ps → HaveShortKeys (hold_rows ps)
+holds_short [] are = tt
+holds_short (p ∷ ps) are = short-append (hold_row p.name p.hold) (hold_rows ps) (hold_short p.name p.hold are.0.name) (holds_short ps are.1)
+
+values_short : (ps : List Preference) → AllByRecursion IsPreference ps → HaveShortKeys (value_rows ps)
+values_short [] are = tt
+values_short (p ∷ ps) are = (omega (arith, name_short p.name are.0.name), values_short ps are.1)
+
 keys_short : (byte : ℕ) (s : ClientState) → IsConsistent s → HaveShortKeys (rows_with byte s)
 unfolding rows_with
 keys_short byte s is =
-    let events = count_rows.rows_of s.events in
-    let later = later_rows byte s.enrolment in
-    let outbox = change_rows.rows_of s.outbox in
-    short-append (first_rows s.enrolment) (events ++ (later ++ outbox))
-    (first_short s.enrolment is.enrolment)
-    (short-append events (later ++ outbox) (events_short s.events is.events.names) (short-append later outbox (later_short byte s.enrolment is.enrolment) (outbox_short s.outbox)))
+    let last = short-append (change_rows.rows_of s.outbox) (value_rows s.preferences) (outbox_short s.outbox) (values_short s.preferences is.preferences.each) in
+    let later = short-append (later_rows byte s.enrolment) (from_outbox s) (later_short byte s.enrolment is.enrolment) last in
+    let holds = short-append (hold_rows s.preferences) (from_later s byte) (holds_short s.preferences is.preferences.each) later in
+    let events = short-append (count_rows.rows_of s.events) (from_holds s byte) (events_short s.events is.events.names) holds in
+    short-append (first_rows s.enrolment) (from_events s byte) (first_short s.enrolment is.enrolment) events
 
 puts_fit : (rows : List StoreRow) → length (batch_text (whole_of rows)) < 2 ^ 32 → length (puts_text rows) < 2 ^ 32
 puts_fit rows fits = omega (arith, fits)

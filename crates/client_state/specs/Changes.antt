@@ -1,14 +1,19 @@
 -- What a command makes of a client's state: each part that it changes.
-use Rattle.std.specs.Prelude.{List, Option, Some, None, ⊤}
+use Rattle.std.specs.Prelude.{ℕ, List, Option, Some, None, ⊤}
 use Rattle.std.specs.Option.{unwrap_or}
+use Rattle.json_tree.specs.declared.tree.Tree.{Tree}
 use Rattle.enrol_states.specs.Consistent as states
 use Rattle.enrol_states.specs.declared.state.State.{State}
 use Rattle.event_counts.specs.Sound as counts
 use Rattle.event_counts.specs.declared.name_counts.NameCounts.{NameCounts}
 use Rattle.change_outbox.specs.Contents as contents
 use Rattle.change_outbox.specs.Contents.{Contents}
+use Rattle.pref_bindings.specs.Changes.{set_by_user}
+use Rattle.pref_bindings.specs.Preferences as preference_lists
+use Rattle.pref_bindings.specs.declared.preference.Preference.{Preference}
 use Rattle.state_codec.specs.RecipeLists.{HasLists}
 use Rattle.state_codec.specs.declared.recipe_lists.RecipeLists.{RecipeLists}
+use Rattle.client_state.specs.Sound.{HaveEnrolledHolders}
 use Rattle.client_state.specs.declared.client_state.ClientState.{ClientState}
 use Rattle.client_state.specs.declared.state_change.NextEnrolment.{NextEnrolment}
 use Rattle.client_state.specs.declared.state_change.StateChange.{StateChange}
@@ -18,22 +23,20 @@ use Rattle.client_state.specs.declared.state_change.StateChange.{StateChange}
 abbrev pub next_of : State → RecipeLists → NextEnrolment
 next_of e recipes = record { state = e; recipes = recipes }
 
+abbrev pub no_change : StateChange
+no_change = record { enrolment = None; events = None; outbox = None; preferences = None }
+
 abbrev pub of_enrolment : State → RecipeLists → StateChange
-of_enrolment e recipes = record { enrolment = Some (next_of e recipes); events = None; outbox = None }
+of_enrolment e recipes = record { enrolment = Some (next_of e recipes); events = None; outbox = None; preferences = None }
 
 abbrev pub of_events : List NameCounts → StateChange
-of_events ns = record { enrolment = None; events = Some ns; outbox = None }
+of_events ns = record { enrolment = None; events = Some ns; outbox = None; preferences = None }
 
 abbrev pub of_both : State → RecipeLists → List NameCounts → StateChange
-of_both e recipes ns = record { enrolment = Some (next_of e recipes); events = Some ns; outbox = None }
+of_both e recipes ns = record { enrolment = Some (next_of e recipes); events = Some ns; outbox = None; preferences = None }
 
 abbrev pub of_outbox : Contents → StateChange
-of_outbox o = record { enrolment = None; events = None; outbox = Some o }
-
--- the change with this outbox, where there is one
-abbrev pub with_outbox : Option Contents → StateChange → StateChange
-with_outbox None change = change
-with_outbox (Some o) change = record change { outbox = Some o }
+of_outbox o = record { enrolment = None; events = None; outbox = Some o; preferences = None }
 
 -- ---- the state after a change
 
@@ -44,7 +47,16 @@ enrolment_after (Some next) e = next.state
 
 -- the state with the parts that the change has
 abbrev pub state_after : StateChange → ClientState → ClientState
-state_after change s = record { enrolment = enrolment_after change.enrolment s.enrolment; events = unwrap_or change.events s.events; outbox = unwrap_or change.outbox s.outbox }
+state_after change s = record {
+  enrolment = enrolment_after change.enrolment s.enrolment;
+  events = unwrap_or change.events s.events;
+  outbox = unwrap_or change.outbox s.outbox;
+  preferences = unwrap_or change.preferences s.preferences;
+}
+
+-- the state where the user sets the value of a preference, or takes it away
+abbrev pub with_users_value : List ℕ → Option Tree → ClientState → ClientState
+with_users_value name value s = record s { preferences = set_by_user name value s.preferences }
 
 -- ---- which changes a state may have
 
@@ -65,8 +77,22 @@ abbrev pub IsSoundIf : Option Contents → Type 0
 IsSoundIf None = ⊤
 IsSoundIf (Some o) = contents.IsSound o
 
+abbrev pub ArePreferencesIf : Option (List Preference) → Type 0
+ArePreferencesIf None = ⊤
+ArePreferencesIf (Some ps) = preference_lists.IsSound ps
+
 -- the change is one of the state: each part that it has can be a client's
 pub record IsChangeOf (s : ClientState) (change : StateChange) : Type 0 where
   pub enrolment : IsNextIf s.enrolment change.enrolment
   pub events : AreSoundIf change.events
   pub outbox : IsSoundIf change.outbox
+  pub preferences : ArePreferencesIf change.preferences
+
+-- before the enrolment changes, the client takes part in the recipes that hold preferences after the change
+abbrev pub HasHoldersOfBefore : ClientState → StateChange → Type 0
+HasHoldersOfBefore s change = HaveEnrolledHolders s.enrolment (unwrap_or change.preferences s.preferences)
+
+-- the change is one of the state, with all that follows it: the client takes part in the recipes that hold preferences
+pub record IsWholeChangeOf (s : ClientState) (change : StateChange) : Type 0 where
+  pub parts : IsChangeOf s change
+  pub holders : HaveEnrolledHolders (state_after change s).enrolment (state_after change s).preferences

@@ -6,11 +6,14 @@ use Rattle.state_values.specs.Values.{participation}
 use Rattle.state_codec.specs.Spelling.{first_rows, later_rows}
 use Rattle.event_counts.specs.Rows as count_rows
 use Rattle.change_outbox.specs.Rows as change_rows
+use Rattle.pref_bindings.specs.Rows.{hold_rows, value_rows}
 use Rattle.client_state.specs.declared.client_state.ClientState.{ClientState}
 
--- the rows of the enrolment, of the events and of the outbox, where this is the byte of participation
+-- the rows of the enrolment, the events, the outbox and the preferences, where this is the byte of participation
 unfoldable pub rows_with : ℕ → ClientState → List StoreRow
-rows_with byte s = first_rows s.enrolment ++ (count_rows.rows_of s.events ++ (later_rows byte s.enrolment ++ change_rows.rows_of s.outbox))
+rows_with byte s =
+    first_rows s.enrolment
+    ++ (count_rows.rows_of s.events ++ (hold_rows s.preferences ++ (later_rows byte s.enrolment ++ (change_rows.rows_of s.outbox ++ value_rows s.preferences))))
 
 abbrev pub rows_of : ClientState → List StoreRow
 rows_of s = rows_with (participation s.enrolment) s

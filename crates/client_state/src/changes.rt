@@ -9,7 +9,8 @@ ghost use Rattle.state_values.specs.Values.{participation};
 ghost use Rattle.state_codec.specs.Spelling.{first_rows, later_rows};
 ghost use Rattle.event_counts.specs.Rows as count_rows;
 ghost use Rattle.change_outbox.specs.Rows as change_rows;
-ghost use Rattle.client_state.specs.Changes.{IsChangeOf, IsNextIf, enrolment_after, state_after};
+ghost use Rattle.pref_bindings.specs.Rows.{hold_rows, value_rows};
+ghost use Rattle.client_state.specs.Changes.{IsNextIf, IsWholeChangeOf, enrolment_after, state_after};
 ghost use Rattle.client_state.specs.Sound.{IsConsistent};
 ghost use Rattle.client_state.specs.Spelling.{rows_of, spelling};
 
@@ -19,6 +20,7 @@ use crate::state_change::{NextEnrolment, StateChange};
 use change_outbox::Outbox;
 use enrol_states::State;
 use event_counts::Counts;
+use pref_bindings::Prefs;
 use row_batches::{Batch, RowChange};
 use sequences::Sequence;
 use state_codec::{first_changes, later_changes};
@@ -46,7 +48,7 @@ pub fn changes_to(
     change: &StateChange,
 ) -> Result<Batch, AllocError>
     requires old_state { IsConsistent old.now }
-    requires change { IsChangeOf old.now change.now }
+    requires change { IsWholeChangeOf old.now change.now }
     requires old_size { length (spelling old.now) < 2 ^ 32 }
     requires new_size { length (spelling (state_after change.now old.now)) < 2 ^ 32 }
     ensures between { IfOk result (λ batch. batch ≡ between (rows_of old.now) (rows_of (state_after change.now old.now))) }
@@ -67,14 +69,16 @@ fn row_changes(
     change: &StateChange,
 ) -> Result<Sequence<RowChange>, AllocError>
     requires old_state { IsConsistent old.now }
-    requires change { IsChangeOf old.now change.now }
+    requires change { IsWholeChangeOf old.now change.now }
     ensures { IfOk result (λ changes. changes ≡ changes_between (rows_of old.now) (rows_of (state_after change.now old.now))) }
 {
     let first = first_row_changes(alloc, &old.enrolment, &change.enrolment)?;
     let events = event_changes(alloc, &old.events, &change.events)?;
+    let holds = hold_changes(alloc, &old.preferences, &change.preferences)?;
     let later = later_row_changes(alloc, &old.enrolment, &change.enrolment)?;
     let outbox = outbox_changes(alloc, &old.outbox, &change.outbox)?;
-    joined(first, events, later, outbox)
+    let values = value_changes(alloc, &old.preferences, &change.preferences)?;
+    joined(first, events, holds, later, outbox, values)
 }
 
 // The changes of the enrolment's first rows.
@@ -105,6 +109,20 @@ fn event_changes(
     }
 }
 
+// The changes of the rows of holds.
+fn hold_changes(
+    alloc: Global,
+    old: &Prefs,
+    next: &Option<Prefs>,
+) -> Result<Sequence<RowChange>, AllocError>
+    ensures { IfOk result (λ changes. changes ≡ changes_between (hold_rows old.now) (hold_rows (unwrap_or next.now old.now))) }
+{
+    match next {
+        Some(next) => old.hold_changes_to(alloc, next),
+        None => Ok(Sequence::new(alloc)),
+    }
+}
+
 // The changes of the enrolment's later rows.
 fn later_row_changes(
     alloc: Global,
@@ -131,6 +149,20 @@ fn outbox_changes(
 {
     match next {
         Some(next) => old.changes_to(alloc, next),
+        None => Ok(Sequence::new(alloc)),
+    }
+}
+
+// The changes of the rows of preferences' values.
+fn value_changes(
+    alloc: Global,
+    old: &Prefs,
+    next: &Option<Prefs>,
+) -> Result<Sequence<RowChange>, AllocError>
+    ensures { IfOk result (λ changes. changes ≡ changes_between (value_rows old.now) (value_rows (unwrap_or next.now old.now))) }
+{
+    match next {
+        Some(next) => old.value_changes_to(alloc, next),
         None => Ok(Sequence::new(alloc)),
     }
 }

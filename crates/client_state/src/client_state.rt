@@ -7,11 +7,12 @@ use crate::state_change::StateChange;
 use change_outbox::Outbox;
 use enrol_states::State;
 use event_counts::Counts;
+use pref_bindings::Prefs;
 use sequences::ExactClone;
 use std::alloc::{AllocError, Global};
 
-/// What a client knows of itself, of the recipes and of what it is to each, what its user did, and what it has to tell. A clone is
-/// the same state, and shares all that has a length.
+/// What a client knows of itself, of the recipes and of what it is to each, what its user did, what it has to tell, and the values
+/// of preferences. A clone is the same state, and shares all that has a length.
 #[derive(Drop)]
 pub struct ClientState {
     pub enrolment: State,
@@ -19,6 +20,8 @@ pub struct ClientState {
     pub events: Counts,
     /// The changes of enrolments that the host application hasn't confirmed yet.
     pub outbox: Outbox,
+    /// The preferences that have a value, with who holds them.
+    pub preferences: Prefs,
 }
 
 /// The same state. It takes no memory.
@@ -30,6 +33,7 @@ impl Clone for ClientState {
             enrolment: self.enrolment.clone()?,
             events: self.events.clone()?,
             outbox: self.outbox.clone()?,
+            preferences: self.preferences.clone()?,
         })
     }
 }
@@ -39,7 +43,8 @@ impl ExactClone for ClientState {
 }
 
 impl ClientState {
-    /// The state with this enrolment and empty parts: no event was counted, and no enrolment changed. It takes no memory.
+    /// The state with this enrolment and empty parts: no event was counted, no enrolment changed, and no
+    /// preference has a value. It takes no memory.
     pub fn new(alloc: Global, enrolment: State) -> ClientState
         ensures { result ≡ with_empty_parts enrolment }
     {
@@ -47,6 +52,7 @@ impl ClientState {
             enrolment,
             events: Counts::new(alloc),
             outbox: Outbox::new(alloc),
+            preferences: Prefs::new(alloc),
         }
     }
 
@@ -58,6 +64,7 @@ impl ClientState {
             enrolment: change.enrolment_or(&self.enrolment).clone()?,
             events: change.events_or(&self.events).clone()?,
             outbox: change.outbox_or(&self.outbox).clone()?,
+            preferences: change.preferences_or(&self.preferences).clone()?,
         })
     }
 }

@@ -1,81 +1,89 @@
 // What follows a change of the enrolment.
-ghost use Rattle.std.specs.Prelude.{◌≡◌, false, IfOk, IsErrOf, IsTrue};
+ghost use Rattle.std.specs.Prelude.{◌≡◌, ◌+◌, false, nat_lt, length, IfOk, IsErrOf, IsTrue, option_map};
 ghost use Rattle.std.specs.Option.{unwrap_or};
-ghost use Rattle.enrol_states.specs.Consistent as states;
-ghost use Rattle.client_state.specs.Changes.{IsChangeOf, IsSoundIf, state_after, with_outbox};
-ghost use Rattle.client_state.specs.Following.{appended_changes, followed, is_spent, is_spent_after, outbox_after, spends};
+ghost use Rattle.change_outbox.specs.Contents as contents;
+ghost use Rattle.change_outbox.specs.Contents.{appended, last_number};
+ghost use Rattle.client_state.specs.Changes.{HasHoldersOfBefore, IsChangeOf, IsWholeChangeOf, state_after};
+ghost use Rattle.client_state.specs.Following.{followed, spends};
 ghost use Rattle.client_state.specs.Sound.{IsConsistent};
 
 use crate::client_state::ClientState;
+use crate::preference_changes::{Sources, changes_done};
 use crate::state_change::StateChange;
-use change_outbox::{AppendChangesFault, Outbox, changes_of};
-use enrol_states::State;
+use change_outbox::{AppendChangesFault, Change, Outbox, changes_of};
+use fml_types::Manifest;
+use pref_bindings::Bindings;
+use sequences::Sequence;
 use std::alloc::Global;
 
-/// The change with what follows it: where it has a next enrolment, the outbox gets the changes of enrolments under its next numbers.
-/// Where there are none it stays as it is. `ChangesSpent` comes exactly where the outbox's next number would pass
-/// 9,223,372,036,854,775,807. The rows of both enrolments are walked once, and the texts of entries are shared.
+/// The change with what follows it: where it has a next enrolment, the outbox gets the changes of enrolments under its next numbers,
+/// and the preferences do their leaves and then their joins. A join sets what the branch of the slug's live recipe sets of the bound
+/// preferences, where there are a manifest and bindings. Where no enrolment changes, both stay as they are. `ChangesSpent` comes
+/// exactly where the outbox's next number would pass 9,223,372,036,854,775,807. The rows of both enrolments are walked once, and the
+/// texts of entries are shared. The state is lent to the outbox, and stays the same.
+#[tactic(auto, using(crate::proofs::Followed::none_followed, crate::proofs::Followed::none_whole, crate::proofs::Followed::none_spent, crate::proofs::Followed::empty_followed, crate::proofs::Followed::empty_whole, crate::proofs::Followed::empty_spent, crate::proofs::Followed::all_followed, crate::proofs::Followed::all_whole, crate::proofs::Followed::all_spent))]
 pub fn follow(
     alloc: Global,
-    state: &ClientState,
+    state: &mut ClientState,
     change: StateChange,
+    manifest: Option<&Manifest>,
+    bindings: Option<&Bindings>,
 ) -> Result<StateChange, AppendChangesFault>
-    requires state { IsConsistent state.now }
-    requires change { IsChangeOf state.now change }
-    ensures followed { IfOk result (λ next. state_after next state.now ≡ followed change state.now) }
-    ensures change { IfOk result (IsChangeOf state.now) }
-    ensures not_spent { IfOk result (λ _. spends change state.now ≡ false) }
-    ensures spent { IsErrOf result AppendChangesFault.ChangesSpent → IsTrue (spends change state.now) }
+    requires state { IsConsistent state.old }
+    requires change { IsChangeOf state.old change }
+    requires holders { HasHoldersOfBefore state.old change }
+    ensures same { state.new ≡ state.old }
+    ensures followed { IfOk result (λ next. state_after next state.old ≡ followed (option_map (λ m. m.now) manifest.entry) (option_map (λ b. b.now) bindings.entry) change state.old) }
+    ensures change { IfOk result (IsWholeChangeOf state.old) }
+    ensures not_spent { IfOk result (λ _. spends change state.old ≡ false) }
+    ensures spent { IsErrOf result AppendChangesFault.ChangesSpent → IsTrue (spends change state.old) }
 {
-    let outbox = next_outbox(alloc, state, &change)?;
-    Ok(change.with_outbox(outbox))
-}
-
-// The next outbox, where it isn't that of the change, or of the state.
-fn next_outbox(
-    alloc: Global,
-    state: &ClientState,
-    change: &StateChange,
-) -> Result<Option<Outbox>, AppendChangesFault>
-    requires state { IsConsistent state.now }
-    requires change { IsChangeOf state.now change.now }
-    ensures outbox { IfOk result (λ next. unwrap_or next (unwrap_or change.now.outbox state.now.outbox)
-        ≡ outbox_after state.now.enrolment change.now.enrolment (unwrap_or change.now.outbox state.now.outbox)) }
-    ensures sound { IfOk result IsSoundIf }
-    ensures not_spent { IfOk result (λ _. spends change.now state.now ≡ false) }
-    ensures spent { IsErrOf result AppendChangesFault.ChangesSpent → IsTrue (spends change.now state.now) }
-{
-    match &change.enrolment {
-        Some(next) => outbox_with(
-            alloc,
-            &state.enrolment,
-            &next.state,
-            change.outbox_or(&state.outbox),
-        ),
-        None => Ok(None),
-    }
-}
-
-// The outbox with the changes from one enrolment to another, where there are some.
-fn outbox_with(
-    alloc: Global,
-    old: &State,
-    new: &State,
-    outbox: &Outbox,
-) -> Result<Option<Outbox>, AppendChangesFault>
-    requires old_state { states.IsConsistent old.now }
-    requires new_state { states.IsConsistent new.now }
-    ensures outbox { IfOk result (λ next. unwrap_or next outbox.now ≡ appended_changes old.now new.now outbox.now) }
-    ensures sound { IfOk result IsSoundIf }
-    ensures not_spent { IfOk result (λ _. is_spent old.now new.now outbox.now ≡ false) }
-    ensures spent { IsErrOf result AppendChangesFault.ChangesSpent → IsTrue (is_spent old.now new.now outbox.now) }
-{
-    let changes = changes_of(alloc, old.rows.as_slice(), new.rows.as_slice())?;
-    outbox.next();
+    let Some(next) = &change.enrolment else {
+        return Ok(change);
+    };
+    let changes = changes_of(
+        alloc,
+        state.enrolment.rows.as_slice(),
+        next.state.rows.as_slice(),
+    )?;
     if changes.is_empty() {
-        return Ok(None);
+        return Ok(change);
     }
-    let next = outbox.appended(changes)?;
-    next.next();
-    Ok(Some(next))
+    let sources = Sources {
+        enrolment: &next.state,
+        manifest,
+        bindings,
+    };
+    let preferences = changes_done(
+        alloc,
+        &sources,
+        changes.as_slice(),
+        change.preferences_or(&state.preferences),
+    )?;
+    let outbox = next_outbox(&mut state.outbox, change.outbox, changes)?;
+    Ok(StateChange {
+        outbox: Some(outbox),
+        preferences: Some(preferences),
+        ..change
+    })
+}
+
+// The next outbox, or else that of before, with the changes. That of before is lent, and stays the same.
+fn next_outbox(
+    before: &mut Outbox,
+    next: Option<Outbox>,
+    changes: Sequence<Change>,
+) -> Result<Outbox, AppendChangesFault>
+    ensures same { before.new ≡ before.old }
+    ensures outbox { IfOk result (λ outbox. outbox ≡ appended changes (unwrap_or next before.old)) }
+    ensures sound { IfOk result contents.IsSound }
+    ensures not_spent { IfOk result (λ _. nat_lt last_number ((unwrap_or next before.old).next + length changes) ≡ false) }
+    ensures spent { IsErrOf result AppendChangesFault.ChangesSpent → IsTrue (nat_lt last_number ((unwrap_or next before.old).next + length changes)) }
+{
+    let outbox = match next {
+        Some(mut outbox) => outbox.appended(changes)?,
+        None => before.appended(changes)?,
+    };
+    outbox.next();
+    Ok(outbox)
 }

@@ -6,16 +6,21 @@ ghost use Rattle.event_counts.specs.declared.name_counts.NameCounts.{NameCounts}
 ghost use Rattle.change_outbox.specs.Contents as contents;
 ghost use Rattle.change_outbox.specs.Contents.{Contents};
 ghost use Rattle.change_outbox.specs.Rows as change_rows;
+ghost use Rattle.pref_bindings.specs.Preferences as preference_lists;
+ghost use Rattle.pref_bindings.specs.Rows.{hold_rows, value_rows};
+ghost use Rattle.pref_bindings.specs.declared.preference.Preference.{Preference};
 ghost use Rattle.client_state.specs.declared.client_state.ClientState.{ClientState};
 ghost use Rattle.client_state.specs.Forms.{IsForm};
 ghost use Rattle.client_state.specs.Sections.{AreSoundParts, HasSections};
 ghost use Rattle.client_state.specs.Sound.{IsSound};
 
 use crate::client_state::ClientState;
+use crate::holders::have_enrolled_holders;
 use crate::sections::{Sections, sections_of};
 use crate::sizes::sizes_of;
 use change_outbox::{Outbox, OutboxFault, outbox_of};
 use event_counts::{Counts, CountsFault, counts_of};
+use pref_bindings::{Prefs, PrefsFault, prefs_of_parts};
 use row_batches::StoreRow;
 use state_codec::{CodecFault, state_of_parts};
 use std::alloc::Global;
@@ -30,7 +35,7 @@ pub fn client_state_of(alloc: Global, rows: &[StoreRow]) -> Result<ClientState, 
     ensures not_a_state { IsErrOf result CodecFault.NotAState → (s : ClientState) → IsSound s → IsForm s rows.now → ⊥ }
 {
     let state = state_in(alloc, &sections_of(rows))?;
-    if fits(&state) {
+    if is_whole(&state) {
         Ok(state)
     } else {
         Err(CodecFault::NotAState)
@@ -47,15 +52,17 @@ fn state_in(alloc: Global, sections: &Sections) -> Result<ClientState, CodecFaul
         enrolment: state_of_parts(alloc, sections.first, sections.later)?,
         events: counts_in(alloc, sections.events)?,
         outbox: outbox_in(alloc, sections.outbox)?,
+        preferences: preferences_in(alloc, sections.holds, sections.values)?,
     })
 }
 
-// Whether the spelling of the state isn't too long.
-fn fits(state: &ClientState) -> bool
+// Whether the parts of the state fit each other, and its spelling isn't too long.
+fn is_whole(state: &ClientState) -> bool
     requires { AreSoundParts state.now }
     ensures { IsTrue result ↔ IsSound state.now }
 {
-    sizes_of(state).total <= MAX_SIZE
+    have_enrolled_holders(&state.enrolment, state.preferences.as_slice())
+        && sizes_of(state).total <= MAX_SIZE
 }
 
 // The counts that have these rows.
@@ -81,5 +88,23 @@ fn outbox_in(alloc: Global, rows: &[StoreRow]) -> Result<Outbox, CodecFault>
         Ok(outbox) => Ok(outbox),
         Err(OutboxFault::NotAnOutbox) => Err(CodecFault::NotAState),
         Err(OutboxFault::OutOfMemory) => Err(CodecFault::OutOfMemory),
+    }
+}
+
+// The preferences that have these rows.
+fn preferences_in(
+    alloc: Global,
+    holds: &[StoreRow],
+    values: &[StoreRow],
+) -> Result<Prefs, CodecFault>
+    ensures sound { IfOk result preference_lists.IsSound }
+    ensures holds { IfOk result (λ ps. holds.now ≡ hold_rows ps) }
+    ensures values { IfOk result (λ ps. values.now ≡ value_rows ps) }
+    ensures not_a_state { IsErrOf result CodecFault.NotAState → (ps : List Preference) → preference_lists.IsSound ps → holds.now ≡ hold_rows ps → values.now ≡ value_rows ps → ⊥ }
+{
+    match prefs_of_parts(alloc, holds, values) {
+        Ok(preferences) => Ok(preferences),
+        Err(PrefsFault::NotPrefs) => Err(CodecFault::NotAState),
+        Err(PrefsFault::OutOfMemory) => Err(CodecFault::OutOfMemory),
     }
 }

@@ -18,26 +18,34 @@ pub(crate) fn rows_of(alloc: Global, state: &ClientState) -> Result<Sequence<Sto
 {
     let first = first_rows_of(alloc, &state.enrolment)?;
     let events = state.events.rows(alloc)?;
+    let holds = state.preferences.hold_rows(alloc)?;
     let later = later_rows_of(alloc, &state.enrolment)?;
     let outbox = state.outbox.rows(alloc)?;
-    joined(first, events, later, outbox)
+    let values = state.preferences.value_rows(alloc)?;
+    joined(first, events, holds, later, outbox, values)
 }
 
-/// The items of four sequences, one after the other.
+/// The items of six sequences, one after the other.
 pub(crate) fn joined<T: Drop>(
     first: Sequence<T>,
     second: Sequence<T>,
     third: Sequence<T>,
     fourth: Sequence<T>,
+    fifth: Sequence<T>,
+    sixth: Sequence<T>,
 ) -> Result<Sequence<T>, AllocError>
-    ensures { IfOk result (λ all. all ≡ first ++ (second ++ (third ++ fourth))) }
+    ensures { IfOk result (λ all. all ≡ first ++ (second ++ (third ++ (fourth ++ (fifth ++ sixth))))) }
 {
     let mut all = first.into_vec();
     let mut second = second.into_vec();
     let mut third = third.into_vec();
     let mut fourth = fourth.into_vec();
+    let mut fifth = fifth.into_vec();
+    let mut sixth = sixth.into_vec();
     all.append(&mut second)?;
     all.append(&mut third)?;
     all.append(&mut fourth)?;
+    all.append(&mut fifth)?;
+    all.append(&mut sixth)?;
     Ok(Sequence::from_vec(all))
 }

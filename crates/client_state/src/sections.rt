@@ -4,17 +4,21 @@ ghost use Rattle.client_state.specs.Sections.{AreSections, IsSection, is_below};
 
 use row_batches::StoreRow;
 
-/// The rows of the enrolment, of the events and of the outbox, in the order of their keys.
+/// The rows of the enrolment and of the other parts, in the order of their keys.
 #[derive(Clone, Copy, Drop)]
 pub(crate) struct Sections<'a> {
     /// Of the enrolment: those whose keys begin below `e`.
     pub first: &'a [StoreRow],
     /// Those whose keys begin with `e`, where the rows are in the order of their keys.
     pub events: &'a [StoreRow],
+    /// Of preferences that are held: those behind them whose keys begin below `i`.
+    pub holds: &'a [StoreRow],
     /// Of the enrolment: those behind them whose keys begin below `x`.
     pub later: &'a [StoreRow],
-    /// All others.
+    /// Those behind them whose keys begin below `y`.
     pub outbox: &'a [StoreRow],
+    /// Of preferences' values: all others.
+    pub values: &'a [StoreRow],
 }
 
 /// The sections of the rows. None is copied.
@@ -23,12 +27,16 @@ pub(crate) fn sections_of(rows: &[StoreRow]) -> Sections<'_>
 {
     let (first, behind) = section(rows, b'e');
     let (events, behind) = section(behind, b'f');
-    let (later, outbox) = section(behind, b'x');
+    let (holds, behind) = section(behind, b'i');
+    let (later, behind) = section(behind, b'x');
+    let (outbox, values) = section(behind, b'y');
     Sections {
         first,
         events,
+        holds,
         later,
         outbox,
+        values,
     }
 }
 

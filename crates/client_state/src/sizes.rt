@@ -8,7 +8,9 @@ ghost use Rattle.event_counts.specs.Rows as count_rows;
 ghost use Rattle.event_counts.specs.declared.name_counts.NameCounts.{NameCounts};
 ghost use Rattle.change_outbox.specs.Contents.{Contents};
 ghost use Rattle.change_outbox.specs.Rows as change_rows;
-ghost use Rattle.client_state.specs.Changes.{IsChangeOf, IsNextIf, enrolment_after, state_after};
+ghost use Rattle.pref_bindings.specs.Rows as preference_rows;
+ghost use Rattle.pref_bindings.specs.declared.preference.Preference.{Preference};
+ghost use Rattle.client_state.specs.Changes.{IsNextIf, IsWholeChangeOf, enrolment_after, state_after};
 ghost use Rattle.client_state.specs.Sizes.{IsSizeOf};
 ghost use Rattle.client_state.specs.Sound.{IsConsistent, IsSound, HaveRecords};
 
@@ -17,6 +19,7 @@ use crate::state_change::{NextEnrolment, StateChange};
 use change_outbox::Outbox;
 use enrol_states::State;
 use event_counts::Counts;
+use pref_bindings::Prefs;
 use state_codec::StateSizes;
 
 /// How many bytes a client's state is spelled in, and how many of them its parts take.
@@ -30,6 +33,8 @@ pub struct ClientSizes {
     pub events: u128,
     /// Of the rows of the outbox.
     pub outbox: u128,
+    /// Of the rows of preferences.
+    pub preferences: u128,
 }
 
 /// The sizes of the state. They are counted without a text, and take no memory.
@@ -41,7 +46,8 @@ pub fn sizes_of(state: &ClientState) -> ClientSizes
     let enrolment = state_codec::sizes_of(&state.enrolment);
     let events = state.events.size();
     let outbox = state.outbox.size();
-    sizes_with(enrolment, events, outbox)
+    let preferences = state.preferences.size();
+    sizes_with(enrolment, events, outbox, preferences)
 }
 
 /// The sizes of the state after a change, by those of the state before. Parts that the change doesn't have aren't looked at, and of
@@ -49,28 +55,31 @@ pub fn sizes_of(state: &ClientState) -> ClientSizes
 pub fn sizes_after(before: ClientSizes, old: &ClientState, change: &StateChange) -> ClientSizes
     requires before { IsSizeOf old.now before }
     requires old_state { IsSound old.now }
-    requires change { IsChangeOf old.now change.now }
+    requires change { IsWholeChangeOf old.now change.now }
     ensures sizes { IsSizeOf (state_after change.now old.now) result }
     ensures records { HaveRecords (state_after change.now old.now).enrolment }
 {
     let enrolment = enrolment_after(before.enrolment, &old.enrolment, &change.enrolment);
     let events = events_after(before.events, &change.events);
     let outbox = outbox_after(before.outbox, &change.outbox);
-    sizes_with(enrolment, events, outbox)
+    let preferences = preferences_after(before.preferences, &change.preferences);
+    sizes_with(enrolment, events, outbox, preferences)
 }
 
 // The sizes of a state by those of its parts.
-fn sizes_with(enrolment: StateSizes, events: u128, outbox: u128) -> ClientSizes
+fn sizes_with(enrolment: StateSizes, events: u128, outbox: u128, preferences: u128) -> ClientSizes
     requires enrolment { enrolment.total ≤ 2 ^ 100 }
     requires events { events ≤ 2 ^ 100 }
     requires outbox { outbox ≤ 2 ^ 100 }
-    ensures { result ≡ record { total = enrolment.total + events + outbox; enrolment = enrolment; events = events; outbox = outbox } }
+    requires preferences { preferences ≤ 2 ^ 100 }
+    ensures { result ≡ record { total = enrolment.total + events + outbox + preferences; enrolment = enrolment; events = events; outbox = outbox; preferences = preferences } }
 {
     ClientSizes {
-        total: enrolment.total + events + outbox,
+        total: enrolment.total + events + outbox + preferences,
         enrolment,
         events,
         outbox,
+        preferences,
     }
 }
 
@@ -105,6 +114,18 @@ fn events_after(before: u128, next: &Option<Counts>) -> u128
 fn outbox_after(before: u128, next: &Option<Outbox>) -> u128
     requires { before ≤ 2 ^ 100 }
     ensures size { (old : Contents) → before ≡ length (puts_text (change_rows.rows_of old)) → result ≡ length (puts_text (change_rows.rows_of (unwrap_or next.now old))) }
+    ensures bound { result ≤ 2 ^ 100 }
+{
+    match next {
+        Some(next) => next.size(),
+        None => before,
+    }
+}
+
+// The size of the next preferences' rows, or that of before.
+fn preferences_after(before: u128, next: &Option<Prefs>) -> u128
+    requires { before ≤ 2 ^ 100 }
+    ensures size { (old : List Preference) → before ≡ length (puts_text (preference_rows.rows_of old)) → result ≡ length (puts_text (preference_rows.rows_of (unwrap_or next.now old))) }
     ensures bound { result ≤ 2 ^ 100 }
 {
     match next {

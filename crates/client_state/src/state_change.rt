@@ -1,11 +1,12 @@
 // What a command makes of a client's state.
 ghost use Rattle.std.specs.Prelude.{◌≡◌};
 ghost use Rattle.std.specs.Option.{unwrap_or};
-ghost use Rattle.client_state.specs.Changes.{enrolment_after, of_both, of_enrolment, of_events, of_outbox, with_outbox};
+ghost use Rattle.client_state.specs.Changes.{enrolment_after, no_change, of_both, of_enrolment, of_events, of_outbox};
 
 use change_outbox::Outbox;
 use enrol_states::State;
 use event_counts::Counts;
+use pref_bindings::Prefs;
 use state_codec::RecipeLists;
 
 /// What a command makes of a client's state: each part that it changes. A part that isn't there is as before.
@@ -14,6 +15,7 @@ pub struct StateChange {
     pub enrolment: Option<NextEnrolment>,
     pub events: Option<Counts>,
     pub outbox: Option<Outbox>,
+    pub preferences: Option<Prefs>,
 }
 
 /// The next enrolment, and which of its lists of recipes are those of before.
@@ -24,6 +26,18 @@ pub struct NextEnrolment {
 }
 
 impl StateChange {
+    /// A change of nothing. It takes no memory.
+    pub fn none() -> StateChange
+        ensures { result ≡ no_change }
+    {
+        StateChange {
+            enrolment: None,
+            events: None,
+            outbox: None,
+            preferences: None,
+        }
+    }
+
     /// A change to this enrolment, of which the lists of recipes are as before as far as it is said. It takes no memory.
     pub fn of_enrolment(state: State, recipes: RecipeLists) -> StateChange
         ensures { result ≡ of_enrolment state recipes }
@@ -32,6 +46,7 @@ impl StateChange {
             enrolment: Some(NextEnrolment { state, recipes }),
             events: None,
             outbox: None,
+            preferences: None,
         }
     }
 
@@ -43,6 +58,7 @@ impl StateChange {
             enrolment: None,
             events: Some(events),
             outbox: None,
+            preferences: None,
         }
     }
 
@@ -54,6 +70,7 @@ impl StateChange {
             enrolment: Some(NextEnrolment { state, recipes }),
             events: Some(events),
             outbox: None,
+            preferences: None,
         }
     }
 
@@ -65,16 +82,7 @@ impl StateChange {
             enrolment: None,
             events: None,
             outbox: Some(outbox),
-        }
-    }
-
-    /// The change with this outbox, where there is one.
-    pub(crate) fn with_outbox(self, outbox: Option<Outbox>) -> StateChange
-        ensures { result ≡ with_outbox outbox self }
-    {
-        match outbox {
-            Some(_) => StateChange { outbox, ..self },
-            None => self,
+            preferences: None,
         }
     }
 
@@ -104,6 +112,16 @@ impl StateChange {
     {
         match &self.outbox {
             Some(outbox) => outbox,
+            None => before,
+        }
+    }
+
+    /// The next preferences, or those of before.
+    pub(crate) fn preferences_or<'a>(&'a self, before: &'a Prefs) -> &'a Prefs
+        ensures { result.now ≡ unwrap_or self.now.preferences before.now }
+    {
+        match &self.preferences {
+            Some(preferences) => preferences,
             None => before,
         }
     }

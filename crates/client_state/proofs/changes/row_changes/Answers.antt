@@ -15,8 +15,13 @@ returns c =
     let t = state_after c.args.change.now s in
     let first = c.in_ok-first.first in
     let events = c.in_ok-events.events in
+    let holds = c.in_ok-holds.holds in
     let later = c.in_ok-later.later in
     let outbox = c.in_ok-outbox.outbox in
-    if_ok_weaker (λ (all : List RowChange). all ≡ first ++ (events ++ (later ++ outbox))) (λ (all : List RowChange). all ≡ changes_between (rows_of s) (rows_of t)) c.joined.result
-    (λ all is. is ∙ all_joined (participation s.enrolment) (participation t.enrolment) s t first events later outbox c.in_ok-first.ensures c.in_ok-events.ensures c.in_ok-later.ensures c.in_ok-outbox.ensures)
+    let values = c.in_ok-values.values in
+    let joined =
+    all_joined (participation s.enrolment) (participation t.enrolment) s t first events holds later outbox values c.in_ok-first.ensures c.in_ok-events.ensures c.in_ok-holds.ensures c.in_ok-later.ensures
+    c.in_ok-outbox.ensures c.in_ok-values.ensures in
+    if_ok_weaker (λ (all : List RowChange). all ≡ first ++ (events ++ (holds ++ (later ++ (outbox ++ values))))) (λ (all : List RowChange). all ≡ changes_between (rows_of s) (rows_of t)) c.joined.result
+    (λ all is. is ∙ joined)
     c.joined.ensures

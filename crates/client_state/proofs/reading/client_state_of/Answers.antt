@@ -4,7 +4,7 @@ use Rattle.std.specs.Prelude.{IsErrOf}
 use Rattle.std.proofs.lemmas.Result.{err_from_is_err_and}
 use Rattle.client_state.specs.Sound.{IsSound}
 use Rattle.client_state.proofs.OneState.{one_of_parts}
-use Rattle.client_state.proofs.SectionsRead.{form_sections, sections_form, sound_parts}
+use Rattle.client_state.proofs.SectionsRead.{form_sections, has_parts, section_rows, sections_form, sound_parts}
 use Rattle.client_state.proofs.reading.client_state_of.Goals as goal
 
 -- an error that is another's
@@ -16,18 +16,18 @@ returns-in_err-state-clause-not_a_state c =
     let p = err_from_is_err_and c.from_residual.result c.from_residual.ensures.1 in
     rw (p.1, p.2) (λ e s sound form. c.in_err-state.ensures.not_a_state (err_of _ _ e) s (sound_parts s sound) (form_sections s c.args.rows.now c.sections_of.result c.sections_of.ensures form))
 
-pub returns-then-fits-clause-state : goal.returns-then-fits-clause-state
-returns-then-fits-clause-state c =
-    (c.fits.ensures.0 c.if-fits.true, sections_form c.in_ok-state.state c.args.rows.now c.sections_of.result c.sections_of.ensures c.in_ok-state.ensures.sections)
+pub returns-then-is_whole-clause-state : goal.returns-then-is_whole-clause-state
+returns-then-is_whole-clause-state c =
+    (c.is_whole.ensures.0 c.if-is_whole.true, sections_form c.in_ok-state.state c.args.rows.now c.sections_of.result c.sections_of.ensures c.in_ok-state.ensures.sections)
 
 apart : (b : Bool) → b ≡ true → b ≡ false → ⊥
 apart b is other = absurd cc
 
-pub returns-else-fits-clause-not_a_state : goal.returns-else-fits-clause-not_a_state
-returns-else-fits-clause-not_a_state c none s sound form =
+pub returns-else-is_whole-clause-not_a_state : goal.returns-else-is_whole-clause-not_a_state
+returns-else-is_whole-clause-not_a_state c none s sound form =
     let sections = c.sections_of.result in
     let t = c.in_ok-state.state in
     let parts = form_sections s c.args.rows.now sections c.sections_of.ensures form in
     let read = c.in_ok-state.ensures.sections in
-    let same : s ≡ t = one_of_parts sections.first.now sections.events.now sections.later.now sections.outbox.now s t (sound_parts s sound) c.in_ok-state.ensures.sound parts.enrolment read.enrolment parts.events read.events parts.outbox read.outbox in
-    apart c.fits.result (c.fits.ensures.1 (subst IsSound same sound)) c.if-fits.false
+    let same : s ≡ t = one_of_parts (section_rows sections) s t (sound_parts s sound) c.in_ok-state.ensures.sound (has_parts s sections parts) (has_parts t sections read) in
+    apart c.is_whole.result (c.is_whole.ensures.1 (subst IsSound same sound)) c.if-is_whole.false
