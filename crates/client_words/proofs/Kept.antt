@@ -1,4 +1,4 @@
--- What the command of a line keeps: its slugs are slugs, its id has sixteen bytes, and an event has a name and a count.
+-- What the command of a line keeps: its slugs are slugs, its id has sixteen bytes, an event has a name and a count, and a preference has a name and a value.
 use Rattle.std.proofs.Common.{◌≡◌, ◌≤◌, ℕ, Bool, true, false, List, [], ◌∷◌, length, refl, Option, Some, None, Result, Ok, Err, IfOk, arith}
 use Rattle.std.specs.Prelude.{IsTrue, nat_lt, bytes_eq, codes, if◌then◌else◌}
 use Rattle.std.specs.Str.{is_utf8}
@@ -8,12 +8,14 @@ use Rattle.plain_text.specs.Names.{bad_place, is_name}
 use Rattle.uuid.specs.Text.{parsed}
 use Rattle.enrol_states.specs.Consistent.{IsId}
 use Rattle.enrol_states.specs.Statuses.{IsSlug}
+use Rattle.pref_bindings.specs.Preferences.{IsValue}
 use Rattle.client_words.specs.declared.command.Command.{Command}
-use Rattle.client_words.specs.declared.command.Command.TheVariants.{Apply, Show, WriteManifest, Changes}
+use Rattle.client_words.specs.declared.command.Command.TheVariants.{Apply, Show, WriteManifest, Changes, Preferences}
 use Rattle.client_words.specs.declared.line.LineFault.{LineFault}
 use Rattle.client_words.specs.declared.line.LineFault.TheVariants.{BadWords}
-use Rattle.client_words.specs.Commands.{IsCommand, words_of, ◌>>=◌, yes_or_no_in, part_in, text_in, unless_bad, slug_in, id_read, id_in, manifest_file, context_file, fetching, alone, participation, opting_out, opting_in, resetting, feature_name, name_in, is_count, count_in, event_count, number_in, confirming, command_named, command_of_words, command_of}
+use Rattle.client_words.specs.Commands.{IsCommand, words_of, ◌>>=◌, yes_or_no_in, part_in, text_in, unless_bad, slug_in, id_read, id_in, manifest_file, context_file, fetching, alone, participation, opting_out, opting_in, resetting, feature_name, name_in, is_count, count_in, event_count, number_in, confirming, bindings_file, value_in, setting_preference, clearing_preference, command_named, command_of_words, command_of}
 use Rattle.client_words.proofs.Ids.{IsIdIn, id_in_text}
+use Rattle.client_words.proofs.Values.{is_value_in}
 
 abbrev Kept : Result Command LineFault → Type 0
 Kept read = IfOk read IsCommand
@@ -135,6 +137,23 @@ confirm-kept [] = tt
 confirm-kept (word ∷ []) = free (number_in word) _ (λ number. tt)
 confirm-kept (word ∷ next ∷ more) = tt
 
+bind-kept : (words : List (List ℕ)) → Kept (bindings_file words)
+bind-kept [] = tt
+bind-kept (word ∷ []) = free (text_in word) _ (λ file. tt)
+bind-kept (word ∷ next ∷ more) = tt
+
+set_preference-kept : (words : List (List ℕ)) → Kept (setting_preference words)
+set_preference-kept [] = tt
+set_preference-kept (word ∷ []) = tt
+set_preference-kept (word ∷ next ∷ []) =
+    bound (λ name. IsTrue (is_name name)) (name_in word) _ (is_named word) (λ name named. bound IsValue (value_in next) _ (is_value_in next) (λ value is. (named, is)))
+set_preference-kept (word ∷ next ∷ more ∷ rest) = tt
+
+clear_preference-kept : (words : List (List ℕ)) → Kept (clearing_preference words)
+clear_preference-kept [] = tt
+clear_preference-kept (word ∷ []) = bound (λ name. IsTrue (is_name name)) (name_in word) _ (is_named word) (λ name named. named)
+clear_preference-kept (word ∷ next ∷ more) = tt
+
 named-kept : (name : List ℕ) (words : List (List ℕ)) → Kept (command_named name words)
 named-kept name words =
     either (bytes_eq name (codes "manifest")) _ _ (manifest-kept words)
@@ -150,7 +169,11 @@ named-kept name words =
     (either (bytes_eq name (codes "write-manifest")) _ _ (alone-kept WriteManifest words tt)
     (either (bytes_eq name (codes "event")) _ _ (event-kept words)
     (either (bytes_eq name (codes "changes")) _ _ (alone-kept Changes words tt)
-    (either (bytes_eq name (codes "confirm")) _ _ (confirm-kept words) tt)))))))))))))
+    (either (bytes_eq name (codes "confirm")) _ _ (confirm-kept words)
+    (either (bytes_eq name (codes "bind")) _ _ (bind-kept words)
+    (either (bytes_eq name (codes "set-pref")) _ _ (set_preference-kept words)
+    (either (bytes_eq name (codes "clear-pref")) _ _ (clear_preference-kept words)
+    (either (bytes_eq name (codes "prefs")) _ _ (alone-kept Preferences words tt) tt)))))))))))))))))
 
 words-kept : (words : List (List ℕ)) → Kept (command_of_words words)
 words-kept [] = tt

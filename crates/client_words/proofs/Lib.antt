@@ -3,4 +3,5 @@ pub mod Ids
 mod Joining
 pub mod Kept
 mod Numbers
+mod Values
 pub mod Within

@@ -8,6 +8,7 @@ use Rattle.app_context.specs.Keys.{name_of}
 use Rattle.change_outbox.specs.declared.change.Change.{Change}
 use Rattle.change_outbox.specs.declared.change.ChangeKind.{ChangeKind}
 use Rattle.change_outbox.specs.declared.change.ChangeKind.TheVariants as change
+use Rattle.pref_bindings.specs.declared.preference.Preference.{Preference}
 use Rattle.recipe_reader.specs.declared.recipe.SkipReason.{SkipReason}
 use Rattle.recipe_reader.specs.declared.recipe.SkipReason.TheVariants as skip
 use Rattle.enrol_states.specs.declared.state.Row.{Row}
@@ -22,7 +23,7 @@ use Rattle.enrol_states.specs.declared.status.DisqualifiedReason.TheVariants as 
 use Rattle.enrol_states.specs.declared.status.ErrorCause.{ErrorCause}
 use Rattle.enrol_states.specs.declared.status.ErrorCause.TheVariants as error
 use Rattle.client_words.specs.declared.answer.Answer.{Answer}
-use Rattle.client_words.specs.declared.answer.Answer.TheVariants.{Okay, Fetched, Applied, Value, Shown, Manifest, Changes, NoManifest, NoContext, AbsentFile, FileTooLarge, NotJson, BadContext, NoData, TooManyRecipes, BadShape, TooManyFiles, ImportClash, DuplicateName, UnknownType, EndlessObject, ObjectTooLarge, UnknownChannel, UnknownImport, UnknownOverride, BadDefault, UnknownFeature, OptedOutLimit, NotParticipating, NoSuchExperiment, NoSuchBranch, FeatureTaken, EventLimit, NoSuchChange, ChangesSpent, StateTooLarge}
+use Rattle.client_words.specs.declared.answer.Answer.TheVariants.{Okay, Fetched, Applied, Value, Shown, Manifest, Changes, Preferences, NoManifest, NoContext, AbsentFile, FileTooLarge, NotJson, BadContext, BadBinding, NoData, TooManyRecipes, BadShape, TooManyFiles, ImportClash, DuplicateName, UnknownType, EndlessObject, ObjectTooLarge, UnknownChannel, UnknownImport, UnknownOverride, BadDefault, UnknownFeature, OptedOutLimit, NotParticipating, NoSuchExperiment, NoSuchBranch, FeatureTaken, EventLimit, NoSuchChange, ChangesSpent, StateTooLarge}
 use Rattle.client_words.specs.declared.line.LineFault.{LineFault}
 use Rattle.client_words.specs.declared.line.LineFault.TheVariants.{LineTooLong, Blank, UnknownCommand, BadWords, BadSlug, BadId, OutOfMemory}
 
@@ -103,6 +104,10 @@ kind_word change.Leave = codes "leave"
 unfoldable pub change_line : Change → List ℕ
 change_line c = (codes "change " ++ decimal c.number) ++ (codes " " ++ kind_word c.kind) ++ (codes " " ++ c.slug) ++ (codes " " ++ c.branch) ++ 10 ∷ []
 
+-- a preference, with its present value as canonical JSON
+unfoldable pub preference_line : Preference → List ℕ
+preference_line p = codes "pref " ++ p.name ++ codes " " ++ text_of (json_of p.value) ++ 10 ∷ []
+
 -- the kinds of recipes that the client takes part in: `yes` for both, `no` for none
 abbrev pub participating_in : Bool → Bool → List ℕ
 participating_in true true = codes "yes"
@@ -123,6 +128,10 @@ fetched_lines kept skipped = codes "fetched " ++ decimal kept ++ codes " skipped
 unfoldable pub changes_lines : List Change → List ℕ
 changes_lines changes = lines_for change_line changes ++ codes "end\n"
 
+-- what `prefs` says
+unfoldable pub preferences_lines : List Preference → List ℕ
+preferences_lines ps = lines_for preference_line ps ++ codes "end\n"
+
 -- the answer to a command
 unfoldable pub answer_lines : Answer → List ℕ
 answer_lines Okay = codes "ok\n"
@@ -131,6 +140,7 @@ answer_lines (Applied enrolled rows) = codes "applied " ++ decimal enrolled ++ c
 answer_lines (Value tree) = codes "value " ++ text_of (json_of tree) ++ 10 ∷ []
 answer_lines (Manifest tree) = codes "manifest " ++ text_of (json_of tree) ++ 10 ∷ []
 answer_lines (Changes changes) = changes_lines changes
+answer_lines (Preferences preferences) = preferences_lines preferences
 answer_lines (Shown id experiments rollouts pending opted_out rows) = shown_lines id experiments rollouts pending opted_out rows
 answer_lines NoManifest = codes "refused NoManifest\n"
 answer_lines NoContext = codes "refused NoContext\n"
@@ -138,6 +148,7 @@ answer_lines (AbsentFile name) = codes "refused AbsentFile " ++ quoted name ++ 1
 answer_lines (FileTooLarge name len) = codes "refused FileTooLarge " ++ quoted name ++ codes " " ++ decimal len ++ 10 ∷ []
 answer_lines (NotJson name) = codes "refused NotJson " ++ quoted name ++ 10 ∷ []
 answer_lines (BadContext key) = codes "refused BadContext " ++ quoted (name_of key) ++ 10 ∷ []
+answer_lines (BadBinding feature) = codes "refused BadBinding " ++ quoted feature ++ 10 ∷ []
 answer_lines NoData = codes "refused NoData\n"
 answer_lines (TooManyRecipes count) = codes "refused TooManyRecipes " ++ decimal count ++ 10 ∷ []
 answer_lines (BadShape name path) = codes "refused BadShape " ++ quoted name ++ codes " " ++ quoted path ++ 10 ∷ []

@@ -2,6 +2,11 @@
 use Rattle.std.specs.Prelude.{ℕ, ◌≤◌, ◌&&◌, nat_lt, nat_le, IsTrue, Bool, true, false, List, [], ◌∷◌, Option, None, Some, Result, Ok, Err, map, length, slice_range, bytes_eq, codes, decimal, if◌then◌else◌}
 use Rattle.std.specs.Str.{is_utf8}
 use Rattle.std.specs.Str.Parse.{digits_value}
+use Rattle.json_tree.specs.Json as json
+use Rattle.json_tree.specs.Json.{Json}
+use Rattle.json_tree.specs.Bytes.{tree_of}
+use Rattle.json_tree.specs.declared.tree.Tree.{Tree}
+use Rattle.json_tree.specs.declared.tree.Tree.TheVariants.{Truth, Whole, Text}
 use Rattle.plain_text.specs.Names.{bad_place, is_name}
 use Rattle.plain_text.specs.Spans.{lines, words}
 use Rattle.uuid.specs.Text.{parsed}
@@ -9,8 +14,9 @@ use Rattle.enrol_states.specs.declared.participation.Part.{Part}
 use Rattle.enrol_states.specs.declared.participation.Part.TheVariants.{Both, Experiments, Rollouts}
 use Rattle.enrol_states.specs.Consistent.{IsId}
 use Rattle.enrol_states.specs.Statuses.{IsSlug}
+use Rattle.pref_bindings.specs.Preferences.{IsValue}
 use Rattle.client_words.specs.declared.command.Command.{Command}
-use Rattle.client_words.specs.declared.command.Command.TheVariants.{Manifest, Context, Fetch, Apply, Participate, OptOut, OptIn, Reset, Show, Feature, WriteManifest, Event, Changes, Confirm}
+use Rattle.client_words.specs.declared.command.Command.TheVariants.{Manifest, Context, Fetch, Apply, Participate, OptOut, OptIn, Reset, Show, Feature, WriteManifest, Event, Changes, Confirm, Bind, SetPreference, ClearPreference, Preferences}
 use Rattle.client_words.specs.declared.line.LineFault.{LineFault}
 use Rattle.client_words.specs.declared.line.LineFault.TheVariants.{LineTooLong, Blank, UnknownCommand, BadWords, BadSlug, BadId}
 
@@ -120,7 +126,7 @@ feature_name [] = Err BadWords
 feature_name (word ∷ []) = text_in word >>= λ name. Ok (Feature name)
 feature_name (word ∷ next ∷ more) = Err BadWords
 
--- the name of what a user did
+-- the name of what a user did, or of a preference
 abbrev pub name_in : List ℕ → Result (List ℕ) LineFault
 name_in word = if is_name word then text_in word else Err BadWords
 
@@ -153,6 +159,40 @@ confirming [] = Err BadWords
 confirming (word ∷ []) = number_in word >>= λ number. Ok (Confirm number)
 confirming (word ∷ next ∷ more) = Err BadWords
 
+-- the words behind `bind`
+abbrev pub bindings_file : List (List ℕ) → Result Command LineFault
+bindings_file [] = Err BadWords
+bindings_file (word ∷ []) = text_in word >>= λ file. Ok (Bind file)
+bindings_file (word ∷ next ∷ more) = Err BadWords
+
+-- a truth value, a whole number of 64 bits or a text
+abbrev pub preference_value : Json → Result Tree LineFault
+preference_value (json.truth b) = Ok (Truth b)
+preference_value (json.whole n) = Ok (Whole n)
+preference_value (json.text s) = Ok (Text s)
+preference_value x = Err BadWords
+
+abbrev pub value_read : Option Json → Result Tree LineFault
+value_read None = Err BadWords
+value_read (Some x) = preference_value x
+
+-- the value of a preference, whose JSON the word is
+unfoldable pub value_in : List ℕ → Result Tree LineFault
+value_in word = value_read (tree_of word)
+
+-- the words behind `set-pref`
+abbrev pub setting_preference : List (List ℕ) → Result Command LineFault
+setting_preference [] = Err BadWords
+setting_preference (word ∷ []) = Err BadWords
+setting_preference (word ∷ next ∷ []) = name_in word >>= λ name. value_in next >>= λ value. Ok (SetPreference name value)
+setting_preference (word ∷ next ∷ more ∷ rest) = Err BadWords
+
+-- the words behind `clear-pref`
+abbrev pub clearing_preference : List (List ℕ) → Result Command LineFault
+clearing_preference [] = Err BadWords
+clearing_preference (word ∷ []) = name_in word >>= λ name. Ok (ClearPreference name)
+clearing_preference (word ∷ next ∷ more) = Err BadWords
+
 -- the command of this name, with the words behind it
 abbrev pub command_named : List ℕ → List (List ℕ) → Result Command LineFault
 command_named name arguments =
@@ -170,6 +210,10 @@ command_named name arguments =
     else if bytes_eq name (codes "event") then event_count arguments
     else if bytes_eq name (codes "changes") then alone Changes arguments
     else if bytes_eq name (codes "confirm") then confirming arguments
+    else if bytes_eq name (codes "bind") then bindings_file arguments
+    else if bytes_eq name (codes "set-pref") then setting_preference arguments
+    else if bytes_eq name (codes "clear-pref") then clearing_preference arguments
+    else if bytes_eq name (codes "prefs") then alone Preferences arguments
     else Err UnknownCommand
 
 -- the command of these words
@@ -187,10 +231,12 @@ pub record IsEvent (text : List ℕ) (count : ℕ) : Type 0 where
   pub least : 1 ≤ count
   pub most : count ≤ 1000000
 
--- what is kept by the parts of a command that is read from a line: slugs are slugs, an id has sixteen bytes, and an event has a name and a count
+-- what is kept by the parts of a command that is read from a line: slugs are slugs, an id has sixteen bytes, an event has a name and a count, and a preference has a name and a value
 abbrev pub IsCommand : Command → Type 0
 IsCommand (OptOut slug) = IsSlug slug
 IsCommand (OptIn slug branch) = IsSlug slug × IsSlug branch
 IsCommand (Reset id) = IsId id
 IsCommand (Event name count) = IsEvent name count
+IsCommand (SetPreference name value) = IsTrue (is_name name) × IsValue value
+IsCommand (ClearPreference name) = IsTrue (is_name name)
 IsCommand command = Unit {0}

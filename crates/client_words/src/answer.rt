@@ -4,6 +4,7 @@ use change_outbox::Change;
 use enrol_states::Row;
 use json_tree::Tree;
 use plain_text::Slug;
+use pref_bindings::Prefs;
 use recipe_reader::SkipReason;
 use sequences::{Sequence, SharedList, Text};
 use uuid::Uuid;
@@ -42,6 +43,8 @@ pub enum Answer {
     Manifest(Tree),
     /// The changes of enrolments that aren't confirmed, in order by number.
     Changes(Sequence<Change>),
+    /// The preferences that have a value, in order by name.
+    Preferences(Prefs),
     /// No manifest was set in this run.
     NoManifest,
     /// No context was read in this run.
@@ -54,6 +57,9 @@ pub enum Answer {
     NotJson(Text),
     /// The file's value is no context: the first key whose value is none that it may have.
     BadContext(ContextKey),
+    /// The file's value isn't bindings: the first feature, in key order, at which it fails to be, or the empty text where it is no
+    /// object.
+    BadBinding(Text),
     /// The file's value isn't an object with a list `data`.
     NoData,
     /// The payload has so many records, which is more than 2,000.

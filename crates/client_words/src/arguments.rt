@@ -216,7 +216,7 @@ fn part_in(word: &[u8]) -> Result<Part, LineFault>
 }
 
 /// The name of a file, a channel or a feature, where the word is in UTF-8.
-fn text_in(alloc: Global, word: &[u8]) -> Result<Text, LineFault>
+pub(crate) fn text_in(alloc: Global, word: &[u8]) -> Result<Text, LineFault>
     ensures { (result ≡ text_in word.now) ⊎ (result ≡ Err LineFault.OutOfMemory) }
 {
     match str::from_utf8(word) {
@@ -225,8 +225,8 @@ fn text_in(alloc: Global, word: &[u8]) -> Result<Text, LineFault>
     }
 }
 
-/// The name of what a user did, where the word is a name.
-fn name_in(alloc: Global, word: &[u8]) -> Result<Text, LineFault>
+/// The name of what a user did, or of a preference, where the word is a name.
+pub(crate) fn name_in(alloc: Global, word: &[u8]) -> Result<Text, LineFault>
     ensures { (result ≡ name_in word.now) ⊎ (result ≡ Err LineFault.OutOfMemory) }
 {
     if !is_name(word) {

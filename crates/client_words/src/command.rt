@@ -1,5 +1,6 @@
 // What a client is asked for.
 use enrol_states::Part;
+use json_tree::Tree;
 use plain_text::Slug;
 use sequences::Text;
 
@@ -34,4 +35,13 @@ pub enum Command {
     Changes,
     /// The host application knows the changes up to this number.
     Confirm { number: u64 },
+    /// The value of this file becomes the bindings of the run.
+    Bind { file: Text },
+    /// The user gives this value to the preference of this name. The name is 1 to 80 ASCII letters, digits, `-`, `_` and `.`, and
+    /// the value is `Truth`, `Whole` or `Text`.
+    SetPreference { name: Text, value: Tree },
+    /// The user takes the value of the preference of this name away.
+    ClearPreference { name: Text },
+    /// The preferences that have a value, as an answer.
+    Preferences,
 }

@@ -6,6 +6,7 @@ mod answer;
 mod arguments;
 mod command;
 mod line;
+mod preferences;
 mod refusals;
 mod rows;
 mod texts;

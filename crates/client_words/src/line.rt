@@ -8,6 +8,7 @@ use crate::arguments::{
     opting_out, participation, resetting,
 };
 use crate::command::Command;
+use crate::preferences::{bindings_file, clearing_preference, setting_preference};
 use plain_text::words;
 use std::alloc::{AllocError, Global};
 
@@ -24,9 +25,10 @@ pub enum LineFault {
     /// The first word is no command.
     UnknownCommand,
     /// The words behind the first are not those of the command: there are more or fewer, those behind `participate` are
-    /// others, the name of a file, a channel or a feature isn't in UTF-8, those behind `event` aren't a name of 1 to 80
-    /// ASCII letters, digits, `-`, `_` and `.`, and a number from 1 to 1,000,000, or that behind `confirm` isn't a number
-    /// below 2 to the 64.
+    /// others, the name of a file, a channel or a feature isn't in UTF-8, the name of an event or a preference isn't 1 to 80
+    /// ASCII letters, digits, `-`, `_` and `.`, the number behind an event isn't from 1 to 1,000,000, that behind `confirm`
+    /// isn't below 2 to the 64, or the value of a preference isn't the JSON (RFC 8259) of a truth value, of a whole number of
+    /// 64 bits with a sign, or of a text.
     BadWords,
     /// A word that stands for a slug fails to be one at this place: the first such word.
     BadSlug(usize),
@@ -48,7 +50,8 @@ impl From<AllocError> for LineFault {
 }
 
 /// The command of a line, or the first fault that applies. Words are separated by spaces and tabs. The slugs of the command
-/// are slugs, its id has sixteen bytes, and of an event the name is a name and the count is 1 to 1,000,000.
+/// are slugs, its id has sixteen bytes, of an event the name is a name and the count is 1 to 1,000,000, and of a preference the
+/// name is a name and the value is `Truth`, `Whole` or `Text`.
 #[tactic(auto, unfolding(crate::specs::Commands::command_of))]
 pub fn read_command(alloc: Global, line: &[u8]) -> Result<Command, LineFault>
     ensures value { (result ≡ command_of line.now) ⊎ (result ≡ Err LineFault.OutOfMemory) }
@@ -110,6 +113,14 @@ fn named(
         alone(Command::Changes, arguments)
     } else if name == b"confirm".as_slice() {
         confirming(line, arguments)
+    } else if name == b"bind".as_slice() {
+        bindings_file(alloc, line, arguments)
+    } else if name == b"set-pref".as_slice() {
+        setting_preference(alloc, line, arguments)
+    } else if name == b"clear-pref".as_slice() {
+        clearing_preference(alloc, line, arguments)
+    } else if name == b"prefs".as_slice() {
+        alone(Command::Preferences, arguments)
     } else {
         Err(LineFault::UnknownCommand)
     }

@@ -1,6 +1,6 @@
-// Lines of lists: the skipped records, the slugs that are opted out, the rows, and the changes of enrolments.
+// Lines of lists: the skipped records, the slugs that are opted out, the rows, the changes of enrolments, and the preferences.
 ghost use Rattle.std.specs.Prelude.{◌≡◌, ◌++◌, OnOk, string_bytes};
-ghost use Rattle.client_words.specs.Answers.{lines_for, skipped_line, out_line, status_words, row_line, change_line};
+ghost use Rattle.client_words.specs.Answers.{lines_for, skipped_line, out_line, status_words, row_line, change_line, preference_line};
 ghost use Rattle.client_words.specs.Answers as spec;
 
 use change_outbox::{Change, ChangeKind};
@@ -8,9 +8,11 @@ use enrol_states::{
     DisqualifiedReason, EnrolledReason, ErrorCause, NotEnrolledReason, Row, Status,
 };
 use itoa::Buffer;
+use json_tree::write;
 use plain_text::Slug;
+use pref_bindings::Preference;
 use recipe_reader::SkipReason;
-use std::alloc::AllocError;
+use std::alloc::{AllocError, Global};
 
 /// A line for each record that was skipped.
 pub(crate) fn push_skipped_lines(
@@ -92,6 +94,35 @@ fn push_change_line(text: &mut String, change: &Change) -> Result<(), AllocError
     push_words(text, " ", kind_word(change.kind))?;
     push_words(text, " ", change.slug.text())?;
     push_words(text, " ", change.branch.text())?;
+    text.push_str("\n")
+}
+
+/// A line for each preference.
+pub(crate) fn push_preference_lines(
+    text: &mut String,
+    alloc: Global,
+    preferences: &[Preference],
+) -> Result<(), AllocError>
+    ensures { OnOk result (string_bytes text.new ≡ string_bytes text.old ++ lines_for preference_line preferences.now) }
+{
+    for preference in preferences {
+        push_preference_line(text, alloc, preference)?;
+    }
+    Ok(())
+}
+
+#[tactic(auto, unfolding(crate::specs::Answers::preference_line))]
+fn push_preference_line(
+    text: &mut String,
+    alloc: Global,
+    preference: &Preference,
+) -> Result<(), AllocError>
+    ensures { OnOk result (string_bytes text.new ≡ string_bytes text.old ++ preference_line preference.now) }
+{
+    text.push_str("pref ")?;
+    text.push_str(preference.name.as_str())?;
+    text.push_str(" ")?;
+    text.push_str(write(alloc, &preference.value)?.as_str())?;
     text.push_str("\n")
 }
 

@@ -2,7 +2,7 @@
 ghost use Rattle.std.specs.Prelude.{◌≡◌, ◌≢◌, [], ◌∷◌, ◌++◌, IfOk};
 ghost use Rattle.json_tree.specs.Bytes.{text_of};
 ghost use Rattle.json_tree.specs.Tree.{json_of};
-ghost use Rattle.client_words.specs.Answers.{participating_in, yes_or_no, shown_lines, fetched_lines, changes_lines, answer_lines, fault_answer};
+ghost use Rattle.client_words.specs.Answers.{participating_in, yes_or_no, shown_lines, fetched_lines, changes_lines, preferences_lines, answer_lines, fault_answer};
 ghost use Rattle.client_words.specs.Answers as spec;
 
 use crate::answer::Answer;
@@ -10,12 +10,15 @@ use crate::line::LineFault;
 use crate::refusals::{
     counted, default_text, file_length_text, named, quoted_name, shape_text, taken_text,
 };
-use crate::rows::{push_change_lines, push_out_lines, push_row_lines, push_skipped_lines};
+use crate::rows::{
+    push_change_lines, push_out_lines, push_preference_lines, push_row_lines, push_skipped_lines,
+};
 use change_outbox::Change;
 use enrol_states::Row;
 use itoa::Buffer;
 use json_tree::{Tree, write};
 use plain_text::Slug;
+use pref_bindings::Prefs;
 use recipe_reader::SkipReason;
 use sequences::{Sequence, SharedList, Text};
 use std::alloc::{AllocError, Global};
@@ -33,6 +36,7 @@ pub fn answer_text(alloc: Global, answer: &Answer) -> Result<Text, AllocError>
         Answer::Value(tree) => tree_text(alloc, "value ", tree),
         Answer::Manifest(tree) => tree_text(alloc, "manifest ", tree),
         Answer::Changes(changes) => changes_text(alloc, changes),
+        Answer::Preferences(preferences) => preferences_text(alloc, preferences),
         Answer::Shown {
             id,
             experiments,
@@ -55,6 +59,9 @@ pub fn answer_text(alloc: Global, answer: &Answer) -> Result<Text, AllocError>
         Answer::FileTooLarge(name, length) => file_length_text(alloc, name, *length),
         Answer::NotJson(name) => quoted_name(alloc, "refused NotJson ", name.as_str()),
         Answer::BadContext(key) => quoted_name(alloc, "refused BadContext ", key.name()),
+        Answer::BadBinding(feature) => {
+            quoted_name(alloc, "refused BadBinding ", feature.as_str())
+        }
         Answer::NoData => Text::new(alloc, "refused NoData\n"),
         Answer::TooManyRecipes(count) => counted(
             alloc,
@@ -160,6 +167,17 @@ fn changes_text(alloc: Global, changes: &Sequence<Change>) -> Result<Text, Alloc
 {
     let mut text = String::from_str(alloc, "")?;
     push_change_lines(&mut text, changes.as_slice())?;
+    text.push_str("end\n")?;
+    Ok(Text::from_string(text))
+}
+
+/// What `prefs` says.
+#[tactic(auto, unfolding(crate::specs::Answers::preferences_lines))]
+fn preferences_text(alloc: Global, preferences: &Prefs) -> Result<Text, AllocError>
+    ensures { IfOk result (λ text. text ≡ preferences_lines preferences.now) }
+{
+    let mut text = String::from_str(alloc, "")?;
+    push_preference_lines(&mut text, alloc, preferences.as_slice())?;
     text.push_str("end\n")?;
     Ok(Text::from_string(text))
 }
