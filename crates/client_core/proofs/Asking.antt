@@ -3,7 +3,7 @@ use Rattle.std.proofs.Common.{◌≡◌, List, ℕ, false, [], ◌∷◌, refl, 
 use Rattle.host_model.specs.declared.shelf.Shelf.{Ghosts}
 use Rattle.fml_link.specs.Asked.{IsAskedFrom}
 use Rattle.client_words.specs.declared.command.Command.{Command}
-use Rattle.client_words.specs.declared.command.Command.TheVariants.{Apply, Participate, OptOut, OptIn, Reset, Show, Feature, Fetch, Event, Confirm, WriteManifest}
+use Rattle.client_words.specs.declared.command.Command.TheVariants.{Apply, Participate, OptOut, OptIn, Reset, Show, Feature, Fetch, Event, Confirm, Bind, SetPreference, ClearPreference, WriteManifest}
 use Rattle.client_words.specs.declared.command.Command.TheVariants as commands
 use Rattle.client_core.specs.Commands.{names_file, HasAsked}
 
@@ -17,11 +17,15 @@ module _ {F : Type 0} (f : Ghosts F) (shelf left : F) (command : Command) (file 
   pub fetch_asked : command ≡ Fetch file → f.asks shelf file left → HasAsked f command shelf left
   fetch_asked is asked = subst (λ (c : Command). HasAsked f c shelf left) (sym is) (record { names = file ∷ []; files = refl; reached = (left, asked, refl) })
 
+  pub bind_asked : command ≡ Bind file → f.asks shelf file left → HasAsked f command shelf left
+  bind_asked is asked = subst (λ (c : Command). HasAsked f c shelf left) (sym is) (record { names = file ∷ []; files = refl; reached = (left, asked, refl) })
+
 -- a command that names no file asks for none
 pub none_asked : {F : Type 0} (f : Ghosts F) (shelf : F) (command : Command) → names_file command ≡ false → HasAsked f command shelf shelf
 none_asked f shelf (commands.Manifest file channel) is = absurd cc
 none_asked f shelf (commands.Context file) is = absurd cc
 none_asked f shelf (Fetch file) is = absurd cc
+none_asked f shelf (Bind file) is = absurd cc
 none_asked f shelf Apply is = record { names = []; files = refl; reached = refl }
 none_asked f shelf (Participate part on) is = record { names = []; files = refl; reached = refl }
 none_asked f shelf (OptOut slug) is = record { names = []; files = refl; reached = refl }
@@ -32,4 +36,7 @@ none_asked f shelf (Feature name) is = record { names = []; files = refl; reache
 none_asked f shelf (Event name count) is = record { names = []; files = refl; reached = refl }
 none_asked f shelf commands.Changes is = record { names = []; files = refl; reached = refl }
 none_asked f shelf (Confirm number) is = record { names = []; files = refl; reached = refl }
+none_asked f shelf (SetPreference name value) is = record { names = []; files = refl; reached = refl }
+none_asked f shelf (ClearPreference name) is = record { names = []; files = refl; reached = refl }
+none_asked f shelf commands.Preferences is = record { names = []; files = refl; reached = refl }
 none_asked f shelf WriteManifest is = record { names = []; files = refl; reached = refl }

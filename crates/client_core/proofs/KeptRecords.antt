@@ -2,6 +2,7 @@
 use Rattle.std.proofs.Common.{ℕ, Bool, true, false, List, [], length, Option, Some, None, Result, Ok, Err, unwrap_or}
 use Rattle.std.specs.Prelude.{IfOk, nat_lt, nat_le, if◌then◌else◌}
 use Rattle.json_tree.specs.Json.{Json, IsSound}
+use Rattle.json_tree.specs.declared.tree.Tree.{Tree}
 use Rattle.recipe_reader.specs.Kinds.{kind_of}
 use Rattle.recipe_reader.specs.Payloads.{payload_of, recipe_with}
 use Rattle.recipe_reader.specs.declared.payload.Payload.{Payload}
@@ -12,6 +13,8 @@ use Rattle.app_context.specs.Contexts.{context_of}
 use Rattle.app_context.specs.declared.context.Context.{Context}
 use Rattle.app_context.specs.declared.key.ContextKey.{ContextKey}
 use Rattle.change_outbox.specs.Contents.{confirmed}
+use Rattle.pref_bindings.specs.Bindings.{bindings_of}
+use Rattle.pref_bindings.specs.declared.bindings.Binding.{Binding}
 use Rattle.enrol_evolver.specs.Evolution.{evolution}
 use Rattle.enrol_states.specs.Choices.{has_no_room}
 use Rattle.event_counts.specs.Kept.{counted_in}
@@ -29,17 +32,17 @@ use Rattle.feature_serving.specs.Serving.{served}
 use Rattle.client_words.specs.declared.answer.Answer.{Answer}
 use Rattle.client_words.specs.declared.answer.Answer.TheVariants.{Okay, OptedOutLimit, EventLimit, NoSuchChange, NotParticipating, NoSuchBranch}
 use Rattle.client_words.specs.declared.command.Command.{Command}
-use Rattle.client_words.specs.declared.command.Command.TheVariants.{Fetch, Apply, Participate, OptOut, OptIn, Reset, Show, Feature, Event, Confirm, WriteManifest}
+use Rattle.client_words.specs.declared.command.Command.TheVariants.{Fetch, Apply, Participate, OptOut, OptIn, Reset, Show, Feature, Event, Confirm, Bind, SetPreference, ClearPreference, WriteManifest}
 use Rattle.client_words.specs.declared.command.Command.TheVariants as commands
 use Rattle.client_core.specs.declared.session.Session.{Session}
 use Rattle.client_core.specs.Choosing.{first_taker}
 use Rattle.client_core.specs.Fetching.{file_tree}
 use Rattle.client_core.specs.Manifests.{manifest_of}
 use Rattle.client_core.specs.Settings.{Setting}
-use Rattle.client_core.specs.Steps.{EnrolmentOutcome, Outcome, Accepted, Refused, Step, whole, seeing, has_no_room_for, participation, resetting, opting_out, opting_in, taking, offering, choosing, fetched, fetching, context_read, reading_context, setting_manifest, applying, valued, serving, writing_manifest, outcome, done, step}
+use Rattle.client_core.specs.Steps.{EnrolmentOutcome, Outcome, Accepted, Refused, Step, whole, seeing, has_no_room_for, preferring, participation, resetting, opting_out, opting_in, taking, offering, choosing, fetched, fetching, context_read, reading_context, bindings_read, reading_bindings, setting_manifest, applying, valued, serving, writing_manifest, outcome, done, step}
 use Rattle.client_core.proofs.ReadFiles.{file_sound}
 use Rattle.client_core.proofs.ReadRecords.{OfPayload, payload_records}
-use Rattle.client_core.proofs.Stepping.{whole_either}
+use Rattle.client_core.proofs.Stepping.{whole_either, preferring_either}
 
 either_step : (P : Step → Type 0) (b : Bool) (x y : Step) → P x → P y → P (if b then x else y)
 either_step P true x y here there = here
@@ -60,8 +63,8 @@ module _ (at : Setting) (s : ClientState) (session : Session) (h : HaveRecords s
   KeepsEnrolment (Accepted e next answer) = HaveRecords e
   KeepsEnrolment (Refused answer) = Unit {0}
 
-  whole-keeps : (counts : List NameCounts) (asked : EnrolmentOutcome) → KeepsEnrolment asked → Keeps (whole s counts asked)
-  whole-keeps counts (Accepted e next answer) keeps = whole_either Keeps s counts e next answer tt (λ fits. keeps)
+  whole-keeps : (counts : List NameCounts) (asked : EnrolmentOutcome) → KeepsEnrolment asked → Keeps (whole s session counts asked)
+  whole-keeps counts (Accepted e next answer) keeps = whole_either Keeps s session counts e next answer tt (λ fits. keeps)
   whole-keeps counts (Refused answer) keeps = tt
 
   done-keeps : (asked : Outcome) → Keeps asked → HaveRecords (done s session asked).state.enrolment
@@ -75,6 +78,17 @@ module _ (at : Setting) (s : ClientState) (session : Session) (h : HaveRecords s
   file-keeps : (read : Result Json Answer) → Keeps (reading_context s session read)
   file-keeps (Ok tree) = context-keeps (context_of tree)
   file-keeps (Err refusal) = tt
+
+  bindings-keeps : (read : Result (List Binding) (List ℕ)) → Keeps (bindings_read s session read)
+  bindings-keeps (Ok bindings) = h
+  bindings-keeps (Err feature) = tt
+
+  bind-keeps : (read : Result Json Answer) → Keeps (reading_bindings s session read)
+  bind-keeps (Ok tree) = bindings-keeps (bindings_of tree)
+  bind-keeps (Err refusal) = tt
+
+  preferring-keeps : (name : List ℕ) (value : Option Tree) → Keeps (preferring s session name value)
+  preferring-keeps name value = preferring_either Keeps s session name value tt (λ free. h) (λ holder held fits. record { live = h.live; pending = h.pending })
 
   payload-keeps : (read : Result Payload PayloadFault) → OfPayload read → KeepsEnrolment (fetched s.enrolment session read)
   payload-keeps (Ok found) records = record { live = h.live; pending = records }
@@ -151,6 +165,10 @@ module _ (at : Setting) (s : ClientState) (session : Session) (h : HaveRecords s
   outcome-keeps (Event name count) = count-keeps name count (has_no_room_for name s.events)
   outcome-keeps commands.Changes = h
   outcome-keeps (Confirm number) = confirm-keeps number (nat_le s.outbox.next number)
+  outcome-keeps (Bind file) = bind-keeps (file_tree file (at.files file))
+  outcome-keeps (SetPreference name value) = preferring-keeps name (Some value)
+  outcome-keeps (ClearPreference name) = preferring-keeps name None
+  outcome-keeps commands.Preferences = h
   outcome-keeps WriteManifest = written-keeps session.manifest
 
   pub step_keeps_records : (command : Command) → HaveRecords (step at s session command).state.enrolment

@@ -1,7 +1,9 @@
 -- A step keeps a session lawful, and its texts in UTF-8.
 use Rattle.std.proofs.Common.{◌≡◌, ℕ, Bool, true, false, List, [], length, Option, Some, None, Result, Ok, Err, IsUtf8, refl, subst}
 use Rattle.std.specs.Prelude.{IfOk, nat_lt, nat_le, if◌then◌else◌}
+use Rattle.json_tree.specs.Json as json
 use Rattle.json_tree.specs.Json.{Json, IsSound}
+use Rattle.json_tree.specs.declared.tree.Tree.{Tree}
 use Rattle.recipe_reader.specs.Kinds.{kind_of}
 use Rattle.recipe_reader.specs.Payloads.{payload_of, recipe_with}
 use Rattle.recipe_reader.specs.declared.payload.Payload.{Payload}
@@ -12,6 +14,9 @@ use Rattle.app_context.specs.Contexts.{context_of}
 use Rattle.app_context.specs.declared.context.Context.{Context}
 use Rattle.app_context.specs.declared.key.ContextKey.{ContextKey}
 use Rattle.change_outbox.specs.Contents.{confirmed}
+use Rattle.pref_bindings.specs.Bindings.{AreBindings, bindings_of}
+use Rattle.pref_bindings.specs.declared.bindings.Binding.{Binding}
+use Rattle.pref_bindings.proofs.BindingsRead.{read_are}
 use Rattle.enrol_evolver.specs.Evolution.{version_of}
 use Rattle.enrol_states.specs.Choices.{has_no_room}
 use Rattle.event_counts.specs.Kept.{counted_in}
@@ -28,33 +33,33 @@ use Rattle.feature_serving.specs.Serving.{served}
 use Rattle.client_words.specs.declared.answer.Answer.{Answer}
 use Rattle.client_words.specs.declared.answer.Answer.TheVariants.{Okay, OptedOutLimit, EventLimit, NoSuchChange, NotParticipating, NoSuchBranch}
 use Rattle.client_words.specs.declared.command.Command.{Command}
-use Rattle.client_words.specs.declared.command.Command.TheVariants.{Fetch, Apply, Participate, OptOut, OptIn, Reset, Show, Feature, Event, Confirm, WriteManifest}
+use Rattle.client_words.specs.declared.command.Command.TheVariants.{Fetch, Apply, Participate, OptOut, OptIn, Reset, Show, Feature, Event, Confirm, Bind, SetPreference, ClearPreference, WriteManifest}
 use Rattle.client_words.specs.declared.command.Command.TheVariants as commands
 use Rattle.client_core.specs.declared.session.Session.{Session}
 use Rattle.client_core.specs.Choosing.{first_taker}
 use Rattle.client_core.specs.Fetching.{file_tree}
 use Rattle.client_core.specs.Manifests.{manifest_of}
-use Rattle.client_core.specs.Sessions.{with_manifest, with_context}
+use Rattle.client_core.specs.Sessions.{with_manifest, with_context, with_bindings}
 use Rattle.client_core.specs.Settings.{Setting}
-use Rattle.client_core.specs.Soundness.{HasVersion, HasLinked, IsSession, IsLawfulManifest, IsLawfulContext, IsLawful}
-use Rattle.client_core.specs.Steps.{OutcomeOver, EnrolmentOutcome, Outcome, Accepted, Refused, Step, whole, seeing, has_no_room_for, participation, resetting, opting_out, opting_in, taking, offering, choosing, fetched, fetching, context_read, reading_context, setting_manifest, applying, valued, serving, writing_manifest, outcome, done, step}
+use Rattle.client_core.specs.Soundness.{HasVersion, HasLinked, HasBindings, IsSession, IsLawfulManifest, IsLawfulContext, IsLawfulBindings, IsLawful}
+use Rattle.client_core.specs.Steps.{OutcomeOver, EnrolmentOutcome, Outcome, Accepted, Refused, Step, whole, seeing, has_no_room_for, preferring, participation, resetting, opting_out, opting_in, taking, offering, choosing, fetched, fetching, context_read, reading_context, bindings_read, reading_bindings, setting_manifest, applying, valued, serving, writing_manifest, outcome, done, step}
 use Rattle.client_core.proofs.LinkedManifests.{manifest_linked}
 use Rattle.client_core.proofs.ReadContexts.{context_version}
 use Rattle.client_core.proofs.ReadFiles.{file_sound}
-use Rattle.client_core.proofs.Stepping.{whole_either}
+use Rattle.client_core.proofs.Stepping.{whole_either, preferring_either}
 
 either_step : (P : Step → Type 0) (b : Bool) (x y : Step) → P x → P y → P (if b then x else y)
 either_step P true x y here there = here
 either_step P false x y here there = there
 
--- what each session keeps that has a manifest that links or the context of a sound tree, where it has others than before
-module _ (P : Session → Type 0) (at : Setting) (s : ClientState) (session : Session) (was : P session) (links : (file channel : List ℕ) (manifest : Manifest) → manifest_of at.files file channel ≡ Ok manifest → P (with_manifest session manifest)) (takes : (tree : Json) (context : Context) → IsSound tree → context_of tree ≡ Ok context → P (with_context session context)) where
+-- what each session keeps that has a manifest that links, or the context or the bindings of a sound tree, where it has others than before
+module _ (P : Session → Type 0) (at : Setting) (s : ClientState) (session : Session) (was : P session) (links : (file channel : List ℕ) (manifest : Manifest) → manifest_of at.files file channel ≡ Ok manifest → P (with_manifest session manifest)) (takes : (tree : Json) (context : Context) → IsSound tree → context_of tree ≡ Ok context → P (with_context session context)) (binds : (tree : Json) (bindings : List Binding) → IsSound tree → bindings_of tree ≡ Ok bindings → P (with_bindings session bindings)) where
   abbrev Carries : {S : Type 0} → OutcomeOver S → Type 0
   Carries (Accepted t next answer) = P next
   Carries (Refused answer) = Unit {0}
 
-  whole-carries : (counts : List NameCounts) (asked : EnrolmentOutcome) → Carries asked → Carries (whole s counts asked)
-  whole-carries counts (Accepted e next answer) carries = whole_either (λ (asked : Outcome). Carries asked) s counts e next answer tt (λ fits. carries)
+  whole-carries : (counts : List NameCounts) (asked : EnrolmentOutcome) → Carries asked → Carries (whole s session counts asked)
+  whole-carries counts (Accepted e next answer) carries = whole_either (λ (asked : Outcome). Carries asked) s session counts e next answer tt (λ fits. carries)
   whole-carries counts (Refused answer) carries = tt
 
   done-carries : (asked : Outcome) → Carries asked → P (done s session asked).session
@@ -68,6 +73,17 @@ module _ (P : Session → Type 0) (at : Setting) (s : ClientState) (session : Se
   file-carries : (read : Result Json Answer) → IfOk read IsSound → Carries (reading_context s session read)
   file-carries (Ok tree) sound = context-carries tree (context_of tree) sound refl
   file-carries (Err refusal) sound = tt
+
+  bindings-carries : (tree : Json) (read : Result (List Binding) (List ℕ)) → IsSound tree → bindings_of tree ≡ read → Carries (bindings_read s session read)
+  bindings-carries tree (Ok bindings) sound is = binds tree bindings sound is
+  bindings-carries tree (Err feature) sound is = tt
+
+  bind-carries : (read : Result Json Answer) → IfOk read IsSound → Carries (reading_bindings s session read)
+  bind-carries (Ok tree) sound = bindings-carries tree (bindings_of tree) sound refl
+  bind-carries (Err refusal) sound = tt
+
+  preferring-carries : (name : List ℕ) (value : Option Tree) → Carries (preferring s session name value)
+  preferring-carries name value = preferring_either (λ (asked : Outcome). Carries asked) s session name value tt (λ free. was) (λ holder held fits. was)
 
   payload-carries : (read : Result Payload PayloadFault) → Carries (fetched s.enrolment session read)
   payload-carries (Ok found) = was
@@ -143,6 +159,10 @@ module _ (P : Session → Type 0) (at : Setting) (s : ClientState) (session : Se
   outcome-carries (Event name count) = count-carries name count (has_no_room_for name s.events)
   outcome-carries commands.Changes = was
   outcome-carries (Confirm number) = confirm-carries number (nat_le s.outbox.next number)
+  outcome-carries (Bind file) = bind-carries (file_tree file (at.files file)) (file_sound file (at.files file))
+  outcome-carries (SetPreference name value) = preferring-carries name (Some value)
+  outcome-carries (ClearPreference name) = preferring-carries name None
+  outcome-carries commands.Preferences = was
   outcome-carries WriteManifest = written-carries session.manifest
 
   step-carries : (command : Command) → P (step at s session command).session
@@ -152,15 +172,28 @@ module _ (P : Session → Type 0) (at : Setting) (s : ClientState) (session : Se
 version_of_tree : (tree : Json) (context : Context) → IsSound tree → context_of tree ≡ Ok context → IsUtf8 (version_of context)
 version_of_tree tree context sound is = subst (λ (read : Result Context ContextKey). IfOk read (λ c. IsUtf8 (version_of c))) is (context_version tree sound)
 
+-- the bindings that a tree is
+bindings_are : (tree : Json) (bindings : List Binding) → bindings_of tree ≡ Ok bindings → AreBindings bindings
+unfolding bindings_of
+bindings_are json.null bindings is = absurd cc
+bindings_are (json.truth b) bindings is = absurd cc
+bindings_are (json.whole n) bindings is = absurd cc
+bindings_are json.odd bindings is = absurd cc
+bindings_are (json.text s) bindings is = absurd cc
+bindings_are (json.list xs) bindings is = absurd cc
+bindings_are (json.object ms) bindings is = read_are bindings ms is
+
 pub step_keeps_texts : (at : Setting) (s : ClientState) (session : Session) (command : Command) → IsSession session → IsSession (step at s session command).session
 step_keeps_texts at s session command was =
-    step-carries IsSession at s session was (λ file channel manifest is. record { manifest = manifest_linked at.files file channel manifest is; context = was.context })
-    (λ tree context sound is. record { manifest = was.manifest; context = version_of_tree tree context sound is }) command
+    step-carries IsSession at s session was (λ file channel manifest is. record { manifest = manifest_linked at.files file channel manifest is; context = was.context; bindings = was.bindings })
+    (λ tree context sound is. record { manifest = was.manifest; context = version_of_tree tree context sound is; bindings = was.bindings })
+    (λ tree bindings sound is. record { manifest = was.manifest; context = was.context; bindings = bindings_are tree bindings is }) command
 
 pub step_keeps_lawful : (at : Setting) (s : ClientState) (session : Session) (command : Command) → IsLawful session → IsLawful (step at s session command).session
 step_keeps_lawful at s session command was =
-    step-carries IsLawful at s session was (λ file channel manifest is. record { manifest = record { files = at.files; first = file; channel = channel; links = is }; context = was.context })
-    (λ tree context sound is. record { manifest = was.manifest; context = (tree, sound, is) }) command
+    step-carries IsLawful at s session was (λ file channel manifest is. record { manifest = record { files = at.files; first = file; channel = channel; links = is }; context = was.context; bindings = was.bindings })
+    (λ tree context sound is. record { manifest = was.manifest; context = (tree, sound, is); bindings = was.bindings })
+    (λ tree bindings sound is. record { manifest = was.manifest; context = was.context; bindings = (tree, sound, is) }) command
 
 has_linked : (manifest : Option Manifest) → IsLawfulManifest manifest → HasLinked manifest
 has_linked None lawful = tt
@@ -170,6 +203,10 @@ has_version : (context : Option Context) → IsLawfulContext context → HasVers
 has_version None lawful = tt
 has_version (Some context) lawful = version_of_tree lawful.0 context lawful.1 lawful.2
 
+has_bindings : (bindings : Option (List Binding)) → IsLawfulBindings bindings → HasBindings bindings
+has_bindings None lawful = tt
+has_bindings (Some bindings) lawful = bindings_are lawful.0 bindings lawful.2
+
 -- what the types of a session's parts keep holds of a lawful one
 pub lawful_texts : (session : Session) → IsLawful session → IsSession session
-lawful_texts session lawful = record { manifest = has_linked session.manifest lawful.manifest; context = has_version session.context lawful.context }
+lawful_texts session lawful = record { manifest = has_linked session.manifest lawful.manifest; context = has_version session.context lawful.context; bindings = has_bindings session.bindings lawful.bindings }

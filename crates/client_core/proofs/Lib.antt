@@ -2,13 +2,17 @@ mod Takers
 mod Coenrolling
 mod Payloads
 mod Stepping
+mod JoinValues
+pub mod FollowedPreferences
 mod Counting
 mod Outboxes
 pub mod Confirming
+pub mod Preferring
 pub mod Asking
 pub mod OptOuts
 pub mod EventSteps
 pub mod OutboxSteps
+pub mod PreferenceSteps
 pub mod Holding
 mod Judging
 pub mod Placing

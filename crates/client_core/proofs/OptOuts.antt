@@ -5,6 +5,7 @@ use Rattle.std.specs.BTreeSet.{insert_key}
 use Rattle.std.specs.Cmp.Lexicographic.{bytes_decides}
 use Rattle.std.specs.Ordering.{match_ordering}
 use Rattle.json_tree.specs.Json.{Json}
+use Rattle.json_tree.specs.declared.tree.Tree.{Tree}
 use Rattle.recipe_reader.specs.Kinds.{kind_of}
 use Rattle.recipe_reader.specs.Payloads.{slug_cmp, payload_of, recipe_with}
 use Rattle.recipe_reader.specs.declared.payload.Payload.{Payload}
@@ -12,6 +13,8 @@ use Rattle.recipe_reader.specs.declared.payload.PayloadFault.{PayloadFault}
 use Rattle.recipe_reader.specs.declared.payload.PayloadFault.TheVariants as payload
 use Rattle.recipe_reader.specs.declared.recipe.Recipe.{Recipe}
 use Rattle.change_outbox.specs.Contents.{confirmed}
+use Rattle.pref_bindings.specs.Bindings.{bindings_of}
+use Rattle.pref_bindings.specs.declared.bindings.Binding.{Binding}
 use Rattle.enrol_states.specs.Choices.{has_no_room}
 use Rattle.event_counts.specs.Kept.{counted_in}
 use Rattle.event_counts.specs.declared.name_counts.NameCounts.{NameCounts}
@@ -34,7 +37,7 @@ use Rattle.feature_serving.specs.Serving.{served}
 use Rattle.client_words.specs.declared.answer.Answer.{Answer}
 use Rattle.client_words.specs.declared.answer.Answer.TheVariants.{Okay, OptedOutLimit, EventLimit, NoSuchChange, NotParticipating, NoSuchBranch, StateTooLarge}
 use Rattle.client_words.specs.declared.command.Command.{Command}
-use Rattle.client_words.specs.declared.command.Command.TheVariants.{Fetch, Apply, Participate, OptOut, OptIn, Reset, Show, Feature, Event, Confirm, WriteManifest}
+use Rattle.client_words.specs.declared.command.Command.TheVariants.{Fetch, Apply, Participate, OptOut, OptIn, Reset, Show, Feature, Event, Confirm, Bind, SetPreference, ClearPreference, WriteManifest}
 use Rattle.client_words.specs.declared.command.Command.TheVariants as commands
 use Rattle.client_core.specs.declared.session.Session.{Session}
 use Rattle.client_core.specs.Choosing.{first_taker}
@@ -42,8 +45,8 @@ use Rattle.client_core.specs.Fetching.{file_tree}
 use Rattle.client_core.specs.Manifests.{manifest_of}
 use Rattle.client_core.specs.OptOuts.{BringsBack, OptOutsHold}
 use Rattle.client_core.specs.Settings.{Setting}
-use Rattle.client_core.specs.Steps.{EnrolmentOutcome, Outcome, Accepted, Refused, Step, with_enrolment, whole, enrolling, seeing, has_no_room_for, counting, listing_changes, confirming, participation, opting_out, taking, offering, choosing, fetched, fetching, context_read, reading_context, setting_manifest, applying, valued, serving, writing_manifest, done, step}
-use Rattle.client_core.proofs.Stepping.{whole_either}
+use Rattle.client_core.specs.Steps.{EnrolmentOutcome, Outcome, Accepted, Refused, Step, with_enrolment, whole, enrolling, seeing, has_no_room_for, counting, listing_changes, confirming, preferring, listing_preferences, participation, opting_out, taking, offering, choosing, fetched, fetching, context_read, reading_context, bindings_read, reading_bindings, setting_manifest, applying, valued, serving, writing_manifest, done, step}
+use Rattle.client_core.proofs.Stepping.{whole_either, preferring_either}
 
 -- ---- one slug more or less
 
@@ -96,8 +99,8 @@ module _ (at : Setting) (s : ClientState) (session : Session) (slug : List ℕ) 
   KeepsEnrolment (Accepted e next answer) = is_in e.opted_out slug ≡ true
   KeepsEnrolment (Refused answer) = Unit {0}
 
-  whole-keeps : (counts : List NameCounts) (asked : EnrolmentOutcome) → KeepsEnrolment asked → Keeps (whole s counts asked)
-  whole-keeps counts (Accepted e next answer) keeps = whole_either Keeps s counts e next answer tt (λ fits. keeps)
+  whole-keeps : (counts : List NameCounts) (asked : EnrolmentOutcome) → KeepsEnrolment asked → Keeps (whole s session counts asked)
+  whole-keeps counts (Accepted e next answer) keeps = whole_either Keeps s session counts e next answer tt (λ fits. keeps)
   whole-keeps counts (Refused answer) keeps = tt
 
   done-keeps : (asked : Outcome) → Keeps asked → is_in (done s session asked).state.enrolment.opted_out slug ≡ true
@@ -111,6 +114,14 @@ module _ (at : Setting) (s : ClientState) (session : Session) (slug : List ℕ) 
   file-keeps : (read : Result Json Answer) → Keeps (reading_context s session read)
   file-keeps (Ok tree) = context-keeps (context_of tree)
   file-keeps (Err refusal) = tt
+
+  bindings-keeps : (read : Result (List Binding) (List ℕ)) → Keeps (bindings_read s session read)
+  bindings-keeps (Ok bindings) = there
+  bindings-keeps (Err feature) = tt
+
+  bind-keeps : (read : Result Json Answer) → Keeps (reading_bindings s session read)
+  bind-keeps (Ok tree) = bindings-keeps (bindings_of tree)
+  bind-keeps (Err refusal) = tt
 
   payload-keeps : (read : Result Payload PayloadFault) → KeepsEnrolment (fetched s.enrolment session read)
   payload-keeps (Ok found) = there
@@ -156,9 +167,12 @@ module _ (at : Setting) (s : ClientState) (session : Session) (slug : List ℕ) 
   confirm-keeps number true = tt
   confirm-keeps number false = there
 
+  preferring-keeps : (name : List ℕ) (value : Option Tree) → Keeps (preferring s session name value)
+  preferring-keeps name value = preferring_either Keeps s session name value tt (λ free. there) (λ holder held fits. there)
+
   -- what is asked of the enrolment, and done, keeps it
-  enrolment-keeps : (asked : EnrolmentOutcome) → KeepsEnrolment asked → is_in (done s session (enrolling s asked)).state.enrolment.opted_out slug ≡ true
-  enrolment-keeps asked keeps = done-keeps (enrolling s asked) (whole-keeps s.events asked keeps)
+  enrolment-keeps : (asked : EnrolmentOutcome) → KeepsEnrolment asked → is_in (done s session (enrolling s session asked)).state.enrolment.opted_out slug ≡ true
+  enrolment-keeps asked keeps = done-keeps (enrolling s session asked) (whole-keeps s.events asked keeps)
 
   -- it is kept where the command isn't done
   abbrev KeepsUnless : Bool → Outcome → Type 0
@@ -175,22 +189,22 @@ module _ (at : Setting) (s : ClientState) (session : Session) (slug : List ℕ) 
   accepted-unless t next back keeps = unless_at t next back (nat_lt max_size (length (spelling t))) keeps
 
   module _ (other branch : List ℕ) where
-    taking-unless : (taker : Option (List ℕ × List ℕ)) → KeepsUnless (bytes_eq other slug) (enrolling s (taking s.enrolment session other branch taker))
+    taking-unless : (taker : Option (List ℕ × List ℕ)) → KeepsUnless (bytes_eq other slug) (enrolling s session (taking s.enrolment session other branch taker))
     taking-unless None =
         let e = after_opt_in s.enrolment other branch in
-        whole_either (KeepsUnless (bytes_eq other slug)) s s.events e session Okay (λ never. there)
-        (λ fits. accepted-unless (with_enrolment s e s.events) session (bytes_eq other slug) (λ apart. kept-without other slug s.enrolment.opted_out apart there))
+        whole_either (KeepsUnless (bytes_eq other slug)) s session s.events e session Okay (λ never. there)
+        (λ fits. accepted-unless (with_enrolment session s e s.events) session (bytes_eq other slug) (λ apart. kept-without other slug s.enrolment.opted_out apart there))
     taking-unless (Some taker) = λ never. there
 
-    branch-unless : (r : Recipe) (has : Bool) → KeepsUnless (bytes_eq other slug) (enrolling s (if has then taking s.enrolment session other branch (first_taker s.enrolment r s.enrolment.rows) else Refused NoSuchBranch))
+    branch-unless : (r : Recipe) (has : Bool) → KeepsUnless (bytes_eq other slug) (enrolling s session (if has then taking s.enrolment session other branch (first_taker s.enrolment r s.enrolment.rows) else Refused NoSuchBranch))
     branch-unless r true = taking-unless (first_taker s.enrolment r s.enrolment.rows)
     branch-unless r false = λ never. there
 
-    part-unless : (r : Recipe) (on : Bool) → KeepsUnless (bytes_eq other slug) (enrolling s (if on then offering s.enrolment session other branch r else Refused NotParticipating))
+    part-unless : (r : Recipe) (on : Bool) → KeepsUnless (bytes_eq other slug) (enrolling s session (if on then offering s.enrolment session other branch r else Refused NotParticipating))
     part-unless r true = branch-unless r (has_branch r branch)
     part-unless r false = λ never. there
 
-    choosing-unless : (found : Option Recipe) → KeepsUnless (bytes_eq other slug) (enrolling s (choosing s.enrolment session other branch found))
+    choosing-unless : (found : Option Recipe) → KeepsUnless (bytes_eq other slug) (enrolling s session (choosing s.enrolment session other branch found))
     choosing-unless None = λ never. there
     choosing-unless (Some r) = part-unless r (takes_part s.enrolment (kind_of r))
 
@@ -205,12 +219,16 @@ module _ (at : Setting) (s : ClientState) (session : Session) (slug : List ℕ) 
   kept (OptIn other branch) never = choosing-unless other branch (recipe_with other s.enrolment.live) (λ back is_done. never (back, is_done))
   kept (Reset id) never =
       let e = after_reset s.enrolment id in
-      whole_either (KeepsUnless true) s [] e session Okay (λ apart. there) (λ fits. accepted-unless (with_enrolment s e []) session true (λ apart. absurd cc)) (λ back is_done. never (back, is_done))
+      whole_either (KeepsUnless true) s session [] e session Okay (λ apart. there) (λ fits. accepted-unless (with_enrolment session s e []) session true (λ apart. absurd cc)) (λ back is_done. never (back, is_done))
   kept Show never = done-keeps (Accepted s session _) there
   kept (Feature name) never = done-keeps (serving s session name session.manifest) (feature-keeps name session.manifest)
   kept (Event name count) never = done-keeps (counting at.now s session name count) (count-keeps name count (has_no_room_for name s.events))
   kept commands.Changes never = done-keeps (listing_changes s session) there
   kept (Confirm number) never = done-keeps (confirming s session number) (confirm-keeps number (nat_le s.outbox.next number))
+  kept (Bind file) never = done-keeps (reading_bindings s session (file_tree file (at.files file))) (bind-keeps (file_tree file (at.files file)))
+  kept (SetPreference name value) never = done-keeps (preferring s session name (Some value)) (preferring-keeps name (Some value))
+  kept (ClearPreference name) never = done-keeps (preferring s session name None) (preferring-keeps name None)
+  kept commands.Preferences never = done-keeps (listing_preferences s session) there
   kept WriteManifest never = done-keeps (writing_manifest s session session.manifest) (written-keeps session.manifest)
 
 -- ---- an opt-out
@@ -222,15 +240,15 @@ taken_at s t session next slug true has is_done = absurd cc
 taken_at s t session next slug false has is_done = has
 
 -- the state with the slug opted out
-abbrev out_of : ClientState → List ℕ → ClientState
-out_of s slug = with_enrolment s (after_opt_out s.enrolment slug) s.events
+abbrev out_of : Session → ClientState → List ℕ → ClientState
+out_of session s slug = with_enrolment session s (after_opt_out s.enrolment slug) s.events
 
-room_at : (s : ClientState) (session : Session) (slug : List ℕ) (full : Bool) → (done s session (enrolling s (if full then Refused OptedOutLimit else Accepted (after_opt_out s.enrolment slug) session Okay))).answer ≡ Okay
-    → is_in (done s session (enrolling s (if full then Refused OptedOutLimit else Accepted (after_opt_out s.enrolment slug) session Okay))).state.enrolment.opted_out slug ≡ true
+room_at : (s : ClientState) (session : Session) (slug : List ℕ) (full : Bool) → (done s session (enrolling s session (if full then Refused OptedOutLimit else Accepted (after_opt_out s.enrolment slug) session Okay))).answer ≡ Okay
+    → is_in (done s session (enrolling s session (if full then Refused OptedOutLimit else Accepted (after_opt_out s.enrolment slug) session Okay))).state.enrolment.opted_out slug ≡ true
 room_at s session slug true is_done = absurd cc
 room_at s session slug false is_done =
-    whole_either (λ asked. (done s session asked).answer ≡ Okay → is_in (done s session asked).state.enrolment.opted_out slug ≡ true) s s.events (after_opt_out s.enrolment slug) session Okay (λ okay. absurd cc)
-    (λ fits. taken_at s (out_of s slug) session session slug (nat_lt max_size (length (spelling (out_of s slug)))) (is_in-inserted slug s.enrolment.opted_out)) is_done
+    whole_either (λ asked. (done s session asked).answer ≡ Okay → is_in (done s session asked).state.enrolment.opted_out slug ≡ true) s session s.events (after_opt_out s.enrolment slug) session Okay (λ okay. absurd cc)
+    (λ fits. taken_at s (out_of session s slug) session session slug (nat_lt max_size (length (spelling (out_of session s slug)))) (is_in-inserted slug s.enrolment.opted_out)) is_done
 
 taken : (at : Setting) (s : ClientState) (session : Session) (slug : List ℕ) → (step at s session (OptOut slug)).answer ≡ Okay → is_in (step at s session (OptOut slug)).state.enrolment.opted_out slug ≡ true
 unfolding step

@@ -87,7 +87,7 @@ told_slugs old new was becomes (slug ∷ slugs) are =
     have_appended (slug_changes slug (branch_of slug old) (branch_of slug new)) (told old new slugs) (have_slugs slug (branch_of slug old) (branch_of slug new) are.0 (row_branch slug old was) (row_branch slug new becomes))
     (told_slugs old new was becomes slugs are.1)
 
-changes_slugs : (e next : State) → states.IsConsistent e → states.IsConsistent next → HaveSlugs (changes_from e next)
+pub changes_slugs : (e next : State) → states.IsConsistent e → states.IsConsistent next → HaveSlugs (changes_from e next)
 unfolding changes_between
 changes_slugs e next was becomes =
     told_slugs e.rows next.rows was.row_statuses becomes.row_statuses (all_slugs e.rows next.rows) (slugs_fold (slugs_of e.rows) (slugs_of next.rows) (row_slugs e.rows was.row_slugs) (row_slugs next.rows becomes.row_slugs))
@@ -106,7 +106,7 @@ confirmed_is_sound o number sound below =
 
 -- ---- an enrolment that stays
 
-same_branch : (slug : List ℕ) (branch : Option (List ℕ)) → slug_changes slug branch branch ≡ []
+pub same_branch : (slug : List ℕ) (branch : Option (List ℕ)) → slug_changes slug branch branch ≡ []
 same_branch slug None = refl
 same_branch slug (Some branch) = ap (λ b. if b then [] else leave slug branch ∷ join slug branch ∷ []) ((bytes_decides branch branch).1 refl)
 
@@ -114,7 +114,7 @@ none_told : (rows : List Row) (slugs : List (List ℕ)) → told rows rows slugs
 none_told rows [] = refl
 none_told rows (slug ∷ slugs) = ap₂ (λ (x y : List Change). x ++ y) (same_branch slug (branch_of slug rows)) (none_told rows slugs)
 
-no_changes_from : (e : State) → changes_from e e ≡ []
+pub no_changes_from : (e : State) → changes_from e e ≡ []
 unfolding changes_between
 no_changes_from e = none_told e.rows (all_slugs e.rows e.rows)
 

@@ -25,6 +25,8 @@ use Rattle.app_context.specs.Contexts.{context_of}
 use Rattle.app_context.specs.declared.context.Context.{Context}
 use Rattle.app_context.specs.declared.key.ContextKey.{ContextKey}
 use Rattle.change_outbox.specs.Contents.{confirmed}
+use Rattle.pref_bindings.specs.Bindings.{bindings_of}
+use Rattle.pref_bindings.specs.declared.bindings.Binding.{Binding}
 use Rattle.enrol_states.specs.Choices.{has_no_room}
 use Rattle.event_counts.specs.Kept.{counted_in}
 use Rattle.event_counts.specs.declared.name_counts.NameCounts.{NameCounts}
@@ -37,7 +39,7 @@ use Rattle.client_state.specs.Spelling.{spelling}
 use Rattle.client_words.specs.declared.answer.Answer.{Answer}
 use Rattle.client_words.specs.declared.answer.Answer.TheVariants.{Okay, Value, FileTooLarge, NotJson, OptedOutLimit, EventLimit, NoSuchChange, NotParticipating, NoSuchBranch, StateTooLarge}
 use Rattle.client_words.specs.declared.command.Command.{Command}
-use Rattle.client_words.specs.declared.command.Command.TheVariants.{Fetch, Apply, Participate, OptOut, OptIn, Reset, Show, Feature, Event, Confirm, WriteManifest}
+use Rattle.client_words.specs.declared.command.Command.TheVariants.{Fetch, Apply, Participate, OptOut, OptIn, Reset, Show, Feature, Event, Confirm, Bind, SetPreference, ClearPreference, WriteManifest}
 use Rattle.client_words.specs.declared.command.Command.TheVariants as commands
 use Rattle.client_core.specs.declared.session.Session.{Session}
 use Rattle.client_core.specs.Choosing.{first_taker}
@@ -46,11 +48,11 @@ use Rattle.client_core.specs.Manifests.{IsLinked, link_refusal, where_fits, chec
 use Rattle.client_core.specs.ServedValues.{IsServed, ValuesAreServed, IsTyped, ValuesHaveTypes}
 use Rattle.client_core.specs.Settings.{Setting}
 use Rattle.client_core.specs.Soundness.{IsGiven, IsLawfulManifest}
-use Rattle.client_core.specs.Steps.{OutcomeOver, EnrolmentOutcome, Outcome, Accepted, Refused, Step, whole, seeing, has_no_room_for, counting, listing_changes, confirming, participation, opting_out, taking, offering, choosing, opting_in, resetting, showing, fetched, fetching, context_read, reading_context, setting_manifest, applying, valued, serving, writing_manifest, done, step}
+use Rattle.client_core.specs.Steps.{OutcomeOver, EnrolmentOutcome, Outcome, Accepted, Refused, Step, whole, seeing, has_no_room_for, counting, listing_changes, confirming, preferring, listing_preferences, participation, opting_out, taking, offering, choosing, opting_in, resetting, showing, fetched, fetching, context_read, reading_context, bindings_read, reading_bindings, setting_manifest, applying, valued, serving, writing_manifest, done, step}
 use Rattle.fml_reader.specs.Trees.{tree_from}
 use Rattle.client_core.proofs.LinkedManifests.{manifest_linked}
 use Rattle.client_core.proofs.SoundValues.{records_sound}
-use Rattle.client_core.proofs.Stepping.{whole_either}
+use Rattle.client_core.proofs.Stepping.{whole_either, preferring_either}
 use Rattle.client_core.proofs.Trees.{tree_of_value, value_of_tree}
 
 abbrev is_value : Answer → Bool
@@ -119,8 +121,8 @@ module _ (at : Setting) (s : ClientState) (session : Session) where
   NoValue (Accepted t next answer) = is_value answer ≡ false
   NoValue (Refused answer) = is_value answer ≡ false
 
-  whole-none : (counts : List NameCounts) (asked : EnrolmentOutcome) → NoValue asked → NoValue (whole s counts asked)
-  whole-none counts (Accepted e next answer) none = whole_either (λ (asked : Outcome). NoValue asked) s counts e next answer refl (λ fits. none)
+  whole-none : (counts : List NameCounts) (asked : EnrolmentOutcome) → NoValue asked → NoValue (whole s session counts asked)
+  whole-none counts (Accepted e next answer) none = whole_either (λ (asked : Outcome). NoValue asked) s session counts e next answer refl (λ fits. none)
   whole-none counts (Refused answer) none = none
 
   done-none : (asked : Outcome) → NoValue asked → is_value (done s session asked).answer ≡ false
@@ -138,6 +140,17 @@ module _ (at : Setting) (s : ClientState) (session : Session) where
   file-none : (read : Result Json Answer) → RefusesPlainly read → NoValue (reading_context s session read)
   file-none (Ok tree) plain = context-none (context_of tree)
   file-none (Err refusal) plain = plain
+
+  bindings-none : (read : Result (List Binding) (List ℕ)) → NoValue (bindings_read s session read)
+  bindings-none (Ok bindings) = refl
+  bindings-none (Err feature) = refl
+
+  bind-none : (read : Result Json Answer) → RefusesPlainly read → NoValue (reading_bindings s session read)
+  bind-none (Ok tree) plain = bindings-none (bindings_of tree)
+  bind-none (Err refusal) plain = plain
+
+  preferring-none : (name : List ℕ) (value : Option Tree) → NoValue (preferring s session name value)
+  preferring-none name value = preferring_either (λ (asked : Outcome). NoValue asked) s session name value refl (λ free. refl) (λ holder held fits. refl)
 
   payload-none : (read : Result Payload PayloadFault) → NoValue (fetched s.enrolment session read)
   payload-none (Ok found) = refl
@@ -191,8 +204,8 @@ module _ (at : Setting) (s : ClientState) (session : Session) where
   never asked tree none is = absurd (let clash = ap is_value is in let plain = done-none asked none in cc)
 
   -- where the enrolment is asked for
-  never_whole : (counts : List NameCounts) (asked : EnrolmentOutcome) (tree : Tree) → NoValue asked → (done s session (whole s counts asked)).answer ≡ Value tree → ⊥
-  never_whole counts asked tree none is = never (whole s counts asked) tree (whole-none counts asked none) is
+  never_whole : (counts : List NameCounts) (asked : EnrolmentOutcome) (tree : Tree) → NoValue asked → (done s session (whole s session counts asked)).answer ≡ Value tree → ⊥
+  never_whole counts asked tree none is = never (whole s session counts asked) tree (whole-none counts asked none) is
 
   -- ---- `feature`
 
@@ -236,6 +249,10 @@ module _ (at : Setting) (s : ClientState) (session : Session) where
   values_at (Event name count) tree is = absurd (never (counting at.now s session name count) tree (count-none name count (has_no_room_for name s.events)) is)
   values_at commands.Changes tree is = absurd (never (listing_changes s session) tree refl is)
   values_at (Confirm number) tree is = absurd (never (confirming s session number) tree (confirm-none number (nat_le s.outbox.next number)) is)
+  values_at (Bind file) tree is = absurd (never (reading_bindings s session (file_tree file (at.files file))) tree (bind-none (file_tree file (at.files file)) (file-plain file (at.files file))) is)
+  values_at (SetPreference name value) tree is = absurd (never (preferring s session name (Some value)) tree (preferring-none name (Some value)) is)
+  values_at (ClearPreference name) tree is = absurd (never (preferring s session name None) tree (preferring-none name None) is)
+  values_at commands.Preferences tree is = absurd (never (listing_preferences s session) tree refl is)
   values_at WriteManifest tree is = absurd (never (writing_manifest s session session.manifest) tree (written-none session.manifest) is)
 
 pub values_are_served : ValuesAreServed

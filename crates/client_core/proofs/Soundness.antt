@@ -1,9 +1,11 @@
 -- A step keeps a state sound and a session lawful, and so do many.
-use Rattle.std.proofs.Common.{◌≡◌, ◌≤◌, ℕ, Bool, true, false, List, [], ◌∷◌, length, Option, Some, None, Result, Ok, Err, refl}
+use Rattle.std.proofs.Common.{◌≡◌, ◌≤◌, ℕ, Bool, true, false, List, [], ◌∷◌, length, Option, Some, None, Result, Ok, Err, IsTrue, refl, sym, subst}
 use Rattle.std.specs.Prelude.{All, nat_lt, nat_le, if◌then◌else◌}
 use Rattle.std.proofs.lemmas.Bool.{leb-false, ltb-false}
 use Rattle.std.proofs.lemmas.List.Elements.{All-head, All-tail}
 use Rattle.json_tree.specs.Json.{Json}
+use Rattle.json_tree.specs.declared.tree.Tree.{Tree}
+use Rattle.plain_text.specs.Names.{is_name}
 use Rattle.recipe_reader.specs.Kinds.{kind_of}
 use Rattle.recipe_reader.specs.Payloads.{payload_of, recipe_with}
 use Rattle.recipe_reader.specs.declared.payload.Payload.{Payload}
@@ -15,6 +17,11 @@ use Rattle.app_context.specs.declared.context.Context.{Context}
 use Rattle.app_context.specs.declared.key.ContextKey.{ContextKey}
 use Rattle.enrol_evolver.proofs.Consistency.{evolved}
 use Rattle.change_outbox.specs.Contents.{confirmed}
+use Rattle.pref_bindings.specs.Bindings.{bindings_of}
+use Rattle.pref_bindings.specs.Changes.{set_by_user}
+use Rattle.pref_bindings.specs.Preferences as preference_lists
+use Rattle.pref_bindings.specs.declared.bindings.Binding.{Binding}
+use Rattle.pref_bindings.specs.declared.preference.Preference.{Preference}
 use Rattle.enrol_states.specs.Choices.{has_no_room}
 use Rattle.event_counts.specs.Kept.{counted_in}
 use Rattle.event_counts.specs.Sound as counts
@@ -30,8 +37,11 @@ use Rattle.enrol_states.proofs.Enrolments as enrolments
 use Rattle.enrol_states.proofs.Fresh.{reset-consistent}
 use Rattle.enrol_states.proofs.OptOuts as opt_outs
 use Rattle.enrol_states.proofs.Participations as participations
-use Rattle.client_state.specs.Sound.{max_size, IsConsistent, IsSound}
+use Rattle.client_state.specs.Following.{changes_from, enrolment_ended, join_values}
+use Rattle.client_state.specs.Sound.{max_size, HaveEnrolledHolders, HaveRecords, IsConsistent, IsSound}
 use Rattle.client_state.specs.Spelling.{spelling}
+use Rattle.client_state.proofs.Ended.{ended_is_consistent}
+use Rattle.client_state.proofs.HoldersAfter.{holders_after, holders_set}
 use Rattle.fml_types.specs.Coenrolling.{coenrolling}
 use Rattle.fml_types.specs.declared.manifest.Manifest.{Manifest}
 use Rattle.fml_value.specs.Typed.{TypedValue}
@@ -39,35 +49,40 @@ use Rattle.feature_serving.specs.Serving.{served}
 use Rattle.client_words.specs.declared.answer.Answer.{Answer}
 use Rattle.client_words.specs.declared.answer.Answer.TheVariants.{Okay, OptedOutLimit, EventLimit, NoSuchChange, NotParticipating, NoSuchBranch, StateTooLarge}
 use Rattle.client_words.specs.declared.command.Command.{Command}
-use Rattle.client_words.specs.declared.command.Command.TheVariants.{Fetch, Apply, Participate, OptOut, OptIn, Reset, Show, Feature, Event, Confirm, WriteManifest}
+use Rattle.client_words.specs.declared.command.Command.TheVariants.{Fetch, Apply, Participate, OptOut, OptIn, Reset, Show, Feature, Event, Confirm, Bind, SetPreference, ClearPreference, WriteManifest}
 use Rattle.client_words.specs.declared.command.Command.TheVariants as commands
 use Rattle.client_core.specs.declared.session.Session.{Session}
 use Rattle.client_core.specs.Choosing.{first_taker}
+use Rattle.client_core.specs.EventSteps.{is_okay}
 use Rattle.client_core.specs.Fetching.{file_tree}
 use Rattle.client_core.specs.Manifests.{manifest_of}
+use Rattle.client_core.specs.PreferenceSteps.{set_after}
 use Rattle.client_core.specs.Settings.{Setting}
-use Rattle.client_core.specs.Soundness.{HasVersion, HasLinked, IsSession, IsLawful, Line, IsLine, all_after, StepsStaySound}
+use Rattle.client_core.specs.Soundness.{HasVersion, HasLinked, IsSession, IsLawful, Line, IsLine, all_after, HasConsistentParts, StepsStaySound}
 use Rattle.client_words.specs.Commands.{IsCommand, IsEvent}
-use Rattle.client_core.specs.Steps.{EnrolmentOutcome, Outcome, Accepted, Refused, Step, whole, enrolling, seeing, has_no_room_for, counting, listing_changes, confirming, participation, opting_out, taking, offering, choosing, opting_in, resetting, showing, fetched, fetching, context_read, reading_context, setting_manifest, applying, valued, serving, writing_manifest, outcome, done, step}
+use Rattle.client_core.specs.Steps.{EnrolmentOutcome, Outcome, Accepted, Refused, Step, preferences_with, whole, enrolling, seeing, has_no_room_for, counting, listing_changes, listing_preferences, confirming, preferring, participation, opting_out, taking, offering, choosing, opting_in, resetting, showing, fetched, fetching, context_read, reading_context, bindings_read, reading_bindings, setting_manifest, applying, valued, serving, writing_manifest, outcome, done, step}
 use Rattle.client_core.proofs.Coenrolling.{coenrolling_names, coenrolling_rise}
 use Rattle.client_core.proofs.Counting.{counted_sound}
+use Rattle.client_core.proofs.JoinValues.{join_sets}
 use Rattle.client_core.proofs.KeptRecords.{step_keeps_records}
 use Rattle.client_core.proofs.Lawfulness.{step_keeps_texts, step_keeps_lawful, lawful_texts}
 use Rattle.client_core.proofs.Payloads.{payload_kept}
-use Rattle.client_core.proofs.Outboxes.{appended_is_sound, confirmed_is_sound}
-use Rattle.client_core.proofs.Stepping.{pending_consistent, whole_either}
+use Rattle.client_core.proofs.Outboxes.{appended_is_sound, changes_slugs, confirmed_is_sound}
+use Rattle.client_core.proofs.PreferenceSteps.{preferences_follow}
+use Rattle.client_core.proofs.FollowedPreferences.{done_sound, users_sound}
+use Rattle.client_core.proofs.Stepping.{pending_consistent, preferring_either, whole_either}
 use Rattle.client_core.proofs.Takers.{free_where}
 
 either_step : (P : Step → Type 0) (b : Bool) (x y : Step) → P x → P y → P (if b then x else y)
 either_step P true x y here there = here
 either_step P false x y here there = there
 
--- ---- the state
+-- ---- the parts that follow nothing of what recipes hold
 
-module _ (at : Setting) (s : ClientState) (session : Session) (c : IsConsistent s) where
-  -- an accepted state is consistent
+module _ (at : Setting) (s : ClientState) (session : Session) (c : HasConsistentParts s) where
+  -- an accepted state has consistent parts
   abbrev Keeps : Outcome → Type 0
-  Keeps (Accepted t next answer) = IsConsistent t
+  Keeps (Accepted t next answer) = HasConsistentParts t
   Keeps (Refused answer) = Unit {0}
 
   -- and so is an accepted enrolment
@@ -75,13 +90,13 @@ module _ (at : Setting) (s : ClientState) (session : Session) (c : IsConsistent 
   KeepsEnrolment (Accepted e next answer) = states.IsConsistent e
   KeepsEnrolment (Refused answer) = Unit {0}
 
-  whole-keeps : (ns : List NameCounts) → counts.IsSound ns → (asked : EnrolmentOutcome) → KeepsEnrolment asked → Keeps (whole s ns asked)
+  whole-keeps : (ns : List NameCounts) → counts.IsSound ns → (asked : EnrolmentOutcome) → KeepsEnrolment asked → Keeps (whole s session ns asked)
   whole-keeps ns sound (Accepted e next answer) keeps =
-      whole_either Keeps s ns e next answer tt (λ fits. record { enrolment = keeps; events = sound; outbox = appended_is_sound s.enrolment e s.outbox c.enrolment keeps c.outbox fits })
+      whole_either Keeps s session ns e next answer tt (λ fits. record { enrolment = keeps; events = sound; outbox = appended_is_sound s.enrolment e s.outbox c.enrolment keeps c.outbox fits })
   whole-keeps ns sound (Refused answer) keeps = tt
 
-  done-keeps : (asked : Outcome) → Keeps asked → IsConsistent (done s session asked).state
-  done-keeps (Accepted t next answer) keeps = either_step (λ to. IsConsistent to.state) (nat_lt max_size (length (spelling t))) _ _ c keeps
+  done-keeps : (asked : Outcome) → Keeps asked → HasConsistentParts (done s session asked).state
+  done-keeps (Accepted t next answer) keeps = either_step (λ to. HasConsistentParts to.state) (nat_lt max_size (length (spelling t))) _ _ c keeps
   done-keeps (Refused answer) keeps = c
 
   context-keeps : (read : Result Context ContextKey) → Keeps (context_read s session read)
@@ -91,6 +106,14 @@ module _ (at : Setting) (s : ClientState) (session : Session) (c : IsConsistent 
   file-keeps : (read : Result Json Answer) → Keeps (reading_context s session read)
   file-keeps (Ok tree) = context-keeps (context_of tree)
   file-keeps (Err refusal) = tt
+
+  bindings-keeps : (read : Result (List Binding) (List ℕ)) → Keeps (bindings_read s session read)
+  bindings-keeps (Ok bindings) = c
+  bindings-keeps (Err feature) = tt
+
+  bind-keeps : (read : Result Json Answer) → Keeps (reading_bindings s session read)
+  bind-keeps (Ok tree) = bindings-keeps (bindings_of tree)
+  bind-keeps (Err refusal) = tt
 
   payload-keeps : (tree : Json) (read : Result Payload PayloadFault) → payload_of tree ≡ read → KeepsEnrolment (fetched s.enrolment session read)
   payload-keeps tree (Ok found) is = pending_consistent s.enrolment found.recipes c.enrolment (payload_kept tree found is)
@@ -159,28 +182,88 @@ module _ (at : Setting) (s : ClientState) (session : Session) (c : IsConsistent 
   confirm-keeps number true e = tt
   confirm-keeps number false e = record { enrolment = c.enrolment; events = c.events; outbox = confirmed_is_sound s.outbox number c.outbox (leb-false s.outbox.next number e) }
 
-  enrolment-keeps : (asked : EnrolmentOutcome) → KeepsEnrolment asked → IsConsistent (done s session (enrolling s asked)).state
-  enrolment-keeps asked keeps = done-keeps (enrolling s asked) (whole-keeps s.events c.events asked keeps)
+  preferring-keeps : (name : List ℕ) (value : Option Tree) → Keeps (preferring s session name value)
+  preferring-keeps name value =
+      preferring_either Keeps s session name value tt (λ free. record { enrolment = c.enrolment; events = c.events; outbox = c.outbox })
+      (λ holder held fits.
+      let ended = ended_is_consistent s.enrolment holder c.enrolment in
+      record { enrolment = ended; events = c.events; outbox = appended_is_sound s.enrolment (enrolment_ended holder s.enrolment) s.outbox c.enrolment ended c.outbox fits })
 
-  consistent : (command : Command) → at.now ≤ last_moment → IsCommand command → IsSession session → IsConsistent (step at s session command).state
+  enrolment-keeps : (asked : EnrolmentOutcome) → KeepsEnrolment asked → HasConsistentParts (done s session (enrolling s session asked)).state
+  enrolment-keeps asked keeps = done-keeps (enrolling s session asked) (whole-keeps s.events c.events asked keeps)
+
+  parts : (command : Command) → at.now ≤ last_moment → IsCommand command → IsSession session → HasConsistentParts (step at s session command).state
   unfolding step
-  consistent (commands.Manifest file channel) moment is texts = done-keeps (setting_manifest s session (manifest_of at.files file channel)) (manifest-keeps (manifest_of at.files file channel))
-  consistent (commands.Context file) moment is texts = done-keeps (reading_context s session (file_tree file (at.files file))) (file-keeps (file_tree file (at.files file)))
-  consistent (Fetch file) moment is texts = enrolment-keeps (fetching s.enrolment session (file_tree file (at.files file))) (fetch-keeps (file_tree file (at.files file)))
-  consistent Apply moment is texts =
+  parts (commands.Manifest file channel) moment is texts = done-keeps (setting_manifest s session (manifest_of at.files file channel)) (manifest-keeps (manifest_of at.files file channel))
+  parts (commands.Context file) moment is texts = done-keeps (reading_context s session (file_tree file (at.files file))) (file-keeps (file_tree file (at.files file)))
+  parts (Fetch file) moment is texts = enrolment-keeps (fetching s.enrolment session (file_tree file (at.files file))) (fetch-keeps (file_tree file (at.files file)))
+  parts Apply moment is texts =
       let seen = seeing at.now s.events session.context in
       enrolment-keeps (applying at.now s.enrolment session session.manifest seen) (apply-keeps moment session.manifest texts.manifest seen (seen-version session.context texts.context))
-  consistent (Participate part on) moment is texts = enrolment-keeps (participation s.enrolment session part on) (participations.consistent s.enrolment part on c.enrolment)
-  consistent (OptOut slug) moment is texts = enrolment-keeps (opting_out s.enrolment session slug) (out-keeps slug is (has_no_room s.enrolment.opted_out slug) refl)
-  consistent (OptIn slug branch) moment is texts = enrolment-keeps (opting_in s.enrolment session slug branch) (choosing-keeps slug branch is.0 is.1 (recipe_with slug s.enrolment.live) refl)
-  consistent (Reset id) moment is texts =
-      done-keeps (whole s [] (resetting s.enrolment session id)) (whole-keeps [] (sound_none [] refl) (resetting s.enrolment session id) (reset-consistent s.enrolment id is c.enrolment))
-  consistent Show moment is texts = done-keeps (showing s session) c
-  consistent (Feature name) moment is texts = done-keeps (serving s session name session.manifest) (feature-keeps name session.manifest)
-  consistent (Event name count) moment is texts = done-keeps (counting at.now s session name count) (count-keeps name count is moment (has_no_room_for name s.events) refl)
-  consistent commands.Changes moment is texts = done-keeps (listing_changes s session) c
-  consistent (Confirm number) moment is texts = done-keeps (confirming s session number) (confirm-keeps number (nat_le s.outbox.next number) refl)
-  consistent WriteManifest moment is texts = done-keeps (writing_manifest s session session.manifest) (written-keeps session.manifest)
+  parts (Participate part on) moment is texts = enrolment-keeps (participation s.enrolment session part on) (participations.consistent s.enrolment part on c.enrolment)
+  parts (OptOut slug) moment is texts = enrolment-keeps (opting_out s.enrolment session slug) (out-keeps slug is (has_no_room s.enrolment.opted_out slug) refl)
+  parts (OptIn slug branch) moment is texts = enrolment-keeps (opting_in s.enrolment session slug branch) (choosing-keeps slug branch is.0 is.1 (recipe_with slug s.enrolment.live) refl)
+  parts (Reset id) moment is texts =
+      done-keeps (whole s session [] (resetting s.enrolment session id)) (whole-keeps [] (sound_none [] refl) (resetting s.enrolment session id) (reset-consistent s.enrolment id is c.enrolment))
+  parts Show moment is texts = done-keeps (showing s session) c
+  parts (Feature name) moment is texts = done-keeps (serving s session name session.manifest) (feature-keeps name session.manifest)
+  parts (Event name count) moment is texts = done-keeps (counting at.now s session name count) (count-keeps name count is moment (has_no_room_for name s.events) refl)
+  parts commands.Changes moment is texts = done-keeps (listing_changes s session) c
+  parts (Confirm number) moment is texts = done-keeps (confirming s session number) (confirm-keeps number (nat_le s.outbox.next number) refl)
+  parts (Bind file) moment is texts = done-keeps (reading_bindings s session (file_tree file (at.files file))) (bind-keeps (file_tree file (at.files file)))
+  parts (SetPreference name value) moment is texts = done-keeps (preferring s session name (Some value)) (preferring-keeps name (Some value))
+  parts (ClearPreference name) moment is texts = done-keeps (preferring s session name None) (preferring-keeps name None)
+  parts commands.Preferences moment is texts = done-keeps (listing_preferences s session) c
+  parts WriteManifest moment is texts = done-keeps (writing_manifest s session session.manifest) (written-keeps session.manifest)
+
+-- ---- the preferences
+
+-- what preferences keep where the user's value is set or taken away, they keep by a command
+module _ (P : List Preference → Type 0) (ps : List Preference) (was : P ps) (sets : (name : List ℕ) (value : Option Tree) → IsTrue (is_name name) → preference_lists.IsValueOrNone value → P (set_by_user name value ps)) where
+  set_if : (name : List ℕ) (value : Option Tree) (command : Command) (is_done : Bool) → P (set_by_user name value ps) → set_after command true ps ≡ set_by_user name value ps → set_after command false ps ≡ ps → P (set_after command is_done ps)
+  set_if name value command true is set leaves = subst P (sym set) is
+  set_if name value command false is set leaves = subst P (sym leaves) was
+
+  set_keeps : (command : Command) → IsCommand command → (is_done : Bool) → P (set_after command is_done ps)
+  set_keeps (commands.Manifest file channel) is is_done = was
+  set_keeps (commands.Context file) is is_done = was
+  set_keeps (Fetch file) is is_done = was
+  set_keeps Apply is is_done = was
+  set_keeps (Participate part on) is is_done = was
+  set_keeps (OptOut slug) is is_done = was
+  set_keeps (OptIn slug branch) is is_done = was
+  set_keeps (Reset id) is is_done = was
+  set_keeps Show is is_done = was
+  set_keeps (Feature name) is is_done = was
+  set_keeps (Event name count) is is_done = was
+  set_keeps commands.Changes is is_done = was
+  set_keeps (Confirm number) is is_done = was
+  set_keeps (Bind file) is is_done = was
+  set_keeps (SetPreference name value) is is_done = set_if name (Some value) (SetPreference name value) is_done (sets name (Some value) is.0 is.1) refl refl
+  set_keeps (ClearPreference name) is is_done = set_if name None (ClearPreference name) is_done (sets name None is tt) refl refl
+  set_keeps commands.Preferences is is_done = was
+  set_keeps WriteManifest is is_done = was
+
+module _ (at : Setting) (s : ClientState) (session : Session) (c : IsConsistent s) (records : HaveRecords s.enrolment) where
+  consistent : (command : Command) → at.now ≤ last_moment → IsCommand command → IsSession session → IsConsistent (step at s session command).state
+  consistent command moment is texts =
+      let to = step at s session command in
+      let e = to.state.enrolment in
+      let rest : HasConsistentParts to.state = parts at s session (record { enrolment = c.enrolment; events = c.events; outbox = c.outbox }) command moment is texts in
+      let values = join_values session.manifest session.bindings e in
+      let ps = preferences_with session s.enrolment e s.preferences in
+      let sets = join_sets session.manifest session.bindings e texts.bindings (step_keeps_records at s session records command) in
+      let sound : preference_lists.IsSound ps = done_sound values sets (changes_from s.enrolment e) (changes_slugs s.enrolment e c.enrolment rest.enrolment) s.preferences c.preferences in
+      let holders : HaveEnrolledHolders e ps = holders_after s.enrolment e values s.preferences c.holders in
+      let same = preferences_follow.preferences at s session command in
+      record {
+        enrolment = rest.enrolment;
+        events = rest.events;
+        outbox = rest.outbox;
+        preferences = subst preference_lists.IsSound (sym same) (set_keeps preference_lists.IsSound ps sound (λ name value named is_value. users_sound name value ps named is_value sound) command is (is_okay to.answer));
+        holders = subst (λ (qs : List Preference). HaveEnrolledHolders e qs) (sym same)
+            (set_keeps (λ (qs : List Preference). HaveEnrolledHolders e qs) ps holders (λ name value named is_value. holders_set e name value ps holders) command is (is_okay to.answer));
+      }
 
 -- ---- the size
 
@@ -203,7 +286,7 @@ size at s session command most = small s session (outcome at s session command) 
 one : (at : Setting) (s : ClientState) (session : Session) (command : Command) → at.now ≤ last_moment → IsCommand command → IsLawful session → IsSound s → IsSound (step at s session command).state × IsLawful (step at s session command).session
 one at s session command moment is lawful sound = (
   record {
-    consistent = consistent at s session sound.consistent command moment is (lawful_texts session lawful);
+    consistent = consistent at s session sound.consistent sound.records command moment is (lawful_texts session lawful);
     records = step_keeps_records at s session sound.records command;
     size = size at s session command sound.size;
   },
@@ -223,8 +306,10 @@ steps_stay_sound = record {
   one = one;
   all = all;
   session = step_keeps_lawful;
-  begun = record { manifest = tt; context = tt };
-  consistent = λ at s session command moment is texts c. consistent at s session c command moment is texts;
+  begun = record { manifest = tt; context = tt; bindings = tt };
+  consistent = λ at s session command moment is texts records c. consistent at s session c records command moment is texts;
+  records = λ at s session command records. step_keeps_records at s session records command;
+  parts = λ at s session command moment is texts c. parts at s session c command moment is texts;
   texts = step_keeps_texts;
   size = size;
 }

@@ -10,6 +10,7 @@ abbrev pub names_file : Command → Bool
 names_file (commands.Manifest file channel) = true
 names_file (commands.Context file) = true
 names_file (commands.Fetch file) = true
+names_file (commands.Bind file) = true
 names_file command = false
 
 -- the names of the files, in order. Of a manifest's the first one is said, where there is one: those behind it are asked for as includes and imports
@@ -17,6 +18,7 @@ abbrev pub AsksFor : Command → List (List ℕ) → Type 0
 AsksFor (commands.Manifest file channel) names = BeginWith file names
 AsksFor (commands.Context file) names = names ≡ file ∷ []
 AsksFor (commands.Fetch file) names = names ≡ file ∷ []
+AsksFor (commands.Bind file) names = names ≡ file ∷ []
 AsksFor command names = names ≡ []
 
 -- one shelf is left of another when it has been asked for files with such names, one after the other, and for no other

@@ -4,13 +4,11 @@ use Rattle.json_tree.specs.Json.{Json}
 use Rattle.json_tree.specs.Tree.{json_of}
 use Rattle.json_tree.specs.declared.tree.Tree.{Tree}
 use Rattle.recipe_reader.specs.declared.payload.Payload.{Payload}
-use Rattle.app_context.specs.declared.context.Context.{Context}
 use Rattle.enrol_states.specs.declared.state.State.{State}
-use Rattle.client_state.specs.declared.client_state.ClientState.{ClientState}
 use Rattle.client_words.specs.declared.answer.Answer.{Answer}
 use Rattle.client_words.specs.declared.answer.Answer.TheVariants.{Fetched}
 use Rattle.client_core.specs.declared.session.Session.{Session}
-use Rattle.client_core.specs.Steps.{EnrolmentOutcome, Outcome, Accepted, Refused, context_read}
+use Rattle.client_core.specs.Steps.{EnrolmentOutcome, Accepted, Refused}
 
 -- it is the tree of this reading, or its refusal
 abbrev pub IsTree : Result Tree Answer → Result Json Answer → Type 0
@@ -25,8 +23,3 @@ accepted e session payload = Accepted (record e { pending = Some payload.recipes
 abbrev pub outcome_of : State → Session → Result Payload Answer → EnrolmentOutcome
 outcome_of e session (Ok payload) = accepted e session payload
 outcome_of e session (Err refusal) = Refused refusal
-
--- what is asked for with this context, or this refusal
-abbrev pub context_outcome : ClientState → Session → Result Context Answer → Outcome
-context_outcome s session (Ok context) = context_read s session (Ok context)
-context_outcome s session (Err refusal) = Refused refusal

@@ -16,6 +16,7 @@ pub mod Openings
 pub mod OptOuts
 pub mod OutboxSteps
 pub mod Places
+pub mod PreferenceSteps
 pub mod Prepared
 pub mod ServedValues
 pub mod Sessions

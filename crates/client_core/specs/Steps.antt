@@ -1,6 +1,7 @@
 -- One step of a client: what a command makes of the state and of the session, and its answer.
 use Rattle.std.specs.Prelude.{ℕ, Bool, ◌&&◌, nat_lt, nat_le, List, [], length, count_by, is_some, is_none, option_map, Option, None, Some, Result, Ok, Err, if◌then◌else◌}
 use Rattle.json_tree.specs.Json.{Json}
+use Rattle.json_tree.specs.declared.tree.Tree.{Tree}
 use Rattle.recipe_reader.specs.declared.payload.Payload.{Payload}
 use Rattle.recipe_reader.specs.declared.payload.PayloadFault.{PayloadFault}
 use Rattle.recipe_reader.specs.declared.payload.PayloadFault.TheVariants as payload
@@ -19,6 +20,10 @@ use Rattle.event_counts.specs.Kept.{counted_in, found}
 use Rattle.event_counts.specs.View.{view_of}
 use Rattle.event_counts.specs.declared.name_counts.NameCounts.{NameCounts}
 use Rattle.change_outbox.specs.Contents.{confirmed}
+use Rattle.pref_bindings.specs.Bindings.{bindings_of}
+use Rattle.pref_bindings.specs.Preferences.{holder_of}
+use Rattle.pref_bindings.specs.declared.bindings.Binding.{Binding}
+use Rattle.pref_bindings.specs.declared.preference.Preference.{Preference}
 use Rattle.fml_types.specs.Coenrolling.{coenrolling}
 use Rattle.fml_types.specs.declared.manifest.Manifest.{Manifest}
 use Rattle.fml_imports.specs.Single.{single}
@@ -29,22 +34,23 @@ use Rattle.enrol_states.specs.Commands.{after_participate, after_opt_out, after_
 use Rattle.enrol_states.specs.Participation.{takes_part}
 use Rattle.enrol_states.specs.Recipes.{has_branch}
 use Rattle.enrol_states.specs.Statuses.{is_enrolled}
-use Rattle.client_state.specs.Following.{appended_changes, is_spent}
+use Rattle.client_state.specs.Changes.{with_users_value}
+use Rattle.client_state.specs.Following.{appended_changes, changes_done, changes_from, enrolment_ended, is_spent, join_values}
 use Rattle.client_state.specs.Spelling.{spelling}
 use Rattle.client_state.specs.Sound.{max_size}
 use Rattle.client_state.specs.declared.client_state.ClientState.{ClientState}
 use Rattle.client_words.specs.declared.command.Command.{Command}
-use Rattle.client_words.specs.declared.command.Command.TheVariants.{Apply, Participate, OptOut, OptIn, Reset, Show, Feature, Fetch, Event, Confirm, WriteManifest}
+use Rattle.client_words.specs.declared.command.Command.TheVariants.{Apply, Participate, OptOut, OptIn, Reset, Show, Feature, Fetch, Event, Confirm, Bind, SetPreference, ClearPreference, WriteManifest}
 use Rattle.client_words.specs.declared.command.Command.TheVariants as commands
 use Rattle.client_words.specs.declared.answer.Answer.{Answer}
-use Rattle.client_words.specs.declared.answer.Answer.TheVariants.{Okay, Fetched, Applied, Value, Shown, NoManifest, NoContext, BadContext, NoData, TooManyRecipes, UnknownFeature, OptedOutLimit, NotParticipating, NoSuchExperiment, NoSuchBranch, FeatureTaken, EventLimit, NoSuchChange, ChangesSpent, StateTooLarge}
+use Rattle.client_words.specs.declared.answer.Answer.TheVariants.{Okay, Fetched, Applied, Value, Shown, NoManifest, NoContext, BadContext, BadBinding, NoData, TooManyRecipes, UnknownFeature, OptedOutLimit, NotParticipating, NoSuchExperiment, NoSuchBranch, FeatureTaken, EventLimit, NoSuchChange, ChangesSpent, StateTooLarge}
 use Rattle.client_words.specs.declared.answer.Answer.TheVariants as answers
 use Rattle.client_core.specs.declared.session.Session.{Session}
 use Rattle.client_core.specs.Choosing.{first_taker}
 use Rattle.client_core.specs.Fetching.{file_tree}
 use Rattle.client_core.specs.Manifests.{manifest_of}
 use Rattle.fml_reader.specs.Trees.{tree_from}
-use Rattle.client_core.specs.Sessions.{with_manifest, with_context}
+use Rattle.client_core.specs.Sessions.{with_manifest, with_context, with_bindings}
 use Rattle.client_core.specs.Settings.{Setting}
 
 -- what is asked for: a new state and session with an answer, or a refusal
@@ -120,18 +126,22 @@ applying now e session (Some manifest) (Some context) = Accepted (applied now e 
 
 -- ---- their state
 
--- the state with another enrolment, whose changes are in the outbox, and these counts of events
-abbrev pub with_enrolment : ClientState → State → List NameCounts → ClientState
-with_enrolment s e counts = record { enrolment = e; events = counts; outbox = appended_changes s.enrolment e s.outbox }
+-- the preferences where each enrolment that ends has left them, and then each that begins has joined them, by the session's manifest and bindings
+abbrev pub preferences_with : Session → State → State → List Preference → List Preference
+preferences_with session e next ps = changes_done (join_values session.manifest session.bindings next) (changes_from e next) ps
+
+-- the state with another enrolment, whose changes are in the outbox and in the preferences, and these counts of events
+abbrev pub with_enrolment : Session → ClientState → State → List NameCounts → ClientState
+with_enrolment session s e counts = record { enrolment = e; events = counts; outbox = appended_changes s.enrolment e s.outbox; preferences = preferences_with session s.enrolment e s.preferences }
 
 -- the same, unless the outbox has no numbers for the changes
-abbrev pub whole : ClientState → List NameCounts → EnrolmentOutcome → Outcome
-whole s counts (Accepted e session answer) = if is_spent s.enrolment e s.outbox then Refused ChangesSpent else Accepted (with_enrolment s e counts) session answer
-whole s counts (Refused answer) = Refused answer
+abbrev pub whole : ClientState → Session → List NameCounts → EnrolmentOutcome → Outcome
+whole s session counts (Accepted e next answer) = if is_spent s.enrolment e s.outbox then Refused ChangesSpent else Accepted (with_enrolment session s e counts) next answer
+whole s session counts (Refused answer) = Refused answer
 
 -- the counts stay
-abbrev pub enrolling : ClientState → EnrolmentOutcome → Outcome
-enrolling s asked = whole s s.events asked
+abbrev pub enrolling : ClientState → Session → EnrolmentOutcome → Outcome
+enrolling s session asked = whole s session s.events asked
 
 -- targeting sees the counts as this moment sees them
 abbrev pub seeing : ℕ → List NameCounts → Option Context → Option Context
@@ -153,6 +163,22 @@ counting now s session name count = if has_no_room_for name s.events then Refuse
 abbrev pub confirming : ClientState → Session → ℕ → Outcome
 confirming s session number = if nat_le s.outbox.next number then Refused (NoSuchChange s.outbox.next) else Accepted (record s { outbox = confirmed number s.outbox }) session Okay
 
+-- ---- the commands of the user's preferences
+
+-- nobody holds the preference: where a slug does, its enrolment ends
+abbrev pub releasing : ClientState → Session → Option (List ℕ) → Outcome
+releasing s session None = Accepted s session Okay
+releasing s session (Some holder) = enrolling s session (Accepted (enrolment_ended holder s.enrolment) session Okay)
+
+-- what is asked for, and then the user's value is set or taken away
+abbrev pub valued_by_user : List ℕ → Option Tree → Outcome → Outcome
+valued_by_user name value (Accepted s session answer) = Accepted (with_users_value name value s) session answer
+valued_by_user name value (Refused answer) = Refused answer
+
+-- `set-pref`, with a value, and `clear-pref`: once nobody holds the preference
+abbrev pub preferring : ClientState → Session → List ℕ → Option Tree → Outcome
+preferring s session name value = valued_by_user name value (releasing s session (holder_of name s.preferences))
+
 -- ---- commands that change the session alone
 
 -- `context`, where the file holds a value
@@ -164,6 +190,16 @@ context_read s session (Err key) = Refused (BadContext key)
 abbrev pub reading_context : ClientState → Session → Result Json Answer → Outcome
 reading_context s session (Ok tree) = context_read s session (context_of tree)
 reading_context s session (Err refusal) = Refused refusal
+
+-- `bind`, where the file holds a value
+abbrev pub bindings_read : ClientState → Session → Result (List Binding) (List ℕ) → Outcome
+bindings_read s session (Ok bindings) = Accepted s (with_bindings session bindings) Okay
+bindings_read s session (Err feature) = Refused (BadBinding feature)
+
+-- `bind`
+abbrev pub reading_bindings : ClientState → Session → Result Json Answer → Outcome
+reading_bindings s session (Ok tree) = bindings_read s session (bindings_of tree)
+reading_bindings s session (Err refusal) = Refused refusal
 
 -- `manifest`
 abbrev pub setting_manifest : ClientState → Session → Result Manifest Answer → Outcome
@@ -182,6 +218,10 @@ showing s session = Accepted s session (shown_answer s.enrolment)
 -- `changes`
 abbrev pub listing_changes : ClientState → Session → Outcome
 listing_changes s session = Accepted s session (answers.Changes s.outbox.entries)
+
+-- `prefs`
+abbrev pub listing_preferences : ClientState → Session → Outcome
+listing_preferences s session = Accepted s session (answers.Preferences s.preferences)
 
 -- `feature`, where the manifest has it
 abbrev pub valued : ClientState → Session → Option TypedValue → Outcome
@@ -204,17 +244,21 @@ writing_manifest s session (Some manifest) = Accepted s session (answers.Manifes
 abbrev pub outcome : Setting → ClientState → Session → Command → Outcome
 outcome at s session (commands.Manifest file channel) = setting_manifest s session (manifest_of at.files file channel)
 outcome at s session (commands.Context file) = reading_context s session (file_tree file (at.files file))
-outcome at s session Apply = enrolling s (applying at.now s.enrolment session session.manifest (seeing at.now s.events session.context))
-outcome at s session (Participate part on) = enrolling s (participation s.enrolment session part on)
-outcome at s session (OptOut slug) = enrolling s (opting_out s.enrolment session slug)
-outcome at s session (OptIn slug branch) = enrolling s (opting_in s.enrolment session slug branch)
-outcome at s session (Reset id) = whole s [] (resetting s.enrolment session id)
+outcome at s session Apply = enrolling s session (applying at.now s.enrolment session session.manifest (seeing at.now s.events session.context))
+outcome at s session (Participate part on) = enrolling s session (participation s.enrolment session part on)
+outcome at s session (OptOut slug) = enrolling s session (opting_out s.enrolment session slug)
+outcome at s session (OptIn slug branch) = enrolling s session (opting_in s.enrolment session slug branch)
+outcome at s session (Reset id) = whole s session [] (resetting s.enrolment session id)
 outcome at s session Show = showing s session
 outcome at s session (Feature name) = serving s session name session.manifest
-outcome at s session (Fetch file) = enrolling s (fetching s.enrolment session (file_tree file (at.files file)))
+outcome at s session (Fetch file) = enrolling s session (fetching s.enrolment session (file_tree file (at.files file)))
 outcome at s session (Event name count) = counting at.now s session name count
 outcome at s session commands.Changes = listing_changes s session
 outcome at s session (Confirm number) = confirming s session number
+outcome at s session (Bind file) = reading_bindings s session (file_tree file (at.files file))
+outcome at s session (SetPreference name value) = preferring s session name (Some value)
+outcome at s session (ClearPreference name) = preferring s session name None
+outcome at s session commands.Preferences = listing_preferences s session
 outcome at s session WriteManifest = writing_manifest s session session.manifest
 
 -- what a command leaves, and its answer

@@ -32,7 +32,7 @@ impl Client {
         requires moment { now ≤ last_moment }
         requires table { HasStandardNames table.now }
         ensures asks { IfOk result (λ asked. asked_outcome (state_of self.now) (session_of self.now) asked
-            ≡ enrolling (state_of self.now) (applying now (state_of self.now).enrolment (session_of self.now) (session_of self.now).manifest (seeing now (state_of self.now).events (session_of self.now).context))) }
+            ≡ enrolling (state_of self.now) (session_of self.now) (applying now (state_of self.now).enrolment (session_of self.now) (session_of self.now).manifest (seeing now (state_of self.now).events (session_of self.now).context))) }
         ensures follows { IfOk result (λ asked. FollowsFrom (state_of self.now) asked) }
     {
         let Some(linked) = &self.session.manifest else {

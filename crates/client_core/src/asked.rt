@@ -11,8 +11,13 @@ use state_codec::RecipeLists;
 /// What a command asks for. What it leaves is known once the new state's size is.
 #[derive(Drop)]
 pub(crate) enum Asked {
-    /// A new state, in the same session.
+    /// A new state, in the same session. What follows it isn't in the change yet.
     NewState {
+        change: StateChange,
+        answer: Answer,
+    },
+    /// A new state with all that follows it, in the same session.
+    Followed {
         change: StateChange,
         answer: Answer,
     },
@@ -33,6 +38,16 @@ impl Asked {
         Asked::NewState {
             change: StateChange::of_enrolment(enrolment, recipes),
             answer,
+        }
+    }
+
+    /// The same state, in another session.
+    pub(crate) fn in_session(change: SessionChange) -> Asked
+        ensures { result ≡ Asked.SameState change Answer.Okay }
+    {
+        Asked::SameState {
+            change,
+            answer: Answer::Okay,
         }
     }
 

@@ -18,6 +18,7 @@ use client_state::ClientState;
 use enrol_states::State;
 use event_counts::Counts;
 use host_model::{DiskFailed, Host};
+use pref_bindings::Prefs;
 
 /// A client: its state with the store that holds it, and the session of the run.
 ///
@@ -55,6 +56,14 @@ impl Client {
         ensures consistent { IsConsistent (state_of self.now) }
     {
         &self.state().outbox
+    }
+
+    /// The preferences that have a value, with who holds them. It takes no memory.
+    pub fn prefs(&self) -> &Prefs
+        ensures preferences { result.now ≡ (state_of self.now).preferences }
+        ensures consistent { IsConsistent (state_of self.now) }
+    {
+        &self.state().preferences
     }
 
     /// The enrolment. It takes no memory.

@@ -8,18 +8,18 @@ use crate::client::Client;
 use change_outbox::ConfirmFault;
 use client_state::StateChange;
 use client_words::Answer;
-use std::alloc::{AllocError, Global};
+use std::alloc::AllocError;
 
 impl Client {
     ghost use Rattle.client_core.specs.Clients.{state_of, session_of};
 
     /// What `confirm` asks for.
-    pub(crate) fn confirming(&self, alloc: Global, number: u64) -> Result<Asked, AllocError>
+    pub(crate) fn confirming(&self, number: u64) -> Result<Asked, AllocError>
         ensures asks { IfOk result (λ asked. asked_outcome (state_of self.now) (session_of self.now) asked
             ≡ confirming (state_of self.now) (session_of self.now) number) }
         ensures follows { IfOk result (λ asked. FollowsFrom (state_of self.now) asked) }
     {
-        match self.outbox().confirmed(alloc, number) {
+        match self.outbox().confirmed(number) {
             Ok(outbox) => {
                 outbox.next();
                 Ok(Asked::NewState {

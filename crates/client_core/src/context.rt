@@ -7,14 +7,13 @@ ghost use Rattle.client_state.specs.declared.client_state.ClientState.{ClientSta
 ghost use Rattle.client_core.specs.declared.session.Session.{Session};
 ghost use Rattle.client_core.specs.Asked.{asked_outcome, FollowsFrom};
 ghost use Rattle.client_core.specs.Fetching.{file_tree};
-ghost use Rattle.client_core.specs.Found.{context_outcome};
 ghost use Rattle.client_core.specs.Steps.{context_read, reading_context};
 
 use crate::asked::Asked;
 use crate::faults::StepFault;
 use crate::files::read_tree;
 use crate::session::SessionChange;
-use app_context::{Context, ContextFault, read_context};
+use app_context::{ContextFault, read_context};
 use client_words::Answer;
 use host_model::Shelf;
 use json_tree::Tree;
@@ -35,41 +34,20 @@ pub(crate) fn reading_context<F: Shelf>(
     ensures cause { IsErrOf result StepFault.ShelfFault → Rose (F.faults shelf.old) (F.faults shelf.new) }
     ensures faults { F.faults shelf.old ≤ F.faults shelf.new }
 {
-    match read_context_file(alloc, shelf, file)? {
-        Ok(context) => Ok(Asked::SameState {
-            change: SessionChange::Context(context),
-            answer: Answer::Okay,
-        }),
+    match read_tree(alloc, shelf, file)? {
+        Ok(tree) => Ok(context_in(alloc, &tree)?),
         Err(refusal) => Ok(Asked::Refused(refusal)),
     }
 }
 
-/// The context of the file of this name, or the refusal of the command.
-fn read_context_file<F: Shelf>(
-    alloc: Global,
-    shelf: &mut F,
-    name: &Text,
-) -> Result<Result<Context, Answer>, StepFault>
-    ensures found { F.tells → IfOk result (λ found. (s : ClientState) (session : Session)
-        → reading_context s session (file_tree name.now (F.file shelf.old name.now)) ≡ context_outcome s session found) }
-    ensures files { F.tells → (other : List ℕ) → F.file shelf.new other ≡ F.file shelf.old other }
-    ensures asked { F.asks shelf.old name.now shelf.new }
-    ensures cause { IsErrOf result StepFault.ShelfFault → Rose (F.faults shelf.old) (F.faults shelf.new) }
-    ensures faults { F.faults shelf.old ≤ F.faults shelf.new }
-{
-    match read_tree(alloc, shelf, name)? {
-        Ok(tree) => Ok(context_in(alloc, &tree)?),
-        Err(refusal) => Ok(Err(refusal)),
-    }
-}
-
-/// The context of a tree, or the refusal of the command.
-fn context_in(alloc: Global, tree: &Tree) -> Result<Result<Context, Answer>, AllocError>
-    ensures { IfOk result (λ found. (s : ClientState) (session : Session) → context_read s session (context_of (json_of tree.now)) ≡ context_outcome s session found) }
+/// What it asks for where its file holds this tree.
+fn context_in(alloc: Global, tree: &Tree) -> Result<Asked, AllocError>
+    ensures asks { IfOk result (λ asked. (s : ClientState) (session : Session) → asked_outcome s session asked ≡ context_read s session (context_of (json_of tree.now))) }
+    ensures follows { IfOk result (λ asked. (s : ClientState) → FollowsFrom s asked) }
 {
     match read_context(alloc, tree) {
-        Ok(context) => Ok(Ok(context)),
-        Err(ContextFault::BadContext(key)) => Ok(Err(Answer::BadContext(key))),
+        Ok(context) => Ok(Asked::in_session(SessionChange::Context(context))),
+        Err(ContextFault::BadContext(key)) => Ok(Asked::Refused(Answer::BadContext(key))),
         Err(ContextFault::OutOfMemory) => Err(AllocError),
     }
 }

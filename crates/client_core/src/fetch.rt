@@ -33,7 +33,7 @@ pub(crate) fn fetching<F: Shelf>(
 ) -> Result<Asked, StepFault>
     requires { IsConsistent state.now }
     ensures asks { F.tells → IfOk result (λ asked. (session : Session)
-        → asked_outcome state.now session asked ≡ enrolling state.now (fetching state.now.enrolment session (file_tree file.now (F.file shelf.old file.now)))) }
+        → asked_outcome state.now session asked ≡ enrolling state.now session (fetching state.now.enrolment session (file_tree file.now (F.file shelf.old file.now)))) }
     ensures follows { IfOk result (λ asked. FollowsFrom state.now asked) }
     ensures files { F.tells → (name : List ℕ) → F.file shelf.new name ≡ F.file shelf.old name }
     ensures asked { F.asks shelf.old file.now shelf.new }
@@ -50,7 +50,7 @@ pub(crate) fn fetching<F: Shelf>(
 fn with_pending(state: &ClientState, payload: Payload) -> Result<Asked, AllocError>
     requires consistent { IsConsistent state.now }
     requires kept { AreKept payload.recipes }
-    ensures asks { IfOk result (λ asked. (session : Session) → asked_outcome state.now session asked ≡ enrolling state.now (accepted state.now.enrolment session payload)) }
+    ensures asks { IfOk result (λ asked. (session : Session) → asked_outcome state.now session asked ≡ enrolling state.now session (accepted state.now.enrolment session payload)) }
     ensures follows { IfOk result (λ asked. FollowsFrom state.now asked) }
 {
     let Payload { recipes, skipped } = payload;

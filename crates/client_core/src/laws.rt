@@ -4,6 +4,7 @@ ghost use Rattle.client_state.specs.declared.client_state.ClientState.{ClientSta
 ghost use Rattle.client_core.specs.EventSteps.{EventsFollow};
 ghost use Rattle.client_core.specs.OptOuts.{OptOutsHold};
 ghost use Rattle.client_core.specs.OutboxSteps.{OutboxFollows};
+ghost use Rattle.client_core.specs.PreferenceSteps.{PreferencesFollow};
 ghost use Rattle.client_core.specs.ServedValues.{ValuesAreServed, ValuesHaveTypes};
 ghost use Rattle.client_core.specs.Soundness.{StepsStaySound};
 ghost use Rattle.client_core.specs.Store.{StandsFor, KeptFor};
@@ -37,6 +38,12 @@ pub fn events_follow()
 /// it confirms. A confirmation is done only where a change had its number.
 pub fn outbox_follows()
     ensures { OutboxFollows }
+{}
+
+/// The preferences that a step leaves: each enrolment that ended has left them, then each that began has joined them, and then
+/// the user's value is set or taken away, where the command does that and is answered `Okay`. Nothing else changes the user's map.
+pub fn preferences_follow()
+    ensures { PreferencesFollow }
 {}
 
 /// A step is answered a value only where it asks for a feature, and that is the tree of the value which the session's

@@ -4,6 +4,7 @@
 
 mod apply;
 mod asked;
+mod bind;
 mod changes;
 mod client;
 mod confirm;
@@ -22,10 +23,12 @@ mod opening;
 mod opt_in;
 mod opt_out;
 mod participate;
+mod preferences;
 mod prepared;
 mod preparing;
 mod reset;
 mod session;
+mod set_preference;
 mod show;
 mod sized_state;
 mod state_store;
@@ -34,8 +37,8 @@ mod write_manifest;
 pub use client::Client;
 pub use faults::{ClientFault, MakeFault, StepFault};
 pub use laws::{
-    events_follow, one_state, opt_outs_hold, outbox_follows, steps_stay_sound, values_are_served,
-    values_have_types, whole_states_stand,
+    events_follow, one_state, opt_outs_hold, outbox_follows, preferences_follow, steps_stay_sound,
+    values_are_served, values_have_types, whole_states_stand,
 };
 pub use prepared::Prepared;
 pub use session::Session;

@@ -38,10 +38,7 @@ pub(crate) fn setting_manifest<F: Shelf>(
     ensures faults { F.faults shelf.old ≤ F.faults shelf.new }
 {
     match read_manifest(alloc, shelf, file, channel)? {
-        Ok(manifest) => Ok(Asked::SameState {
-            change: SessionChange::Manifest(manifest),
-            answer: Answer::Okay,
-        }),
+        Ok(manifest) => Ok(Asked::in_session(SessionChange::Manifest(manifest))),
         Err(refusal) => Ok(Asked::Refused(refusal)),
     }
 }

@@ -22,7 +22,7 @@ impl Client {
         branch: &Slug,
     ) -> Result<Asked, AllocError>
         ensures asks { IfOk result (λ asked. asked_outcome (state_of self.now) (session_of self.now) asked
-            ≡ enrolling (state_of self.now) (opting_in (state_of self.now).enrolment (session_of self.now) slug.now branch.now)) }
+            ≡ enrolling (state_of self.now) (session_of self.now) (opting_in (state_of self.now).enrolment (session_of self.now) slug.now branch.now)) }
         ensures follows { IfOk result (λ asked. FollowsFrom (state_of self.now) asked) }
     {
         match opt_in(alloc, self.enrolment(), slug, branch) {

@@ -17,7 +17,7 @@ impl Client {
     /// What `opt-out` asks for.
     pub(crate) fn opting_out(&self, alloc: Global, slug: &Slug) -> Result<Asked, AllocError>
         ensures asks { IfOk result (λ asked. asked_outcome (state_of self.now) (session_of self.now) asked
-            ≡ enrolling (state_of self.now) (opting_out (state_of self.now).enrolment (session_of self.now) slug.now)) }
+            ≡ enrolling (state_of self.now) (session_of self.now) (opting_out (state_of self.now).enrolment (session_of self.now) slug.now)) }
         ensures follows { IfOk result (λ asked. FollowsFrom (state_of self.now) asked) }
     {
         match opt_out(alloc, self.enrolment(), slug) {

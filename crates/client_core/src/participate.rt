@@ -21,7 +21,7 @@ impl Client {
         on: bool,
     ) -> Result<Asked, AllocError>
         ensures asks { IfOk result (λ asked. asked_outcome (state_of self.now) (session_of self.now) asked
-            ≡ enrolling (state_of self.now) (participation (state_of self.now).enrolment (session_of self.now) part on)) }
+            ≡ enrolling (state_of self.now) (session_of self.now) (participation (state_of self.now).enrolment (session_of self.now) part on)) }
         ensures follows { IfOk result (λ asked. FollowsFrom (state_of self.now) asked) }
     {
         let next = participate(alloc, self.enrolment(), part, on)?;

@@ -8,7 +8,7 @@ use row_store::Ready;
 
 /// A new state, and the changed rows, ready to be committed.
 #[derive(Drop)]
-pub struct Change {
+pub(crate) struct Change {
     pub(crate) state: SizedState,
     pub(crate) ready: Ready,
 }

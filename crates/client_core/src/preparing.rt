@@ -1,9 +1,10 @@
 // A step is prepared: its new state, the changed rows and its answer are built before the first write.
-ghost use Rattle.std.specs.Prelude.{◌≡◌, ◌≤◌, List, ℕ, IfOk, IsErrOf, IsTrue, false, length};
+ghost use Rattle.std.specs.Prelude.{◌≡◌, ◌≤◌, List, ℕ, None, IfOk, IsErrOf, IsTrue, false, length};
 ghost use Rattle.host_model.specs.Causes.{Rose};
 ghost use Rattle.enrol_states.specs.State.{last_moment};
 ghost use Rattle.jexl_transforms.specs.Table.{HasStandardNames};
-ghost use Rattle.client_state.specs.Changes.{state_after, IsChangeOf};
+ghost use Rattle.client_state.specs.Changes.{state_after, IsChangeOf, IsWholeChangeOf};
+ghost use Rattle.client_state.specs.Following.{followed, spends};
 ghost use Rattle.client_state.specs.Sound.{max_size};
 ghost use Rattle.client_state.specs.Spelling.{spelling};
 ghost use Rattle.client_words.specs.Commands.{IsCommand};
@@ -15,6 +16,7 @@ ghost use Rattle.client_core.specs.Sessions.{changed_by};
 ghost use Rattle.client_core.specs.Steps.{Accepted, outcome, done};
 
 use crate::asked::Asked;
+use crate::bind::reading_bindings;
 use crate::client::Client;
 use crate::context::reading_context;
 use crate::faults::StepFault;
@@ -23,7 +25,7 @@ use crate::manifest::setting_manifest;
 use crate::prepared::Prepared;
 use crate::session::SessionChange;
 use change_outbox::AppendChangesFault;
-use client_state::{StateChange, follow};
+use client_state::StateChange;
 use client_words::{Answer, Command};
 use host_model::Shelf;
 use jexl_transforms::TransformTable;
@@ -58,7 +60,7 @@ impl Client {
         // A value that is answered of a feature has the feature's type.
         ensures typed { IfOk result (λ prepared. IsTyped (state_of self.old) (session_of self.old) command.now (answer_in prepared)) }
 
-        // `context` and `fetch` ask the shelf for their file, and for no other. `manifest` asks for its file first, or for none,
+        // `context`, `bind` and `fetch` ask the shelf for their file, and for no other. `manifest` asks for its file first, or for none,
         // and then for those that it includes or imports, of which nothing is said here. Each other command asks for none.
         ensures asked { HasAsked F.Shelf command.now shelf.old shelf.new }
         ensures unasked { names_file command.now ≡ false → shelf.new ≡ shelf.old }
@@ -72,9 +74,9 @@ impl Client {
     }
 
     // What a command asks for.
-    #[tactic(auto, using(crate::proofs::Asking::none_asked, crate::proofs::Asking::manifest_asked, crate::proofs::Asking::context_asked, crate::proofs::Asking::fetch_asked))]
+    #[tactic(auto, using(crate::proofs::Asking::none_asked, crate::proofs::Asking::manifest_asked, crate::proofs::Asking::context_asked, crate::proofs::Asking::fetch_asked, crate::proofs::Asking::bind_asked))]
     fn asked<F: Shelf>(
-        &self,
+        &mut self,
         alloc: Global,
         command: &Command,
         now: u64,
@@ -84,10 +86,11 @@ impl Client {
         requires command { IsCommand command.now }
         requires moment { now ≤ last_moment }
         requires table { HasStandardNames table.now }
-        ensures outcome { (IsTrue (names_file command.now) → F.tells) → IfOk result (λ asked. asked_outcome (state_of self.now) (session_of self.now) asked
-            ≡ outcome (setting F.Shelf shelf.old now) (state_of self.now) (session_of self.now) command.now) }
-        ensures follows { IfOk result (λ asked. FollowsFrom (state_of self.now) asked) }
-        ensures typed { IfOk result (λ asked. IsTyped (state_of self.now) (session_of self.now) command.now (answer_for asked)) }
+        ensures same { self.new ≡ self.old }
+        ensures outcome { (IsTrue (names_file command.now) → F.tells) → IfOk result (λ asked. asked_outcome (state_of self.old) (session_of self.old) asked
+            ≡ outcome (setting F.Shelf shelf.old now) (state_of self.old) (session_of self.old) command.now) }
+        ensures follows { IfOk result (λ asked. FollowsFrom (state_of self.old) asked) }
+        ensures typed { IfOk result (λ asked. IsTyped (state_of self.old) (session_of self.old) command.now (answer_for asked)) }
         ensures asked { HasAsked F.Shelf command.now shelf.old shelf.new }
         ensures unasked { names_file command.now ≡ false → shelf.new ≡ shelf.old }
         ensures shelf_fault { IsErrOf result StepFault.ShelfFault → IsTrue (names_file command.now) }
@@ -109,7 +112,13 @@ impl Client {
             Command::WriteManifest => Ok(self.writing_manifest(alloc)?),
             Command::Event { name, count } => Ok(self.counting(alloc, name, *count, now)?),
             Command::Changes => Ok(self.listing_changes(alloc)?),
-            Command::Confirm { number } => Ok(self.confirming(alloc, *number)?),
+            Command::Confirm { number } => Ok(self.confirming(*number)?),
+            Command::Bind { file } => reading_bindings(alloc, shelf, file),
+            Command::SetPreference { name, value } => {
+                Ok(self.preferring(alloc, name, Some(value))?)
+            }
+            Command::ClearPreference { name } => Ok(self.preferring(alloc, name, None)?),
+            Command::Preferences => Ok(self.listing_preferences()?),
         }
     }
 
@@ -124,6 +133,7 @@ impl Client {
     {
         match asked {
             Asked::NewState { change, answer } => self.changed(alloc, change, answer),
+            Asked::Followed { change, answer } => self.changed_to(alloc, &change, answer),
             Asked::SameState { change, answer } => Ok(self.unchanged(change, answer)),
             Asked::Refused(refusal) => Ok(self.unchanged(SessionChange::Stays, refusal)),
         }
@@ -136,19 +146,41 @@ impl Client {
         change: StateChange,
         answer: Answer,
     ) -> Result<Prepared, AllocError>
-        requires { IsChangeOf (state_of self.old) change }
+        requires change { IsChangeOf (state_of self.old) change }
+        requires preferences { change.preferences ≡ None }
         ensures same { IsSameClient self.old self.new }
         ensures made { IfOk result (λ prepared. IsMadeOn self.new prepared) }
         ensures step { IfOk result (λ prepared. Leads self.new prepared (done (state_of self.old) (session_of self.old) (changed_outcome (state_of self.old) (session_of self.old) change answer))) }
         ensures answer { IfOk result (λ prepared. IsAnswerOrRefused answer (answer_in prepared)) }
     {
-        match follow(alloc, self.state(), change) {
+        match self.followed(alloc, change) {
             Ok(change) => self.changed_to(alloc, &change, answer),
             Err(AppendChangesFault::ChangesSpent) => {
                 Ok(self.unchanged(SessionChange::Stays, Answer::ChangesSpent))
             }
             Err(AppendChangesFault::OutOfMemory) => Err(AllocError),
         }
+    }
+
+    // The change with what follows it, by the session's manifest and bindings. The state is lent to that, and stays the same.
+    pub(crate) fn followed(
+        &mut self,
+        alloc: Global,
+        change: StateChange,
+    ) -> Result<StateChange, AppendChangesFault>
+        requires change { IsChangeOf (state_of self.old) change }
+        requires preferences { change.preferences ≡ None }
+        ensures same { self.new ≡ self.old }
+        ensures followed { IfOk result (λ next. state_after next (state_of self.old)
+            ≡ followed (session_of self.old).manifest (session_of self.old).bindings change (state_of self.old)) }
+        ensures change { IfOk result (IsWholeChangeOf (state_of self.old)) }
+        ensures not_spent { IfOk result (λ _. spends change (state_of self.old) ≡ false) }
+        ensures spent { IsErrOf result AppendChangesFault.ChangesSpent → IsTrue (spends change (state_of self.old)) }
+    {
+        self.store.state();
+        let manifest = self.session.manifest();
+        let bindings = self.session.bindings();
+        self.store.follow(alloc, change, manifest, bindings)
     }
 
     // The step to the state after a change, unless it is too large.
@@ -158,7 +190,7 @@ impl Client {
         change: &StateChange,
         answer: Answer,
     ) -> Result<Prepared, AllocError>
-        requires { IsChangeOf (state_of self.old) change.now }
+        requires { IsWholeChangeOf (state_of self.old) change.now }
         ensures same { IsSameClient self.old self.new }
         ensures made { IfOk result (λ prepared. IsMadeOn self.new prepared) }
         ensures step { IfOk result (λ prepared. Leads self.new prepared (done (state_of self.old) (session_of self.old) (Accepted (state_after change.now (state_of self.old)) (session_of self.old) answer))) }

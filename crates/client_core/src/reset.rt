@@ -19,7 +19,7 @@ impl Client {
     /// What `reset` asks for.
     pub(crate) fn resetting(&self, alloc: Global, id: [u8; 16]) -> Result<Asked, AllocError>
         ensures asks { IfOk result (λ asked. asked_outcome (state_of self.now) (session_of self.now) asked
-            ≡ whole (state_of self.now) [] (resetting (state_of self.now).enrolment (session_of self.now) id)) }
+            ≡ whole (state_of self.now) (session_of self.now) [] (resetting (state_of self.now).enrolment (session_of self.now) id)) }
         ensures follows { IfOk result (λ asked. FollowsFrom (state_of self.now) asked) }
     {
         let next = reset(alloc, self.enrolment(), Uuid::from_bytes(id))?;

@@ -1,9 +1,11 @@
 // The session of a run.
-ghost use Rattle.std.specs.Prelude.{◌≡◌};
+ghost use Rattle.std.specs.Prelude.{◌≡◌, option_map};
 ghost use Rattle.client_core.specs.Sessions.{no_session, changed_by};
 
 use crate::linked_manifest::LinkedManifest;
 use app_context::Context;
+use fml_types::Manifest;
+use pref_bindings::Bindings;
 
 /// What a run keeps beside the client's state, from one command to the next. It begins and ends with the run.
 #[derive(Drop)]
@@ -12,6 +14,8 @@ pub struct Session {
     pub(crate) manifest: Option<LinkedManifest>,
     /// The context that was read last.
     pub(crate) context: Option<Context>,
+    /// The bindings of preferences that were read last.
+    pub(crate) bindings: Option<Bindings>,
 }
 
 /// What a step makes of the session.
@@ -23,6 +27,8 @@ pub(crate) enum SessionChange {
     Manifest(LinkedManifest),
     /// This context is set.
     Context(Context),
+    /// These bindings are set.
+    Bindings(Bindings),
 }
 
 impl Session {
@@ -33,7 +39,25 @@ impl Session {
         Session {
             manifest: None,
             context: None,
+            bindings: None,
         }
+    }
+
+    /// The manifest that was set last. It takes no memory.
+    pub(crate) fn manifest(&self) -> Option<&Manifest>
+        ensures { option_map (λ m. m.now) result ≡ self.now.manifest }
+    {
+        match &self.manifest {
+            Some(linked) => Some(linked.manifest()),
+            None => None,
+        }
+    }
+
+    /// The bindings that were read last. It takes no memory.
+    pub(crate) fn bindings(&self) -> Option<&Bindings>
+        ensures { option_map (λ b. b.now) result ≡ self.now.bindings }
+    {
+        self.bindings.as_ref()
     }
 
     /// Takes a change over.
@@ -44,6 +68,7 @@ impl Session {
             SessionChange::Stays => {}
             SessionChange::Manifest(manifest) => self.manifest = Some(manifest),
             SessionChange::Context(context) => self.context = Some(context),
+            SessionChange::Bindings(bindings) => self.bindings = Some(bindings),
         }
     }
 }

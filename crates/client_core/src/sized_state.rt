@@ -1,12 +1,18 @@
 // A state that may be stored, with the size of its spelling.
-ghost use Rattle.std.specs.Prelude.{◌≡◌, ◌≤◌, ◌+◌, IfOk, length};
+ghost use Rattle.std.specs.Prelude.{◌≡◌, ◌≤◌, ◌+◌, false, IfOk, IsErrOf, IsTrue, length, option_map};
 ghost use Rattle.row_batches.specs.Batch.{applied, batch_text, whole_of};
-ghost use Rattle.client_state.specs.Changes.{state_after, IsChangeOf};
+ghost use Rattle.client_state.specs.Changes.{state_after, HasHoldersOfBefore, IsChangeOf, IsWholeChangeOf};
+ghost use Rattle.client_state.specs.Following.{followed, spends};
 ghost use Rattle.client_state.specs.Sound.{IsSound};
 ghost use Rattle.client_state.specs.Spelling.{rows_of, spelling};
 ghost use Rattle.client_core.specs.Places.{row_changes};
 
-use client_state::{ClientSizes, ClientState, StateChange, changes_to, sizes_after, sizes_of};
+use change_outbox::AppendChangesFault;
+use client_state::{
+    ClientSizes, ClientState, StateChange, changes_to, follow, sizes_after, sizes_of,
+};
+use fml_types::Manifest;
+use pref_bindings::Bindings;
 use row_batches::Batch;
 use std::alloc::{AllocError, Global};
 use std::marker::Model;
@@ -60,9 +66,28 @@ impl SizedState {
         &self.state
     }
 
+    /// The change with what follows it. The state is lent to that, and stays the same.
+    pub(crate) fn follow(
+        &mut self,
+        alloc: Global,
+        change: StateChange,
+        manifest: Option<&Manifest>,
+        bindings: Option<&Bindings>,
+    ) -> Result<StateChange, AppendChangesFault>
+        requires change { IsChangeOf self.old change }
+        requires holders { HasHoldersOfBefore self.old change }
+        ensures same { self.new ≡ self.old }
+        ensures followed { IfOk result (λ next. state_after next self.old ≡ followed (option_map (λ m. m.now) manifest.entry) (option_map (λ b. b.now) bindings.entry) change self.old) }
+        ensures change { IfOk result (IsWholeChangeOf self.old) }
+        ensures not_spent { IfOk result (λ _. spends change self.old ≡ false) }
+        ensures spent { IsErrOf result AppendChangesFault.ChangesSpent → IsTrue (spends change self.old) }
+    {
+        follow(alloc, &mut self.state, change, manifest, bindings)
+    }
+
     /// The state after a change, or else how many bytes its spelling has, which are too many.
     pub(crate) fn next(&self, change: &StateChange) -> Result<Result<SizedState, u128>, AllocError>
-        requires { IsChangeOf self.now change.now }
+        requires { IsWholeChangeOf self.now change.now }
         ensures { IfOk result (λ next. IsSized (state_after change.now self.now) next) }
     {
         let sizes = sizes_after(self.sizes, &self.state, change);
@@ -80,7 +105,7 @@ impl SizedState {
         next: &SizedState,
         change: &StateChange,
     ) -> Result<Batch, AllocError>
-        requires change { IsChangeOf self.now change.now }
+        requires change { IsWholeChangeOf self.now change.now }
         requires next { next.now ≡ state_after change.now self.now }
         ensures sound { IsSound self.now × IsSound next.now }
         ensures changes { IfOk result (λ batch. batch ≡ row_changes self.now next.now) }

@@ -1,5 +1,5 @@
 // A state and the store that holds it.
-ghost use Rattle.std.specs.Prelude.{◌≡◌, IfOk, OnOk, OnErr};
+ghost use Rattle.std.specs.Prelude.{◌≡◌, false, IfOk, IsErrOf, IsTrue, OnOk, OnErr, option_map};
 ghost use Rattle.gate_journal.specs.Costs.{HasCost};
 ghost use Rattle.host_model.specs.Causes.{HasCause};
 ghost use Rattle.host_model.specs.Hosts.{MeetsAll};
@@ -8,14 +8,18 @@ ghost use Rattle.row_store.specs.Moments.{KeepsEitherRows};
 ghost use Rattle.row_store.specs.Ready.{commit_cost, place_after};
 ghost use Rattle.row_store.specs.Store.{RowsStand, RowsStandWithGate, place};
 ghost use Rattle.client_state.specs.Changes as changes;
-ghost use Rattle.client_state.specs.Changes.{state_after};
+ghost use Rattle.client_state.specs.Changes.{state_after, HasHoldersOfBefore, IsWholeChangeOf};
+ghost use Rattle.client_state.specs.Following.{followed, spends};
 ghost use Rattle.client_state.specs.Spelling.{rows_of};
 ghost use Rattle.client_core.specs.Sized.{IsSized};
 
 use crate::prepared::Change;
 use crate::sized_state::SizedState;
+use change_outbox::AppendChangesFault;
 use client_state::{ClientState, StateChange};
+use fml_types::Manifest;
 use host_model::{DiskFailed, Host};
+use pref_bindings::Bindings;
 use row_store::RowStore;
 use std::alloc::{AllocError, Global};
 use std::marker::Model;
@@ -64,9 +68,28 @@ impl StateStore {
         self.state.state()
     }
 
+    /// The change with what follows it. The state is lent to that, and stays the same.
+    pub(crate) fn follow(
+        &mut self,
+        alloc: Global,
+        change: StateChange,
+        manifest: Option<&Manifest>,
+        bindings: Option<&Bindings>,
+    ) -> Result<StateChange, AppendChangesFault>
+        requires change { changes.IsChangeOf self.old.state change }
+        requires holders { HasHoldersOfBefore self.old.state change }
+        ensures same { self.new ≡ self.old }
+        ensures followed { IfOk result (λ next. state_after next self.old.state ≡ followed (option_map (λ m. m.now) manifest.entry) (option_map (λ b. b.now) bindings.entry) change self.old.state) }
+        ensures change { IfOk result (IsWholeChangeOf self.old.state) }
+        ensures not_spent { IfOk result (λ _. spends change self.old.state ≡ false) }
+        ensures spent { IsErrOf result AppendChangesFault.ChangesSpent → IsTrue (spends change self.old.state) }
+    {
+        self.state.follow(alloc, change, manifest, bindings)
+    }
+
     /// The state after a change, or else how many bytes its spelling has, which are too many.
     pub(crate) fn sized(&self, change: &StateChange) -> Result<Result<SizedState, u128>, AllocError>
-        requires { changes.IsChangeOf self.now.state change.now }
+        requires { IsWholeChangeOf self.now.state change.now }
         ensures { IfOk result (λ next. IsSized (state_after change.now self.now.state) next) }
     {
         self.state.next(change)
@@ -80,7 +103,7 @@ impl StateStore {
         next: SizedState,
         change: &StateChange,
     ) -> Result<Option<Change>, AllocError>
-        requires change { changes.IsChangeOf self.old.state change.now }
+        requires change { IsWholeChangeOf self.old.state change.now }
         requires next { next ≡ state_after change.now self.old.state }
         ensures same { IsSameStored self.old self.new }
         ensures change { IfOk result (λ change. IsChange self.new change) }

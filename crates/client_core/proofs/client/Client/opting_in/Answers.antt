@@ -15,7 +15,7 @@ returns-in-Ok-clause-asks c =
     let s = client.store.state in
     let found = subst (λ (e : State). OptsIn e c.args.slug.now c.args.branch.now (Ok c.in-Ok.next)) c.enrolment.ensures.enrolment c.in-Ok.ensures.answer in
     ap (asked_outcome s client.session) c.enrolled.ensures
-    ∙ ap (enrolling s) (taken_in s.enrolment client.session c.args.slug.now c.args.branch.now found.0 found.1 c.in-Ok.next found.2 found.3)
+    ∙ ap (enrolling s client.session) (taken_in s.enrolment client.session c.args.slug.now c.args.branch.now found.0 found.1 c.in-Ok.next found.2 found.3)
 
 pub returns-in-Err-FeatureTaken-clause-asks : goal.returns-in-Err-FeatureTaken-clause-asks
 returns-in-Err-FeatureTaken-clause-asks c =
@@ -25,5 +25,5 @@ returns-in-Err-FeatureTaken-clause-asks c =
     let branch = c.args.branch.now in
     let here = subst (λ (fault : OptInFault). OptsIn c.enrolment.result.now slug branch (Err fault)) c.in-Err-FeatureTaken.field-0-is c.in-Err-FeatureTaken.ensures.answer in
     let found = subst (λ (e : State). OptsIn e slug branch (Err (FeatureTaken c.in-Err-FeatureTaken.holder c.in-Err-FeatureTaken.feature))) c.enrolment.ensures.enrolment here in
-    ap (enrolling s) (refused_for s.enrolment client.session slug branch found.0 found.1 c.in-Err-FeatureTaken.holder c.in-Err-FeatureTaken.feature
+    ap (enrolling s client.session) (refused_for s.enrolment client.session slug branch found.0 found.1 c.in-Err-FeatureTaken.holder c.in-Err-FeatureTaken.feature
     c.enrolment.ensures.consistent.enrolment.row_order found.2)

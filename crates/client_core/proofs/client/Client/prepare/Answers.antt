@@ -1,9 +1,10 @@
 -- The step of what is asked for is that of the command.
-use Rattle.std.proofs.Common.{subst}
+use Rattle.std.proofs.Common.{ap, ◌∙◌, subst}
+use Rattle.client_core.specs.declared.client.Client.{Client}
 use Rattle.client_core.specs.Asked.{asked_outcome}
 use Rattle.client_core.specs.Prepared.{Leads}
 use Rattle.client_core.specs.Settings.{setting}
-use Rattle.client_core.specs.Steps.{Step}
+use Rattle.client_core.specs.Steps.{Step, done}
 use Rattle.client_core.proofs.Stepping.{step-of}
 use Rattle.client_core.proofs.client.Client.prepare.Goals as goal
 
@@ -11,5 +12,7 @@ pub returns-clause-step : goal.returns-clause-step
 returns-clause-step g c named =
     let s = c.args.self.now.store.state in
     let session = c.args.self.now.session in
+    let asked = c.in_ok-asked.asked in
     subst (λ (to : Step). Leads c.done.new.self c.in_ok-done.field-0 to)
-    (step-of (setting g.F.Shelf c.args.shelf.now c.args.now) s session c.args.command.now (asked_outcome s session c.in_ok-asked.asked) (c.in_ok-asked.ensures.outcome named)) c.in_ok-done.ensures.step
+    (ap (λ (x : Client). done x.store.state x.session (asked_outcome x.store.state x.session asked)) c.asked.ensures.same
+    ∙ step-of (setting g.F.Shelf c.args.shelf.now c.args.now) s session c.args.command.now (asked_outcome s session asked) (c.in_ok-asked.ensures.outcome named)) c.in_ok-done.ensures.step

@@ -1,0 +1,67 @@
+// `set-pref` and `clear-pref`: the user sets the value of a preference, or takes it away.
+ghost use Rattle.std.specs.Prelude.{◌≡◌, ⊤, IfOk, IsErrOf, IsTrue, MatchOption, None, option_map};
+ghost use Rattle.plain_text.specs.Names.{is_name};
+ghost use Rattle.pref_bindings.specs.Preferences.{IsValue, holder_of};
+ghost use Rattle.client_state.specs.Changes.{IsWholeChangeOf, state_after};
+ghost use Rattle.client_words.specs.declared.answer.Answer.TheVariants.{Okay, ChangesSpent};
+ghost use Rattle.client_core.specs.Asked.{asked_outcome, FollowsFrom};
+ghost use Rattle.client_core.specs.Steps.{Accepted, Refused, preferring, releasing};
+
+use crate::asked::Asked;
+use crate::client::Client;
+use change_outbox::AppendChangesFault;
+use client_state::{StateChange, end_enrolment, set_preference};
+use client_words::Answer;
+use json_tree::Tree;
+use sequences::Text;
+use state_codec::RecipeLists;
+use std::alloc::{AllocError, Global};
+
+impl Client {
+    ghost use Rattle.client_core.specs.Clients.{state_of, session_of};
+
+    /// What `set-pref`, with a value, or `clear-pref` asks for. Where a slug holds the preference, its enrolment ends first.
+    pub(crate) fn preferring(
+        &mut self,
+        alloc: Global,
+        name: &Text,
+        value: Option<&Tree>,
+    ) -> Result<Asked, AllocError>
+        requires name { IsTrue (is_name name.now) }
+        requires value { MatchOption value ⊤ (λ v. IsValue v.now) }
+        ensures same { self.new ≡ self.old }
+        ensures asks { IfOk result (λ asked. asked_outcome (state_of self.old) (session_of self.old) asked
+            ≡ preferring (state_of self.old) (session_of self.old) name.now (option_map (λ v. v.now) value.entry)) }
+        ensures follows { IfOk result (λ asked. FollowsFrom (state_of self.old) asked) }
+    {
+        match self.released(alloc, name) {
+            Ok(change) => {
+                let change = set_preference(self.state(), change, name, value)?;
+                Ok(Asked::Followed {
+                    change,
+                    answer: Answer::Okay,
+                })
+            }
+            Err(AppendChangesFault::ChangesSpent) => Ok(Asked::Refused(Answer::ChangesSpent)),
+            Err(AppendChangesFault::OutOfMemory) => Err(AllocError),
+        }
+    }
+
+    // The change after which nobody holds the preference, with all that follows it.
+    fn released(&mut self, alloc: Global, name: &Text) -> Result<StateChange, AppendChangesFault>
+        ensures same { self.new ≡ self.old }
+        ensures released { IfOk result (λ change. Accepted (state_after change (state_of self.old)) (session_of self.old) Okay
+            ≡ releasing (state_of self.old) (session_of self.old) (holder_of name.now (state_of self.old).preferences)) }
+        ensures change { IfOk result (IsWholeChangeOf (state_of self.old)) }
+        ensures free { IfOk result (λ change. holder_of name.now (state_after change (state_of self.old)).preferences ≡ None) }
+        ensures spent { IsErrOf result AppendChangesFault.ChangesSpent
+            → releasing (state_of self.old) (session_of self.old) (holder_of name.now (state_of self.old).preferences) ≡ Refused ChangesSpent }
+    {
+        let Some(holder) = self.prefs().holder(name.as_str()) else {
+            return Ok(StateChange::none());
+        };
+        let enrolment = end_enrolment(alloc, self.enrolment(), holder)?;
+        let change = StateChange::of_enrolment(enrolment, RecipeLists::AsBefore);
+        self.followed(alloc, change)
+    }
+}
