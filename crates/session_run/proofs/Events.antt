@@ -46,6 +46,10 @@ counts_noted now (commands.Feature name) es = refl
 counts_noted now commands.WriteManifest es = refl
 counts_noted now commands.Changes es = refl
 counts_noted now (commands.Confirm number) es = refl
+counts_noted now (commands.Bind file) es = refl
+counts_noted now (commands.SetPreference name value) es = refl
+counts_noted now (commands.ClearPreference name) es = refl
+counts_noted now commands.Preferences es = refl
 
 -- one that is not done makes nothing of them
 counts_stay : (now : ℕ) (command : Command) (ns : List NameCounts) → counts_then now command false ns ≡ ns
@@ -63,6 +67,10 @@ counts_stay now (commands.Feature name) ns = refl
 counts_stay now commands.WriteManifest ns = refl
 counts_stay now commands.Changes ns = refl
 counts_stay now (commands.Confirm number) ns = refl
+counts_stay now (commands.Bind file) ns = refl
+counts_stay now (commands.SetPreference name value) ns = refl
+counts_stay now (commands.ClearPreference name) ns = refl
+counts_stay now commands.Preferences ns = refl
 
 -- ---- a line
 

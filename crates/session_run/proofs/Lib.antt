@@ -9,6 +9,7 @@ mod DrillScripts
 mod Drilling
 mod Ending
 mod Events
+mod HeldPreferences
 mod Judging
 mod Lining
 mod Linking
@@ -20,6 +21,7 @@ mod OptOuts
 mod Outboxes
 mod Outcomes
 mod Placing
+mod Preferences
 mod Running
 mod SoundRuns
 mod SpelledStores

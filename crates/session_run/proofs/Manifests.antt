@@ -4,6 +4,7 @@ use Rattle.std.specs.Prelude.{nat_le, nat_lt, slice_get, if◌then◌else◌}
 use Rattle.std.proofs.lemmas.List.{take_more}
 use Rattle.std.proofs.lemmas.Option.{slice_get-get_or}
 use Rattle.json_tree.specs.Json.{Json}
+use Rattle.json_tree.specs.declared.tree.Tree.{Tree}
 use Rattle.recipe_reader.specs.Payloads.{payload_of, recipe_with}
 use Rattle.recipe_reader.specs.declared.payload.Payload.{Payload}
 use Rattle.recipe_reader.specs.declared.payload.PayloadFault.{PayloadFault}
@@ -21,8 +22,11 @@ use Rattle.enrol_states.specs.declared.state.State.{State}
 use Rattle.change_outbox.specs.Contents.{confirmed}
 use Rattle.event_counts.specs.Kept.{counted_in}
 use Rattle.event_counts.specs.declared.name_counts.NameCounts.{NameCounts}
+use Rattle.pref_bindings.specs.Bindings.{bindings_of}
+use Rattle.pref_bindings.specs.Preferences.{holder_of}
+use Rattle.pref_bindings.specs.declared.bindings.Binding.{Binding}
 use Rattle.client_state.specs.declared.client_state.ClientState.{ClientState}
-use Rattle.client_state.specs.Following.{is_spent}
+use Rattle.client_state.specs.Following.{enrolment_ended, is_spent}
 use Rattle.client_state.specs.Sound.{max_size}
 use Rattle.client_state.specs.Spelling.{spelling}
 use Rattle.fml_types.specs.declared.manifest.Manifest.{Manifest}
@@ -31,7 +35,7 @@ use Rattle.feature_serving.specs.Serving.{served}
 use Rattle.client_words.specs.declared.answer.Answer.{Answer}
 use Rattle.client_words.specs.declared.answer.Answer.TheVariants.{Okay, OptedOutLimit, NotParticipating, NoSuchBranch, EventLimit, NoSuchChange, ChangesSpent, StateTooLarge}
 use Rattle.client_words.specs.declared.command.Command.{Command}
-use Rattle.client_words.specs.declared.command.Command.TheVariants.{Fetch, Apply, Participate, OptOut, OptIn, Reset, Show, Feature, Event, Confirm, WriteManifest}
+use Rattle.client_words.specs.declared.command.Command.TheVariants.{Fetch, Apply, Participate, OptOut, OptIn, Reset, Show, Feature, Event, Confirm, Bind, SetPreference, ClearPreference, WriteManifest}
 use Rattle.client_words.specs.declared.command.Command.TheVariants as commands
 use Rattle.client_core.specs.declared.session.Session.{Session}
 use Rattle.client_core.specs.Choosing.{first_taker}
@@ -39,7 +43,7 @@ use Rattle.client_core.specs.Fetching.{file_tree}
 use Rattle.client_core.specs.Manifests.{manifest_of}
 use Rattle.client_core.specs.Sessions.{with_manifest}
 use Rattle.client_core.specs.Settings.{Setting}
-use Rattle.client_core.specs.Steps.{OutcomeOver, EnrolmentOutcome, Outcome, Accepted, Refused, Step, with_enrolment, whole, enrolling, seeing, has_no_room_for, counting, confirming, participation, opting_out, taking, offering, choosing, opting_in, resetting, showing, listing_changes, fetched, fetching, context_read, reading_context, setting_manifest, applying, valued, serving, writing_manifest, done, step}
+use Rattle.client_core.specs.Steps.{OutcomeOver, EnrolmentOutcome, Outcome, Accepted, Refused, Step, with_enrolment, whole, enrolling, seeing, has_no_room_for, counting, confirming, participation, opting_out, taking, offering, choosing, opting_in, resetting, showing, listing_changes, listing_preferences, fetched, fetching, context_read, reading_context, bindings_read, reading_bindings, releasing, valued_by_user, preferring, setting_manifest, applying, valued, serving, writing_manifest, done, step}
 use Rattle.client_words.specs.declared.line.LineFault.{LineFault}
 use Rattle.client_words.specs.Commands.{command_of}
 use Rattle.session_run.specs.Steps.{RunState, run_after, effect, run_at}
@@ -90,13 +94,13 @@ module _ (at : Setting) (s : ClientState) (session : Session) where
   spent-keeps t next answer true keeps = tt
   spent-keeps t next answer false keeps = keeps
 
-  whole-keeps : (counts : List NameCounts) (asked : EnrolmentOutcome) → Keeps asked → Keeps (whole s counts asked)
-  whole-keeps counts (Accepted e next answer) keeps = spent-keeps (with_enrolment s e counts) next answer (is_spent s.enrolment e s.outbox) keeps
+  whole-keeps : (counts : List NameCounts) (asked : EnrolmentOutcome) → Keeps asked → Keeps (whole s session counts asked)
+  whole-keeps counts (Accepted e next answer) keeps = spent-keeps (with_enrolment session s e counts) next answer (is_spent s.enrolment e s.outbox) keeps
   whole-keeps counts (Refused answer) keeps = tt
 
   -- where the counts stay
-  enrolling-keeps : (asked : EnrolmentOutcome) → Keeps asked → (done s session (enrolling s asked)).session.manifest ≡ session.manifest
-  enrolling-keeps asked keeps = done-keeps (enrolling s asked) (whole-keeps s.events asked keeps)
+  enrolling-keeps : (asked : EnrolmentOutcome) → Keeps asked → (done s session (enrolling s session asked)).session.manifest ≡ session.manifest
+  enrolling-keeps asked keeps = done-keeps (enrolling s session asked) (whole-keeps s.events asked keeps)
 
   context-keeps : (read : Result Context ContextKey) → Keeps (context_read s session read)
   context-keeps (Ok context) = refl
@@ -105,6 +109,25 @@ module _ (at : Setting) (s : ClientState) (session : Session) where
   file-keeps : (read : Result Json Answer) → Keeps (reading_context s session read)
   file-keeps (Ok tree) = context-keeps (context_of tree)
   file-keeps (Err refusal) = tt
+
+  bindings-keep : (read : Result (List Binding) (List ℕ)) → Keeps (bindings_read s session read)
+  bindings-keep (Ok bindings) = refl
+  bindings-keep (Err feature) = tt
+
+  bind-keeps : (read : Result Json Answer) → Keeps (reading_bindings s session read)
+  bind-keeps (Ok tree) = bindings-keep (bindings_of tree)
+  bind-keeps (Err refusal) = tt
+
+  release-keeps : (holder : Option (List ℕ)) → Keeps (releasing s session holder)
+  release-keeps None = refl
+  release-keeps (Some holder) = whole-keeps s.events (Accepted (enrolment_ended holder s.enrolment) session Okay) refl
+
+  value-set-keeps : (name : List ℕ) (value : Option Tree) (asked : Outcome) → Keeps asked → Keeps (valued_by_user name value asked)
+  value-set-keeps name value (Accepted t next answer) keeps = keeps
+  value-set-keeps name value (Refused answer) keeps = tt
+
+  preferring-keeps : (name : List ℕ) (value : Option Tree) → Keeps (preferring s session name value)
+  preferring-keeps name value = value-set-keeps name value (releasing s session (holder_of name s.preferences)) (release-keeps (holder_of name s.preferences))
 
   payload-keeps : (read : Result Payload PayloadFault) → Keeps (fetched s.enrolment session read)
   payload-keeps (Ok found) = refl
@@ -209,12 +232,16 @@ module _ (at : Setting) (s : ClientState) (session : Session) where
   sets_or_stays (Participate part on) m is = stays (Participate part on) m (λ f c e. cc) (enrolling-keeps (participation s.enrolment session part on) refl) is
   sets_or_stays (OptOut slug) m is = stays (OptOut slug) m (λ f c e. cc) (enrolling-keeps (opting_out s.enrolment session slug) (out-keeps slug (has_no_room s.enrolment.opted_out slug))) is
   sets_or_stays (OptIn slug branch) m is = stays (OptIn slug branch) m (λ f c e. cc) (enrolling-keeps (opting_in s.enrolment session slug branch) (choosing-keeps slug branch (recipe_with slug s.enrolment.live))) is
-  sets_or_stays (Reset id) m is = stays (Reset id) m (λ f c e. cc) (done-keeps (whole s [] (resetting s.enrolment session id)) (whole-keeps [] (resetting s.enrolment session id) refl)) is
+  sets_or_stays (Reset id) m is = stays (Reset id) m (λ f c e. cc) (done-keeps (whole s session [] (resetting s.enrolment session id)) (whole-keeps [] (resetting s.enrolment session id) refl)) is
   sets_or_stays Show m is = stays Show m (λ f c e. cc) (done-keeps (showing s session) refl) is
   sets_or_stays (Feature name) m is = stays (Feature name) m (λ f c e. cc) (done-keeps (serving s session name session.manifest) (feature-keeps name session.manifest)) is
   sets_or_stays (Event name count) m is = stays (Event name count) m (λ f c e. cc) (done-keeps (counting at.now s session name count) (count-keeps name count (has_no_room_for name s.events))) is
   sets_or_stays commands.Changes m is = stays commands.Changes m (λ f c e. cc) (done-keeps (listing_changes s session) refl) is
   sets_or_stays (Confirm number) m is = stays (Confirm number) m (λ f c e. cc) (done-keeps (confirming s session number) (confirm-keeps number (nat_le s.outbox.next number))) is
+  sets_or_stays (Bind file) m is = stays (Bind file) m (λ f c e. cc) (done-keeps (reading_bindings s session (file_tree file (at.files file))) (bind-keeps (file_tree file (at.files file)))) is
+  sets_or_stays (SetPreference name value) m is = stays (SetPreference name value) m (λ f c e. cc) (done-keeps (preferring s session name (Some value)) (preferring-keeps name (Some value))) is
+  sets_or_stays (ClearPreference name) m is = stays (ClearPreference name) m (λ f c e. cc) (done-keeps (preferring s session name None) (preferring-keeps name None)) is
+  sets_or_stays commands.Preferences m is = stays commands.Preferences m (λ f c e. cc) (done-keeps (listing_preferences s session) refl) is
   sets_or_stays WriteManifest m is = stays WriteManifest m (λ f c e. cc) (done-keeps (writing_manifest s session session.manifest) (written-keeps session.manifest)) is
 
 -- ---- one line

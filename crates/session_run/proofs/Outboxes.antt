@@ -41,7 +41,7 @@ none_of : (rows : List Row) (slugs : List (List ℕ)) → flat_map (λ slug. slu
 none_of rows [] = refl
 none_of rows (slug ∷ slugs) = ap₂ (λ (x y : List Change). x ++ y) (same_branch slug (branch_of slug rows)) (none_of rows slugs)
 
-none_between : (rows : List Row) → changes_between rows rows ≡ []
+pub none_between : (rows : List Row) → changes_between rows rows ≡ []
 unfolding changes_between
 none_between rows = none_of rows (all_slugs rows rows)
 

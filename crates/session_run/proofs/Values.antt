@@ -7,16 +7,17 @@ use Rattle.json_tree.specs.Tree.{json_of}
 use Rattle.json_tree.specs.declared.tree.Tree.{Tree}
 use Rattle.enrol_states.specs.Statuses.{last_moment}
 use Rattle.change_outbox.specs.declared.change.Change.{Change}
+use Rattle.pref_bindings.specs.declared.preference.Preference.{Preference}
 use Rattle.client_state.specs.Sound.{IsSound}
 use Rattle.client_words.specs.declared.answer.Answer.{Answer}
-use Rattle.client_words.specs.declared.answer.Answer.TheVariants.{Okay, Fetched, Applied, Value, Shown, Manifest, Changes}
+use Rattle.client_words.specs.declared.answer.Answer.TheVariants.{Okay, Fetched, Applied, Value, Shown, Manifest, Changes, Preferences}
 use Rattle.client_words.specs.declared.command.Command.{Command}
 use Rattle.client_core.specs.Settings.{Setting}
 use Rattle.client_core.specs.Steps.{step}
 use Rattle.client_core.proofs.ServedValues.{values_have_types}
 use Rattle.client_words.specs.declared.line.LineFault.{LineFault}
 use Rattle.client_words.specs.declared.line.LineFault.TheVariants.{Blank, OutOfMemory}
-use Rattle.client_words.specs.Answers.{answer_lines, change_line, changes_lines, fetched_lines, shown_lines}
+use Rattle.client_words.specs.Answers.{answer_lines, change_line, changes_lines, fetched_lines, preference_line, preferences_lines, shown_lines}
 use Rattle.client_words.specs.Commands.{command_of}
 use Rattle.session_run.specs.Runs.{ServesValues}
 use Rattle.session_run.specs.Starts.{Start}
@@ -49,6 +50,12 @@ unfolding changes_lines change_line
 changes_apart [] text is = apart 101 (omega arith) (ap first is)
 changes_apart (change ∷ changes) text is = apart 99 (omega arith) (ap first is)
 
+-- preferences begin with `p`, and where there are none with `e`
+preferences_apart : {P : Type 0} (preferences : List Preference) (text : List ℕ) → preferences_lines preferences ≡ value_line text → P
+unfolding preferences_lines preference_line
+preferences_apart [] text is = apart 101 (omega arith) (ap first is)
+preferences_apart (preference ∷ preferences) text is = apart 112 (omega arith) (ap first is)
+
 -- no other answer begins with `v`
 value_in : (answer : Answer) (text : List ℕ) → answer_lines answer ≡ value_line text → IsValue answer text
 unfolding answer_lines fetched_lines shown_lines
@@ -59,6 +66,7 @@ value_in (Applied enrolled rows) text is = apart 97 (omega arith) (ap first is)
 value_in (Shown id experiments rollouts pending opted_out rows) text is = apart 105 (omega arith) (ap first is)
 value_in (Manifest tree) text is = apart 109 (omega arith) (ap first is)
 value_in (Changes changes) text is = changes_apart changes text is
+value_in (Preferences preferences) text is = preferences_apart preferences text is
 value_in refusal text is = apart 114 (omega arith) (ap first is)
 
 -- the line has a command that is answered a value

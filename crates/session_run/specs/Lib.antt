@@ -14,6 +14,7 @@ pub mod Moments
 pub mod OptOuts
 pub mod OutboxChains
 pub mod Places
+pub mod PreferenceChains
 pub mod Runs
 pub mod Starts
 pub mod Statuses

@@ -9,6 +9,7 @@ ghost use Rattle.session_run.specs.Chains.{Link, IsChain, EndsKept, folded, Mome
 ghost use Rattle.session_run.specs.EventChains.{EventsAreKept};
 ghost use Rattle.session_run.specs.OptOuts.{IsHeldOut, IsOut};
 ghost use Rattle.session_run.specs.OutboxChains.{OutboxIsKept};
+ghost use Rattle.session_run.specs.PreferenceChains.{AreTheUsers, HeldAreSetByJoins, HoldersTakePart, UserMapIsKept};
 ghost use Rattle.session_run.specs.Runs.{ServesValues};
 ghost use Rattle.session_run.specs.Starts.{Start};
 ghost use Rattle.session_run.specs.Steps.{after};
@@ -43,6 +44,17 @@ pub fn event_chain()
 /// confirmed, under one number, and none is told of a line that a crash undid.
 pub fn outbox_chain()
     ensures { OutboxIsKept }
+{}
+
+/// After any runs and crashes, from a store without preferences, the preferences of the store are what the user set and took
+/// away, by each `set-pref` and `clear-pref` that was answered `ok`, but for those that recipes hold. Such a one has the value
+/// that its holder's join set, and keeps the user's, which a leave brings back. The client takes part in each holder's recipe.
+/// So where it takes part in none, the preferences are the user's.
+pub fn pref_chain()
+    ensures user_map { UserMapIsKept }
+    ensures held { HeldAreSetByJoins }
+    ensures holders { HoldersTakePart }
+    ensures users { AreTheUsers }
 {}
 
 /// From a sound state each line of a run leaves a sound state.
