@@ -34,6 +34,10 @@ commands of `nimbus run`:
   event NAME COUNT       counts that the user did this so many times, from 1 to 1000000, for targeting
   changes                prints each join and leave of a branch that isn't confirmed, with its number
   confirm NUMBER         confirms the changes up to this one
+  bind FILE              takes the bindings of this file: which preference each variable of a feature sets
+  set-pref NAME VALUE    sets the user's value of a preference, and ends the enrolment that holds it
+  clear-pref NAME        takes the user's value of a preference away, and ends the enrolment that holds it
+  prefs                  prints each preference that has a value
   feature NAME           prints the value that the feature has
   show                   prints the state
   write-manifest         prints the manifest as one file

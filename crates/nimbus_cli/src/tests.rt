@@ -22,7 +22,11 @@ const FORMS: &str = "nimbus init ID\n\
     write-manifest\n\
     event NAME COUNT\n\
     changes\n\
-    confirm NUMBER";
+    confirm NUMBER\n\
+    bind FILE\n\
+    set-pref NAME VALUE\n\
+    clear-pref NAME\n\
+    prefs";
 
 // A line of the text begins with this.
 fn has_line(text: &str, front: &str) -> bool {
