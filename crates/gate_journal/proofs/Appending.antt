@@ -12,9 +12,10 @@ use Rattle.gate_journal.specs.declared.format.TheConstants.{SIDE_END}
 use Rattle.gate_journal.specs.Frame.{payload_in}
 use Rattle.gate_journal.specs.Journal.{Stands, StandsWithGate, IsBeforeOrAfter}
 use Rattle.gate_journal.specs.OpenSide.{OpenSide}
-use Rattle.gate_journal.specs.Records.{framed, records, header, opened, place_of, IsClosed, IsOpen, IsKept}
+use Rattle.gate_journal.specs.Records.{framed, recorded, records, header, opened, place_of, IsClosed, IsOpen, IsKept}
 use Rattle.gate_journal.proofs.Standing.{kept_of_stands}
 use Rattle.gate_journal.proofs.Gates.{torn_behind, torn_gate, written_gate, written_behind, Staged}
+use Rattle.gate_journal.proofs.Writes.{written_twice}
 
 pub length-framed : (payload : List ℕ) → length (framed payload) ≡ length payload + 4
 unfolding framed
@@ -147,3 +148,16 @@ appended h journal now seen start mid new payloads next written end end_is fits_
     let done = kept_done journal.generation payloads next journal.place stands.place stands.side.known fits (h.reads mid side) (h.reads new side) stage is_new in
     let place : end ≡ place_of (payloads ++ next ∷ []) = omega (arith, end_is, same, stands.place, place_of-push payloads next) in
     record { stands = record { side = done.side; place = place; only = only }; gate = omega (arith, done.gate, place) }
+
+-- and the bytes of the side then
+pub appended_bytes : {H : Type 0} (h : Ghosts H) (journal now : OpenSide) → journal ≡ now → (start mid new : H) (payloads : List (List ℕ)) (next written : List ℕ)
+    → Stands h now start payloads → written ≡ framed next ++ 0 ∷ [] → h.reads mid journal.side ≡ overwritten (h.reads start journal.side) (journal.place + 1) written
+    → h.reads new journal.side ≡ overwritten (h.reads mid journal.side) journal.place (1 ∷ [])
+    → h.reads new now.side ≡ overwritten (h.reads start now.side) now.place (recorded next)
+appended_bytes h journal now seen start mid new payloads next written stands_now framed_is is is_new =
+    let stands = subst (λ (j : OpenSide). Stands h j start payloads) (sym seen) stands_now in
+    let old = h.reads start journal.side in
+    let within : journal.place ≤ length old =
+    omega (arith, stands.place, ap length stands.side.bytes, length-append (opened journal.generation payloads) stands.side.rest, length-opened journal.generation payloads) in
+    subst (λ (j : OpenSide). h.reads new j.side ≡ overwritten (h.reads start j.side) j.place (recorded next)) seen
+    (is_new ∙ ap (λ (l : List ℕ). overwritten l journal.place (1 ∷ [])) is ∙ written_twice old journal.place 1 written within ∙ ap (λ (l : List ℕ). overwritten old journal.place (1 ∷ l)) framed_is)

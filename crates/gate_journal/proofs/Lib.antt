@@ -3,6 +3,8 @@ mod Appending
 mod Fronts
 mod Gates
 mod Making
+pub mod Opening
 pub mod Ranges
 pub mod Standing
 pub mod Unique
+mod Writes

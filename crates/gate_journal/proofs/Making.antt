@@ -1,7 +1,7 @@
 -- A header and a record behind a shut first byte, and then that byte is opened.
-use Rattle.std.proofs.Common.{◌≡◌, ◌≢◌, inl, inr, ℕ, ◌+◌, ◌<◌, ◌≤◌, List, [], ◌∷◌, ◌++◌, length, get_or, refl, sym, ◌∙◌, ap, subst, arith, append_assoc, length-append}
+use Rattle.std.proofs.Common.{◌≡◌, ◌≢◌, inl, inr, ℕ, ◌+◌, ◌<◌, ◌≤◌, List, [], ◌∷◌, ◌++◌, length, drop, get_or, refl, sym, ◌∙◌, ap, subst, arith, append_assoc, length-append}
 use Rattle.std.proofs.lemmas.Bool.{cases_eq}
-use Rattle.std.proofs.lemmas.List.{append-nil}
+use Rattle.std.proofs.lemmas.List.{append-nil, drop_at}
 use Rattle.host_model.specs.declared.host.Host.{Ghosts}
 use Rattle.host_model.specs.declared.side.Side.{Side}
 use Rattle.host_model.specs.Hosts.{IsDurable, KeepsAll, MeetsAll, NowOf, OnSideOf}
@@ -11,9 +11,10 @@ use Rattle.host_model.specs.Sides.{other}
 use Rattle.host_model.proofs.Meeting.{started, goes_on, then_met, met_at_start, met_on_side, on_side_from}
 use Rattle.gate_journal.specs.declared.format.TheConstants.{SIDE_END}
 use Rattle.gate_journal.specs.Journal.{IsShutOn, IsShutOrHas}
-use Rattle.gate_journal.specs.Records.{framed, header, place_of, IsKept, IsShut}
+use Rattle.gate_journal.specs.Records.{framed, header, made_on, place_of, IsKept, IsShut}
 use Rattle.gate_journal.proofs.Gates.{torn_gate, written_gate, written_after, shut_after}
 use Rattle.gate_journal.proofs.Appending.{length-framed, is_kept}
+use Rattle.gate_journal.proofs.Writes.{behind_write}
 
 module _ (generation : ℕ) (payload : List ℕ) (known : generation ≤ 2) (fits : length payload + 15 ≤ SIDE_END) where
   -- a whole journal behind a first byte that is not open
@@ -56,6 +57,25 @@ module _ (generation : ℕ) (payload : List ℕ) (known : generation ≤ 2) (fit
   pub made_done : (mid new : List ℕ) → IsMade mid → new ≡ overwritten mid 0 (1 ∷ []) → IsKept generation (payload ∷ []) new
   made_done mid new stage is =
       made_kept stage.tail new (is ∙ ap (λ (d : List ℕ). overwritten d 0 (1 ∷ [])) stage.bytes ∙ written_gate [] 0 refl stage.first 1 _)
+
+  -- the bytes of the side then
+  pub made_bytes : (old mid late new written : List ℕ) → IsShut old → mid ≡ overwritten old 1 (header generation ++ 1 ∷ []) → written ≡ framed payload ++ 0 ∷ [] → late ≡ overwritten mid 10 written
+      → new ≡ overwritten late 0 (1 ∷ []) → new ≡ made_on generation payload old
+  made_bytes old mid late new written shut is framed_is is_late is_new =
+      let stage = made old mid late written shut is framed_is is_late in
+      let n = length payload + 15 in
+      let size : length written ≡ length payload + 5 = omega (arith, ap length framed_is, length-append (framed payload) (0 ∷ []), length-framed payload) in
+      let same : drop n new ≡ drop n old =
+      ap (λ (l : List ℕ). drop n l) is_new ∙ behind_write late 0 (1 ∷ []) n (omega arith) ∙ ap (λ (l : List ℕ). drop n l) is_late ∙ behind_write mid 10 written n (omega (arith, size))
+      ∙ ap (λ (l : List ℕ). drop n l) is ∙ behind_write old 1 (header generation ++ 1 ∷ []) n (omega arith) in
+      let front = 1 ∷ (header generation ++ 1 ∷ (framed payload ++ 0 ∷ [])) in
+      let parts : new ≡ 1 ∷ (header generation ++ 1 ∷ (framed payload ++ 0 ∷ [] ++ stage.tail)) =
+      is_new ∙ ap (λ (d : List ℕ). overwritten d 0 (1 ∷ [])) stage.bytes ∙ written_gate [] 0 refl stage.first 1 _ in
+      let joined : new ≡ front ++ stage.tail = parts in
+      let long : length front ≡ n = omega (arith, length-append (framed payload) (0 ∷ []), length-framed payload) in
+      let tail : stage.tail ≡ drop n old = sym (drop_at front stage.tail n long) ∙ ap (λ (l : List ℕ). drop n l) (sym joined) ∙ same in
+      joined ∙ ap (λ (l : List ℕ). front ++ l) tail
+      ∙ ap (λ (l : List ℕ). 1 ∷ (header generation ++ 1 ∷ l)) (append_assoc (framed payload) (0 ∷ []) (drop n old) ∙ ap (λ (l : List ℕ). l ++ 0 ∷ drop n old) (sym (append-nil (framed payload))))
 
   module _ {H : Type 0} (h : Ghosts H) (side : Side) (start : H) where
     -- what is met during a write behind the first byte

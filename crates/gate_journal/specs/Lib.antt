@@ -2,5 +2,6 @@ pub mod Costs
 pub mod Frame
 pub mod Journal
 pub mod OpenSide
+pub mod Opening
 pub mod Reading
 pub mod Records

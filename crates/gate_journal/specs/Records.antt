@@ -1,5 +1,5 @@
 -- The bytes of a side: a first byte, a header, and records behind gates.
-use Rattle.std.specs.Prelude.{◌≡◌, ◌≢◌, ◌<◌, ◌≤◌, ℕ, ◌+◌, List, [], ◌∷◌, ◌++◌, length}
+use Rattle.std.specs.Prelude.{◌≡◌, ◌≢◌, ◌<◌, ◌≤◌, ℕ, ◌+◌, List, [], ◌∷◌, ◌++◌, length, drop}
 use Rattle.std.specs.Int.{w32, to_be_bytes}
 use Rattle.gate_journal.specs.declared.format.TheConstants.{SIDE_END}
 
@@ -19,6 +19,14 @@ header generation = 78 ∷ 73 ∷ 77 ∷ 66 ∷ 85 ∷ 83 ∷ 49 ∷ generation 
 -- an open side up to the gate that ends it
 abbrev pub opened : ℕ → List (List ℕ) → List ℕ
 opened generation payloads = 1 ∷ header generation ++ records payloads
+
+-- a record behind its open gate, and the closed gate that ends it
+abbrev pub recorded : List ℕ → List ℕ
+recorded payload = 1 ∷ framed payload ++ 0 ∷ []
+
+-- a side on which a journal with one payload is made: what follows its closed gate is as before
+abbrev pub made_on : ℕ → List ℕ → List ℕ → List ℕ
+made_on generation payload image = opened generation (payload ∷ []) ++ 0 ∷ drop (length payload + 15) image
 
 -- where that gate is
 abbrev pub place_of : List (List ℕ) → ℕ

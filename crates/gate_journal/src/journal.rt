@@ -2,16 +2,17 @@
 ghost use Rattle.std.specs.Prelude.{◌≡◌, ◌⊎◌, ◌<◌, ◌≤◌, ◌+◌, ◌++◌, ◌↔◌, [], ◌∷◌, List, ℕ, length, drop, OnOk, OnErr, IfOk, IsOk, IsErrOf};
 ghost use Rattle.host_model.specs.Causes.{Rose, HasCause};
 ghost use Rattle.host_model.specs.Hosts.{IsDurable, KeepsAll, MeetsAll, NowOf, OnSideOf, StillAll};
-ghost use Rattle.host_model.specs.Images.{Torn, IsAfter};
+ghost use Rattle.host_model.specs.Images.{overwritten, Torn, IsAfter};
 ghost use Rattle.host_model.specs.Sides.{other};
 ghost use Rattle.gate_journal.specs.Costs.{HasCost};
 ghost use Rattle.gate_journal.specs.Journal.{HasFailed};
-ghost use Rattle.gate_journal.specs.Records.{place_of, IsClosed, IsOpen, IsNoJournal};
+ghost use Rattle.gate_journal.specs.Opening.{OpensInPhases};
+ghost use Rattle.gate_journal.specs.Records.{made_on, recorded, place_of, IsClosed, IsOpen, IsNoJournal};
 
 use crate::faults::{AppendFault, OpenFault};
 use crate::format::{CLOSED, FIRST_GATE, OPEN, SIDE_END};
 use crate::frame::Frame;
-use crate::reading::{read_header, read_records, read_side, without_header};
+use crate::reading::{is_open, read_header, read_records, read_side, without_header};
 use crate::writing::write_synced;
 use host_model::{DiskFailed, Host, Side};
 use sequences::Sequence;
@@ -71,6 +72,7 @@ impl Journal {
         requires shut { H.tells → IsShutOn H.Host host.old side }
 
         ensures made { H.tells → IfOk result (λ journal. StandsWithGate H.Host journal host.new (first.now ∷ [])) }
+        ensures bytes { H.tells → OnOk result (H.reads host.new side ≡ made_on generation first.now (H.reads host.old side)) }
         ensures side { IfOk result (λ journal. journal.side ≡ side) }
         ensures generation { IfOk result (λ journal. journal.generation ≡ generation) }
         ensures place { IfOk result (λ journal. journal.place ≡ length first.now + 14) }
@@ -136,7 +138,9 @@ impl Journal {
         ensures no_journal { H.tells → IsErrOf result OpenFault.NotAJournal → IsNoJournal (H.reads host.old side) }
         ensures no_journal_where { H.tells → IsNoJournal (H.reads host.old side) → IsErrOf result OpenFault.NotAJournal ⊎ HasFailed result }
 
-        // Until the sync is done each image is one of the start, and then it is what reads give.
+        // Until the sync is done each image is one of the start, and then it is what reads give. Where the disk fails before, the
+        // images are those of the start.
+        ensures phases { H.tells → OpensInPhases H.Host side host.old host.new result }
         ensures any_moment { H.tells → MeetsAll H.Host host.old host.new (OnSideOf H.Host host.old side (H.images host.old side)) }
         ensures images { H.tells → (image : List ℕ) → H.images host.new side image → H.images host.old side image }
         ensures durable { H.tells → ¬ IsErrOf result OpenFault.DiskFault → IsDurable H.Host host.new side }
@@ -159,6 +163,7 @@ impl Journal {
 
         ensures acknowledged { H.tells → (payloads : List (List ℕ)) → Stands H.Host self.old host.old payloads
             → OnOk result (StandsWithGate H.Host self.new host.new (payloads ++ next.now ∷ [])) }
+        ensures bytes { H.tells → OnOk result (H.reads host.new self.old.side ≡ overwritten (H.reads host.old self.old.side) self.old.place (recorded next.now)) }
 
         // At each moment the side has the payloads of before, or these and the next.
         ensures any_moment { H.tells → (payloads : List (List ℕ)) → StandsWithGate H.Host self.old host.old payloads
@@ -197,7 +202,7 @@ impl Journal {
     }
 }
 
-// The journal of a side that is synced, and its payloads.
+// The journal of a side that is synced, and its payloads. Of a closed side one byte is read.
 fn find_journal<H: Host>(
     alloc: Global,
     host: &mut H,
@@ -210,6 +215,34 @@ fn find_journal<H: Host>(
         → IsOk result ⊎ HasFailed result }
     ensures closed { H.tells → IsErrOf result OpenFault.Closed → IsClosed (H.reads host.old side) }
     ensures closed_where { H.tells → IsClosed (H.reads host.old side) → IsErrOf result OpenFault.Closed ⊎ HasFailed result }
+    ensures no_journal { H.tells → IsErrOf result OpenFault.NotAJournal → IsNoJournal (H.reads host.old side) }
+    ensures no_journal_where { H.tells → IsNoJournal (H.reads host.old side) → IsErrOf result OpenFault.NotAJournal ⊎ HasFailed result }
+
+    ensures still { H.tells → StillAll H.Host host.old host.new }
+    ensures any_moment { H.tells → MeetsAll H.Host host.old host.new (NowOf H.Host host.old) }
+    ensures cause { IsErrOf result OpenFault.DiskFault → Rose (H.disk_faults host.old) (H.disk_faults host.new) }
+    ensures disk_faults { H.disk_faults host.old ≤ H.disk_faults host.new }
+    ensures say_faults { H.say_faults host.new ≡ H.say_faults host.old }
+{
+    if is_open(host, side)? {
+        read_open(alloc, host, side)
+    } else {
+        Err(OpenFault::Closed)
+    }
+}
+
+// The journal of a side whose first byte is 1, and its payloads.
+fn read_open<H: Host>(
+    alloc: Global,
+    host: &mut H,
+    side: Side,
+) -> Result<(Journal, Sequence<Sequence<u8>>), OpenFault>
+    ensures opened { H.tells → IfOk result (λ found. IsOpen found.0.generation found.1 (H.reads host.old side)) }
+    ensures place { IfOk result (λ found. found.0.place ≡ place_of found.1) }
+    ensures side { IfOk result (λ found. found.0.side ≡ side) }
+    ensures opened_where { H.tells → (generation : ℕ) (payloads : List (List ℕ)) → IsOpen generation payloads (H.reads host.old side)
+        → IsOk result ⊎ HasFailed result }
+    ensures closed { H.tells → IsErrOf result OpenFault.Closed → IsClosed (H.reads host.old side) }
     ensures no_journal { H.tells → IsErrOf result OpenFault.NotAJournal → IsNoJournal (H.reads host.old side) }
     ensures no_journal_where { H.tells → IsNoJournal (H.reads host.old side) → IsErrOf result OpenFault.NotAJournal ⊎ HasFailed result }
 

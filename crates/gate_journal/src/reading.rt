@@ -1,13 +1,13 @@
 // What a side has, read from its bytes.
-ghost use Rattle.std.specs.Prelude.{◌≡◌, ◌⊎◌, ◌≤◌, ◌++◌, ◌∷◌, length, take, IfOk, IfSome, IfNone, IsErrOf};
+ghost use Rattle.std.specs.Prelude.{◌≡◌, ◌⊎◌, ◌≤◌, ◌++◌, ◌∷◌, false, length, take, IfOk, IfSome, IfNone, IsErrOf, IsTrue};
 ghost use Rattle.gate_journal.specs.Reading.{HasNoHeader, HasNoRecords, HasRecords, IsNext};
 ghost use Rattle.gate_journal.specs.Records.{header, place_of, IsClosed, IsNoJournal};
-ghost use Rattle.host_model.specs.Causes.{Rose};
+ghost use Rattle.host_model.specs.Causes.{HasCause, Rose};
 ghost use Rattle.host_model.specs.Hosts.{MeetsAll, NowOf, StillAll};
 
 use crate::faults::OpenFault;
-use crate::format::{FIRST_GATE, OPEN, SIDE_END};
-use host_model::{Host, Side};
+use crate::format::{CLOSED, FIRST_GATE, OPEN, SIDE_END};
+use host_model::{DiskFailed, Host, Side};
 use sequences::Sequence;
 use std::alloc::{AllocError, Global};
 
@@ -111,6 +111,20 @@ pub(crate) fn without_header(bytes: &[u8]) -> OpenFault
         [OPEN, ..] => OpenFault::NotAJournal,
         _ => OpenFault::Closed,
     }
+}
+
+/// Whether a side's first byte is 1. No other byte is read.
+pub(crate) fn is_open<H: Host>(host: &mut H, side: Side) -> Result<bool, DiskFailed>
+    ensures closed { H.tells → IfOk result (λ starts. starts ≡ false → IsClosed (H.reads host.old side)) }
+    ensures opened { H.tells → IfOk result (λ starts. IsTrue starts → IsClosed (H.reads host.old side) → ⊥) }
+    ensures still { H.tells → StillAll H.Host host.old host.new }
+    ensures any_moment { H.tells → MeetsAll H.Host host.old host.new (NowOf H.Host host.old) }
+    ensures cause { HasCause (H.disk_faults host.old) (H.disk_faults host.new) result }
+    ensures say_faults { H.say_faults host.new ≡ H.say_faults host.old }
+{
+    let mut first = [CLOSED];
+    host.read(side, 0, &mut first)?;
+    Ok(first[0] == OPEN)
 }
 
 /// The bytes of a side, where the host tells what it holds. What is past the last place where records may end counts

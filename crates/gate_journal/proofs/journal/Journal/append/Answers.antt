@@ -1,5 +1,5 @@
 use Rattle.std.proofs.Common.{◌+◌, ◌-◌, ◌<◌, length, arith}
-use Rattle.gate_journal.proofs.Appending.{first_met, second_met, appended}
+use Rattle.gate_journal.proofs.Appending.{first_met, second_met, appended, appended_bytes}
 use Rattle.gate_journal.proofs.Ranges.{record_within, gate_within}
 use Rattle.gate_journal.proofs.journal.Journal.append.Goals as goal
 
@@ -46,3 +46,10 @@ returns-clause-range g c tells =
     gate_within g.H.Host _ _ c.self.view_is c.args.host.now (length c.args.next.now) (length c.written.result.now) (omega arith) mid c.write_synced-2.new.host
     (λ l r u le now. g.met.H.Host.counts_now mid (g.H.Host.moment c.args.host.now) l r u tells le now) (λ s. g.met.H.Host.read_is_image mid s tells)
     (c.write_synced.ensures.any_moment tells) (c.write_synced.ensures.rest tells) (c.write_synced-2.ensures.any_moment tells)
+
+-- the bytes of the record stand from the gate on
+pub returns-clause-bytes : goal.returns-clause-bytes
+returns-clause-bytes g c tells =
+    let stands = c.requires.stands tells in
+    appended_bytes g.H.Host _ _ c.self.view_is c.args.host.now c.write_synced.new.host c.write_synced-2.new.host stands.0 c.args.next.now c.written.result.now stands.1
+    c.written.ensures.bytes (c.in_ok-write_synced.ensures.after tells) (c.in_ok-write_synced-2.ensures.after tells)

@@ -1,7 +1,7 @@
 use Rattle.std.proofs.Common.{◌+◌, [], ◌∷◌, length, arith, length-append}
 use Rattle.host_model.proofs.Meeting.{kept_twice}
 use Rattle.gate_journal.proofs.Appending.{length-framed}
-use Rattle.gate_journal.proofs.Making.{made, made_done, opening_met, header_met, behind_met}
+use Rattle.gate_journal.proofs.Making.{made, made_bytes, made_done, opening_met, header_met, behind_met}
 use Rattle.gate_journal.proofs.Ranges.{write_within, then_within}
 use Rattle.gate_journal.specs.Records.{framed}
 use Rattle.gate_journal.proofs.journal.Journal.make.Goals as goal
@@ -64,6 +64,15 @@ returns-clause-made g c tells =
       };
       gate = omega (arith, done.gate, length-framed payload, length-append (1 ∷ framed payload) []);
     }
+
+pub returns-clause-bytes : goal.returns-clause-bytes
+returns-clause-bytes g c tells =
+    let h = g.H.Host in
+    let old = c.args.host.now in
+    let side = c.args.side in
+    made_bytes c.args.generation c.args.first.now c.requires.known c.requires.fits (h.reads old side) (h.reads c.write_at.new.self side) (h.reads c.write_synced.new.host side)
+    (h.reads c.write_synced-2.new.host side) c.written.result.now (c.requires.shut tells (h.reads old side) (g.met.H.Host.read_is_image old side tells))
+    (c.in_ok-write_at.ensures.after tells) c.written.ensures.bytes (c.in_ok-write_synced.ensures.after tells) (c.in_ok-write_synced-2.ensures.after tells)
 
 -- all three writes are within the journal's bytes
 pub returns-in_err-write_at-clause-range : goal.returns-in_err-write_at-clause-range
