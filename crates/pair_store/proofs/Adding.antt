@@ -1,15 +1,15 @@
 -- A payload more, on the side that counts.
-use Rattle.std.proofs.Common.{◌≡◌, ◌⊎◌, inl, inr, ◌<◌, ◌+◌, ℕ, List, [], ◌∷◌, ◌++◌, length, refl, sym, ◌∙◌, ap, subst, arith, length-append}
+use Rattle.std.proofs.Common.{◌≡◌, inl, inr, ◌<◌, ℕ, List, [], ◌∷◌, ◌++◌, length, sym, ◌∙◌, ap, subst, arith, length-append}
 use Rattle.host_model.specs.declared.host.Host.{Ghosts}
 use Rattle.host_model.specs.declared.side.Side.{Side}
 use Rattle.host_model.specs.Hosts.{IsDurable, KeepsAll, MeetsAll, OnSideOf}
 use Rattle.host_model.specs.Sides.{other, on}
 use Rattle.host_model.proofs.Meeting.{met_weaker}
-use Rattle.gate_journal.specs.Journal.{Stands, StandsWithGate, IsBeforeOrAfter}
+use Rattle.gate_journal.specs.Journal.{StandsWithGate, IsBeforeOrAfter}
 use Rattle.gate_journal.specs.OpenSide.{OpenSide}
-use Rattle.gate_journal.specs.Records.{place_of, IsKept, IsShut}
+use Rattle.gate_journal.specs.Records.{IsKept, IsShut}
 use Rattle.pair_store.specs.Moments.{KeepsEither}
-use Rattle.pair_store.specs.Pair.{Counts, HasKeptList}
+use Rattle.pair_store.specs.Pair.{HasKeptList}
 use Rattle.pair_store.specs.Store.{PairStands, PairStandsWithGate}
 
 -- a side that is kept for payloads, beside a closed one

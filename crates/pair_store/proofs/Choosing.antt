@@ -5,10 +5,9 @@ use Rattle.host_model.specs.declared.side.Side.TheVariants.{Left, Right}
 use Rattle.host_model.specs.Sides.{other, on}
 use Rattle.gate_journal.specs.Records.{IsClosed, IsOpen, IsShut}
 use Rattle.gate_journal.proofs.Unique.{one_reading}
-use Rattle.pair_store.specs.declared.records.Records.{Records}
-use Rattle.pair_store.specs.Choice.{payloads_of, IsRead, IsDamaged, IsFound, IsChoice, IsBeside}
+use Rattle.pair_store.specs.Choice.{IsDamaged}
 use Rattle.pair_store.specs.Pair.{generation_after, Counts, HasList, HasNoStore, IsBad, IsEarlier}
-use Rattle.pair_store.proofs.Unique.{open_not_shut, earlier_beside}
+use Rattle.pair_store.proofs.Unique.{earlier_beside}
 
 -- open with at least one payload
 pub record HasSome (image : List ℕ) : Type 0 where

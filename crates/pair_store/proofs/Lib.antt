@@ -4,8 +4,10 @@ pub mod Below
 pub mod Beside
 pub mod Choosing
 pub mod Gates
+pub mod Making
 pub mod Opening
 pub mod Phases
+pub mod Synced
 pub mod Standing
 pub mod Turning
 pub mod Unique

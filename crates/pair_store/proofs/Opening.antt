@@ -1,5 +1,5 @@
 -- What is met while a pair is opened, and what it stands for then.
-use Rattle.std.proofs.Common.{◌≡◌, ◌≢◌, ◌⊎◌, inl, inr, ◌<◌, ◌≤◌, ◌+◌, ℕ, Bool, true, false, if◌then◌else◌, nat_eq, List, [], ◌∷◌, ◌++◌, length, drop, Result, Ok, Err, IsErr, IsErrOf, refl, sym, ◌∙◌, ap, subst, arith}
+use Rattle.std.proofs.Common.{◌≡◌, ◌≢◌, inl, inr, ◌<◌, ◌≤◌, ◌+◌, ℕ, Bool, true, false, if◌then◌else◌, nat_eq, List, [], ◌∷◌, length, drop, Result, Err, IsErr, IsErrOf, refl, sym, ◌∙◌, ap, subst, arith}
 use Rattle.std.proofs.lemmas.Bool.Decides.{eqb_tells}
 use Rattle.std.proofs.lemmas.Result.{IfOk-from_err}
 use Rattle.host_model.specs.declared.host.Host.{Ghosts}
@@ -8,7 +8,7 @@ use Rattle.host_model.specs.declared.side.Side.TheVariants.{Left, Right}
 use Rattle.host_model.specs.Hosts.{IsDurable, KeepsAll, MeetsAll, NowOf, OnSideOf}
 use Rattle.host_model.specs.Sides.{other, on}
 use Rattle.host_model.proofs.Meeting.{met_weaker, turned, kept_turned}
-use Rattle.gate_journal.specs.Journal.{Stands, SameButFirst}
+use Rattle.gate_journal.specs.Journal.{SameButFirst}
 use Rattle.gate_journal.specs.OpenSide.{OpenSide}
 use Rattle.gate_journal.specs.Records.{place_of, IsClosed, IsOpen, IsShut, HasZeroFirst}
 use Rattle.pair_store.specs.declared.faults.PairFault.{PairFault}
@@ -72,17 +72,17 @@ module _ {H : Type 0} (h : Ghosts H) (side : Side) (generation : ℕ) (payloads 
   is_read : (s : Side) (c : List ℕ) → h.images mid s c → c ≡ h.reads start s
   is_read s c left = durable s c left ∙ same s
 
-  repaired_by : (l r : List ℕ) → IsEarlier generation (h.reads start (other side)) → on side l r ≡ h.reads start side
+  repaired_by : 0 < length payloads → (l r : List ℕ) → IsEarlier generation (h.reads start (other side)) → on side l r ≡ h.reads start side
       → (byte : ℕ) × (on (other side) l r ≡ byte ∷ drop 1 (h.reads start (other side))) → IsRepaired h start l r
-  repaired_by l r earlier this there = record { side = side; generation = generation; payloads = payloads; later = here; earlier = earlier; here = this; there = there }
+  repaired_by some l r earlier this there = record { side = side; generation = generation; payloads = payloads; later = here; some = some; earlier = earlier; here = this; there = there }
 
   module _ (text : h.said mid ≡ h.said start) where
-    while_read : (is_open : Bool) → IsBeside is_open generation (h.reads start (other side)) → (l r u : List ℕ)
+    while_read : 0 < length payloads → (is_open : Bool) → IsBeside is_open generation (h.reads start (other side)) → (l r u : List ℕ)
         → OnSideOf h mid (other side) (MayBeShut is_open (h.images mid (other side))) l r u → IsReadOrRepaired h start l r u
-    while_read false shut l r u met =
+    while_read some false shut l r u met =
         let seen = turned h.images h.said mid side (h.images mid (other side)) l r u met in
         (inl (both_sides (λ s. on s l r ≡ h.reads start s) side (is_read side (on side l r) seen.0) (is_read (other side) (on (other side) l r) seen.1)), seen.2 ∙ text)
-    while_read true earlier l r u met =
+    while_read some true earlier l r u met =
         let seen = turned h.images h.said mid side (SameButFirst (h.images mid (other side))) l r u met in
         let old = seen.1.0 in
         let was : old ≡ h.reads start (other side) = is_read (other side) old seen.1.1 in
@@ -90,11 +90,11 @@ module _ {H : Type 0} (h : Ghosts H) (side : Side) (generation : ℕ) (payloads 
           | inl is ↦ (1, is ∙ was ∙ sym (first_open earlier.before earlier.payloads (h.reads start (other side)) earlier.side))
           | inr first ↦ (first.0, first.1 ∙ ap (λ (c : List ℕ). first.0 ∷ drop 1 c) was)
         ] in
-        (inr (repaired_by l r earlier (is_read side (on side l r) seen.0) there), seen.2 ∙ text)
+        (inr (repaired_by some l r earlier (is_read side (on side l r) seen.0) there), seen.2 ∙ text)
 
-    pub read_met : (is_open : Bool) → IsBeside is_open generation (h.reads start (other side))
+    pub read_met : 0 < length payloads → (is_open : Bool) → IsBeside is_open generation (h.reads start (other side))
         → MeetsAll h mid new (OnSideOf h mid (other side) (MayBeShut is_open (h.images mid (other side)))) → MeetsAll h mid new (IsReadOrRepaired h start)
-    read_met is_open rest run = met_weaker h.moment h.might mid new _ _ run (while_read is_open rest)
+    read_met some is_open rest run = met_weaker h.moment h.might mid new _ _ run (while_read some is_open rest)
 
   -- and then it stands for its payloads
   module _ (kept : KeepsAll h (other (other side)) mid new) where
@@ -107,19 +107,19 @@ module _ {H : Type 0} (h : Ghosts H) (side : Side) (generation : ℕ) (payloads 
         durable side c ((back.images_same c).0 left) ∙ sym back.reads_same
 
     -- what is left of both sides
-    pub left_by : (is_open : Bool) → IsBeside is_open generation (h.reads start (other side)) → h.reads new (other side) ≡ shut_where is_open (h.reads mid (other side)) → IsDurable h new (other side)
+    pub left_by : 0 < length payloads → (is_open : Bool) → IsBeside is_open generation (h.reads start (other side)) → h.reads new (other side) ≡ shut_where is_open (h.reads mid (other side)) → IsDurable h new (other side)
         → IsLeftByOpening h start new
     unfolding repaired_by
-    left_by false shut is only = record {
+    left_by some false shut is only = record {
       durable = both_sides (λ s. IsDurable h new s) side only_here only;
       bytes = inl (both_sides (λ s. h.reads new s ≡ h.reads start s) side reads_here (is ∙ same (other side)));
     }
-    left_by true earlier is only =
+    left_by some true earlier is only =
         let there : h.reads new (other side) ≡ 0 ∷ drop 1 (h.reads start (other side)) = is ∙ ap (λ (c : List ℕ). 0 ∷ drop 1 c) (same (other side)) in
         record {
           durable = both_sides (λ s. IsDurable h new s) side only_here only;
           bytes = inr (record {
-            repaired = repaired_by (h.reads new Left) (h.reads new Right) earlier (on_of (h.reads new) side ∙ reads_here) (0, on_of (h.reads new) (other side) ∙ there);
+            repaired = repaired_by some (h.reads new Left) (h.reads new Right) earlier (on_of (h.reads new) side ∙ reads_here) (0, on_of (h.reads new) (other side) ∙ there);
             zero = subst HasZeroFirst (sym there) refl;
           });
         }
@@ -191,13 +191,13 @@ module _ {H : Type 0} (h : Ghosts H) (choice : Choice) (there : Side) (start mid
     synced = mid;
     first = first;
     unwritten = record { same = same; durable = durable; cost = cost };
-    second = read_met h choice.records.side choice.records.journal.generation (payloads_of choice.records) start mid new here same durable text choice.is_other_open beside
+    second = read_met h choice.records.side choice.records.journal.generation (payloads_of choice.records) start mid new here same durable text is.some choice.is_other_open beside
         (subst (λ (s : Side). MeetsAll h mid new (OnSideOf h mid s (MayBeShut choice.is_other_open (h.images mid s)))) is_there second);
   }
 
   pub choice_left : KeepsAll h (other there) mid new → h.reads new there ≡ shut_where choice.is_other_open (h.reads mid there) → IsDurable h new there → IsLeftByOpening h start new
   choice_left kept left only = left_by h choice.records.side choice.records.journal.generation (payloads_of choice.records) start mid new here same durable
-      (subst (λ (s : Side). KeepsAll h (other s) mid new) is_there kept) choice.is_other_open beside
+      (subst (λ (s : Side). KeepsAll h (other s) mid new) is_there kept) is.some choice.is_other_open beside
       (subst (λ (s : Side). h.reads new s ≡ shut_where choice.is_other_open (h.reads mid s)) is_there left) (subst (λ (s : Side). IsDurable h new s) is_there only)
 
   pub choice_pair : KeepsAll h (other there) mid new → h.reads new there ≡ shut_where choice.is_other_open (h.reads mid there) → IsDurable h new there

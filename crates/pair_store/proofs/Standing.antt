@@ -1,5 +1,5 @@
 -- What follows where a pair stands for payloads.
-use Rattle.std.proofs.Common.{◌≡◌, inl, ◌<◌, ℕ, List, length, sym, ◌∙◌, subst, arith}
+use Rattle.std.proofs.Common.{◌≡◌, inl, ◌<◌, ℕ, List, length, sym, subst, arith}
 use Rattle.host_model.specs.declared.host.Host.{Ghosts}
 use Rattle.host_model.specs.declared.side.Side.{Side}
 use Rattle.host_model.specs.declared.side.Side.TheVariants.{Left, Right}
@@ -8,7 +8,6 @@ use Rattle.gate_journal.specs.OpenSide.{OpenSide}
 use Rattle.gate_journal.specs.Records.{place_of, IsOpen, IsShut}
 use Rattle.pair_store.specs.Pair.{Counts, HasList, HasKeptList}
 use Rattle.pair_store.specs.Store.{PairStands, PairStandsWithGate}
-use Rattle.pair_store.proofs.Beside.{both_sides, on_of}
 
 module _ {H : Type 0} (h : Ghosts H) (store : OpenSide) (host : H) (payloads : List (List ℕ)) (l r : List ℕ) (left : h.images host Left l) (right : h.images host Right r) where
   image_on : (side : Side) → h.images host side (on side l r)

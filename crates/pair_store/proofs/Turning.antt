@@ -1,5 +1,5 @@
 -- What is met while the whole is made on the other side, and this one closed.
-use Rattle.std.proofs.Common.{◌≡◌, ◌⊎◌, inl, inr, ◌<◌, ◌≤◌, ◌+◌, ◌%◌, ℕ, List, [], ◌∷◌, ◌++◌, length, drop, refl, sym, ◌∙◌, ap, subst, arith}
+use Rattle.std.proofs.Common.{◌≡◌, ◌⊎◌, inl, inr, ◌<◌, ℕ, List, [], ◌∷◌, length, drop, refl, sym, ◌∙◌, ap, subst, arith}
 use Rattle.std.proofs.lemmas.Bool.{cases_eq}
 use Rattle.host_model.specs.declared.host.Host.{Ghosts}
 use Rattle.host_model.specs.declared.side.Side.{Side}
@@ -8,10 +8,10 @@ use Rattle.host_model.specs.Sides.{other, on}
 use Rattle.host_model.proofs.Meeting.{then_met, met_weaker, turned, kept_turned}
 use Rattle.gate_journal.specs.Journal.{StandsWithGate, IsShutOrHas, SameButFirst}
 use Rattle.gate_journal.specs.OpenSide.{OpenSide}
-use Rattle.gate_journal.specs.Records.{place_of, IsKept, IsOpen, IsShut}
+use Rattle.gate_journal.specs.Records.{made_on, place_of, IsKept, IsOpen, IsShut}
 use Rattle.pair_store.specs.Moments.{HasEither, KeepsEither}
-use Rattle.pair_store.specs.Pair.{generation_after, Counts, HasList, HasKeptList, IsEarlier}
-use Rattle.pair_store.specs.Store.{PairStands, PairStandsWithGate}
+use Rattle.pair_store.specs.Pair.{generation_after, HasKeptList, IsEarlier}
+use Rattle.pair_store.specs.Store.{PairStands, PairStandsWithGate, IsTurned}
 use Rattle.gate_journal.proofs.Standing.{kept_of_stands}
 use Rattle.pair_store.proofs.Beside.{on_other_twice}
 
@@ -136,3 +136,15 @@ module _ {H : Type 0} (h : Ghosts H) (now made : OpenSide) (here there : Side) (
   turn_keeps payloads gated_now =
       let stands = gated_now.stands in
       keeps_either h now.side now.generation payloads whole start stands.side.side stands.some stands.side.only new (omega (arith, gated_now.gate, stands.side.place)) (turning payloads stands)
+
+-- the bytes of both sides then
+pub turn_bytes : {H : Type 0} (h : Ghosts H) (now : OpenSide) (here there : Side) (generation : ℕ) (whole : List ℕ) (start mid new : H) → here ≡ now.side → there ≡ other now.side → generation ≡ generation_after now.generation
+    → KeepsAll h (other there) start mid → h.reads mid there ≡ made_on generation whole (h.reads start there)
+    → h.reads new here ≡ 0 ∷ drop 1 (h.reads mid here) → KeepsAll h (other here) mid new → IsTurned h now whole start new
+turn_bytes h now here there generation whole start mid new is_here is_there is_next rest made closed back =
+    let kept = kept_turned h.reads h.images h.said now.side start mid (subst (λ (s : Side). KeepsAll h (other s) start mid) is_there rest) in
+    let made_there = subst (λ (s : Side). h.reads mid s ≡ made_on generation whole (h.reads start s)) is_there made in
+    record {
+      here = subst (λ (s : Side). h.reads new s ≡ 0 ∷ drop 1 (h.reads mid s)) is_here closed ∙ ap (λ (c : List ℕ). 0 ∷ drop 1 c) kept.reads_same;
+      there = (subst (λ (s : Side). KeepsAll h (other s) mid new) is_here back).reads_same ∙ made_there ∙ ap (λ (g : ℕ). made_on g whole (h.reads start (other now.side))) is_next;
+    }

@@ -1,11 +1,9 @@
 -- A pair of images has one list of payloads at most.
-use Rattle.std.proofs.Common.{◌≡◌, ◌⊎◌, inl, inr, ◌<◌, ◌≤◌, ◌+◌, ◌%◌, ℕ, List, [], ◌∷◌, ◌++◌, length, refl, sym, ◌∙◌, ap, subst, arith}
-use Rattle.host_model.specs.declared.side.Side.{Side}
+use Rattle.std.proofs.Common.{◌≡◌, inl, inr, ◌≤◌, ℕ, List, refl, ◌∙◌, ap, subst, arith}
 use Rattle.host_model.specs.declared.side.Side.TheVariants.{Left, Right}
-use Rattle.host_model.specs.Sides.{other, on}
-use Rattle.gate_journal.specs.Records.{opened, IsOpen, IsShut}
+use Rattle.gate_journal.specs.Records.{IsOpen, IsShut}
 use Rattle.gate_journal.proofs.Unique.{one_reading}
-use Rattle.pair_store.specs.Pair.{generation_after, IsEarlier, Counts, HasList, HasOneList}
+use Rattle.pair_store.specs.Pair.{generation_after, Counts, HasOneList}
 
 -- an open side is not closed
 pub open_not_shut : (generation : ℕ) (payloads : List (List ℕ)) (image : List ℕ) → IsOpen generation payloads image → IsShut image → ⊥

@@ -35,6 +35,10 @@ HasKeptList l r payloads = (side : Side) × Counts payloads (on side l r) (on (o
 abbrev pub HasOneList : Type 0
 HasOneList = (l r : List ℕ) (payloads others : List (List ℕ)) → HasList l r payloads → HasList l r others → payloads ≡ others
 
+-- the pair has no list
+abbrev pub HasNoList : List ℕ → List ℕ → Type 0
+HasNoList l r = (payloads : List (List ℕ)) → HasList l r payloads → ⊥
+
 -- neither side is open
 abbrev pub HasNoStore : List ℕ → List ℕ → Type 0
 HasNoStore l r = IsClosed l × IsClosed r
@@ -42,4 +46,4 @@ HasNoStore l r = IsClosed l × IsClosed r
 -- a side is open, and the pair has no list
 pub record IsBad (l r : List ℕ) : Type 0 where
   pub open_side : HasNoStore l r → ⊥
-  pub no_list : (payloads : List (List ℕ)) → HasList l r payloads → ⊥
+  pub no_list : HasNoList l r

@@ -1,5 +1,5 @@
 -- What an opening leaves: where two sides are open, the earlier one is closed.
-use Rattle.std.specs.Prelude.{◌≡◌, ◌⊎◌, ℕ, List, [], ◌∷◌, Bool, true, false, nat_eq, if◌then◌else◌, drop}
+use Rattle.std.specs.Prelude.{◌≡◌, ◌⊎◌, ◌<◌, ℕ, List, [], ◌∷◌, Bool, true, false, nat_eq, if◌then◌else◌, length, drop}
 use Rattle.host_model.specs.declared.host.Host.{Ghosts}
 use Rattle.host_model.specs.declared.side.Side.{Side}
 use Rattle.host_model.specs.declared.side.Side.TheVariants.{Left, Right}
@@ -23,12 +23,13 @@ abbrev pub shut_first : List ℕ → List ℕ
 shut_first [] = []
 shut_first (first ∷ rest) = (if nat_eq first 1 then 0 else first) ∷ rest
 
--- both sides were open, the later one is as reads gave it, and the earlier one too but for its first byte
+-- both sides were open, each with a payload; the later one is as reads gave it, and the earlier one too but for its first byte
 pub record IsRepaired {H : Type 0} (h : Ghosts H) (start : H) (l r : List ℕ) : Type 0 where
   pub side : Side
   pub generation : ℕ
   pub payloads : List (List ℕ)
   pub later : IsOpen generation payloads (h.reads start side)
+  pub some : 0 < length payloads
   pub earlier : IsEarlier generation (h.reads start (other side))
   pub here : on side l r ≡ h.reads start side
   pub there : (byte : ℕ) × (on (other side) l r ≡ byte ∷ drop 1 (h.reads start (other side)))

@@ -6,6 +6,7 @@ ghost use Rattle.host_model.specs.Sides.{other};
 ghost use Rattle.gate_journal.specs.Records.{IsClosed};
 ghost use Rattle.host_model.specs.declared.side.Side.{Side};
 ghost use Rattle.pair_store.specs.Choice.{IsFound, IsRead};
+ghost use Rattle.pair_store.specs.Moments.{ReadsInPhases, ReadsSide};
 
 use crate::faults::PairFault;
 use crate::records::{Found, Records};
@@ -44,6 +45,7 @@ pub(crate) fn found<H: Host>(alloc: Global, host: &mut H, side: Side) -> Result<
     ensures found { H.tells → IfOk result (λ found. IsFound side (H.reads host.old side) found) }
     ensures no_answer { (IsErrOf result PairFault.NoStore → ⊥) × (IsErrOf result PairFault.BadStore → ⊥) }
 
+    ensures phases { H.tells → ReadsSide H.Host side host.old host.new result }
     ensures any_moment { H.tells → MeetsAll H.Host host.old host.new (NowOf H.Host host.old) }
     ensures durable { H.tells → ¬ IsErrOf result PairFault.DiskFault → IsDurable H.Host host.new side }
     ensures same { H.tells → ¬ IsErrOf result PairFault.DiskFault → H.reads host.new side ≡ H.reads host.old side }
@@ -73,6 +75,7 @@ pub(crate) fn found_both<H: Host>(alloc: Global, host: &mut H) -> Result<(Found,
     ensures right { H.tells → IfOk result (λ both. IsFound Side.Right (H.reads host.old Side.Right) both.1) }
     ensures no_answer { (IsErrOf result PairFault.NoStore → ⊥) × (IsErrOf result PairFault.BadStore → ⊥) }
 
+    ensures phases { H.tells → ReadsInPhases H.Host host.old host.new result }
     ensures any_moment { H.tells → MeetsAll H.Host host.old host.new (NowOf H.Host host.old) }
     ensures durable { H.tells → ¬ IsErrOf result PairFault.DiskFault → (side : Side) → IsDurable H.Host host.new side }
     ensures same { H.tells → ¬ IsErrOf result PairFault.DiskFault → (side : Side) → H.reads host.new side ≡ H.reads host.old side }

@@ -4,10 +4,11 @@ ghost use Rattle.host_model.specs.Causes.{Rose, HasCause};
 ghost use Rattle.host_model.specs.Hosts.{MeetsAll};
 ghost use Rattle.host_model.specs.Sides.{other};
 ghost use Rattle.gate_journal.specs.Costs.{HasCost};
-ghost use Rattle.pair_store.specs.Moments.{HasEither, KeepsEither, StaysBelow, IsOpening, OpensInPhases};
-ghost use Rattle.pair_store.specs.Pair.{HasKeptList, generation_after, HasList, HasNoStore, IsBad};
+ghost use Rattle.gate_journal.specs.Records.{made_on};
+ghost use Rattle.pair_store.specs.Moments.{HasEither, KeepsEither, StaysBelow, IsMaking, IsOnlyRead, IsOpening, OpensInPhases};
+ghost use Rattle.pair_store.specs.Pair.{HasKeptList, generation_after, HasList, HasNoList, HasNoStore, IsBad};
 ghost use Rattle.pair_store.specs.Repair.{repair_cost, shut_first, IsLeftByOpening, IsUnwritten};
-ghost use Rattle.pair_store.specs.Store.{PairStands, PairStandsWithGate, IsClosedOn, HasFailed};
+ghost use Rattle.pair_store.specs.Store.{PairStands, PairStandsWithGate, IsAppended, IsClosedOn, IsTurned, HasFailed};
 
 use crate::choice::chosen;
 use crate::faults::PairFault;
@@ -70,9 +71,12 @@ impl PairStore {
         ensures generation { IfOk result (λ store. store.generation ≡ 0) }
         ensures place { IfOk result (λ store. store.place ≡ length first.now + 14) }
 
-        // The right side is as it was, but for a first byte 0.
+        // The left side has the journal's bytes, and the right one a first byte 0; else both are as they were.
+        ensures left { H.tells → OnOk result (H.reads host.new Side.Left ≡ made_on 0 first.now (H.reads host.old Side.Left)) }
         ensures right { H.tells → OnOk result (H.reads host.new Side.Right ≡ 0 ∷ drop 1 (H.reads host.old Side.Right)) }
 
+        // At each moment one of the three steps is at work.
+        ensures any_moment { H.tells → MeetsAll H.Host host.old host.new (IsMaking H.Host host.old first.now) }
         ensures below { H.tells → MeetsAll H.Host host.old host.new (StaysBelow H.Host host.old) }
 
         ensures cost { H.tells → HasCost (length first.now + 17) (H.written host.old) (H.written host.new) result }
@@ -120,6 +124,9 @@ impl PairStore {
         ensures phases { H.tells → OpensInPhases H.Host host.old host.new result }
         ensures below { H.tells → MeetsAll H.Host host.old host.new (StaysBelow H.Host host.old) }
 
+        // Where the pair that was read has no list, nothing is written, whatever the answer.
+        ensures only_read { H.tells → HasNoList (H.reads host.old Side.Left) (H.reads host.old Side.Right) → IsOnlyRead H.Host host.old host.new }
+
         // Unless the disk fails, each image is what reads give then, and an answer other than `Ok` writes nothing.
         ensures left { H.tells → ¬ IsErrOf result PairFault.DiskFault → IsLeftByOpening H.Host host.old host.new }
         ensures refused { H.tells → IsErrOf result PairFault.NoStore ⊎ IsErrOf result PairFault.BadStore ⊎ IsErrOf result PairFault.OutOfMemory
@@ -151,6 +158,7 @@ impl PairStore {
 
         ensures acknowledged { H.tells → (payloads : List (List ℕ)) → PairStands H.Host self.old host.old payloads
             → OnOk result (PairStandsWithGate H.Host self.new host.new (payloads ++ next.now ∷ [])) }
+        ensures bytes { H.tells → OnOk result (IsAppended H.Host self.old next.now host.old host.new) }
 
         // At each moment the pair has the payloads of before, or these and the next.
         ensures any_moment { H.tells → (payloads : List (List ℕ)) → PairStandsWithGate H.Host self.old host.old payloads
@@ -177,6 +185,7 @@ impl PairStore {
         requires stands { H.tells → (payloads : List (List ℕ)) × PairStands H.Host self.old host.old payloads }
 
         ensures acknowledged { H.tells → OnOk result (PairStandsWithGate H.Host self.new host.new (whole.now ∷ [])) }
+        ensures bytes { H.tells → OnOk result (IsTurned H.Host self.old whole.now host.old host.new) }
 
         // At each moment the pair has the payloads of before, or the whole alone.
         ensures any_moment { H.tells → (payloads : List (List ℕ)) → PairStands H.Host self.old host.old payloads

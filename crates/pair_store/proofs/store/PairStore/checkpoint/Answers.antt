@@ -1,10 +1,9 @@
-use Rattle.std.proofs.Common.{◌≡◌, ◌+◌, ℕ, length, ◌∙◌, ap, arith}
-use Rattle.host_model.specs.declared.side.Side.{Side}
+use Rattle.std.proofs.Common.{◌≡◌, ◌+◌, length, ◌∙◌, ap, arith}
 use Rattle.host_model.specs.Sides.{other}
 use Rattle.gate_journal.specs.OpenSide.{OpenSide}
 use Rattle.pair_store.specs.Pair.{generation_after}
 use Rattle.pair_store.proofs.Below.{first_met, range_met, then_below}
-use Rattle.pair_store.proofs.Turning.{turn_has, turn_keeps}
+use Rattle.pair_store.proofs.Turning.{turn_bytes, turn_has, turn_keeps}
 use Rattle.pair_store.proofs.store.PairStore.checkpoint.Goals as goal
 
 pub returns-in_err-journal-clause-below : goal.returns-in_err-journal-clause-below
@@ -68,3 +67,12 @@ returns-clause-any_moment_kept g c tells payloads stands =
     turn_keeps g.H.Host now c.in_ok-journal.journal c.self.inside.side c.other-side.result c.generation_after-generation.result c.args.whole.now c.args.host.now c.make.new.host c.close.new.host
     here (c.other-side.ensures ∙ ap other here) next c.in_ok-journal.ensures.side c.in_ok-journal.ensures.generation
     (c.make.ensures.any_moment tells) (c.make.ensures.rest tells) (c.in_ok-journal.ensures.made tells) (c.close.ensures.any_moment tells) payloads stands
+
+pub returns-clause-bytes : goal.returns-clause-bytes
+returns-clause-bytes g c tells =
+    let now = c.args.self.now in
+    let here : c.self.inside.side ≡ now.side = c.self.invariant ∙ ap (λ (j : OpenSide). j.side) c.self.view_is in
+    let next : c.generation_after-generation.result ≡ generation_after now.generation =
+    c.generation_after-generation.ensures.next ∙ ap generation_after (c.generation.ensures.generation ∙ ap (λ (j : OpenSide). j.generation) c.self.view_is) in
+    turn_bytes g.H.Host now c.self.inside.side c.other-side.result c.generation_after-generation.result c.args.whole.now c.args.host.now c.make.new.host c.close.new.host
+    here (c.other-side.ensures ∙ ap other here) next (c.make.ensures.rest tells) (c.in_ok-journal.ensures.bytes tells) (c.in_ok-close.ensures.closed tells) (c.close.ensures.rest tells)

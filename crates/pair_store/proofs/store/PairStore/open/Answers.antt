@@ -1,16 +1,17 @@
-use Rattle.std.proofs.Common.{◌≡◌, ◌⊎◌, inl, inr, ◌+◌, ◌≤◌, ℕ, List, Result, Ok, Err, IsErrOf, if◌then◌else◌, refl, sym, ◌∙◌, subst, arith}
+use Rattle.std.proofs.Common.{◌≡◌, inl, inr, ℕ, Err, if◌then◌else◌, refl, sym, ◌∙◌, subst, arith}
 use Rattle.std.proofs.lemmas.Result.{err_from_is_err_and}
 use Rattle.host_model.specs.declared.side.Side.{Side}
 use Rattle.host_model.specs.declared.side.Side.TheVariants.{Left, Right}
 use Rattle.host_model.specs.Hosts.{IsDurable}
 use Rattle.gate_journal.specs.Costs.{HasCost}
 use Rattle.pair_store.specs.declared.faults.PairFault.TheVariants.{DiskFault}
-use Rattle.pair_store.specs.Choice.{IsChoice}
+use Rattle.pair_store.specs.Choice.{payloads_of, IsChoice}
 use Rattle.pair_store.specs.Moments.{OpensInTwoPhases}
 use Rattle.pair_store.proofs.Answered.{IsRefused, refused, IsOpened, opened}
 use Rattle.pair_store.proofs.Below.{now_met, shut_met, then_below}
-use Rattle.pair_store.proofs.Opening.{choice_phases, choice_cost, choice_is_store, choice_not_bad, closed_image, cost_at_err, came_from}
-use Rattle.pair_store.proofs.Phases.{phases_opening, refusal_phases}
+use Rattle.pair_store.proofs.Opening.{answer_list, choice_phases, choice_cost, choice_is_store, choice_not_bad, closed_image, cost_at_err, came_from, passed_on}
+use Rattle.pair_store.proofs.Phases.{phases_opening}
+use Rattle.pair_store.proofs.Synced.{reading_phases}
 use Rattle.pair_store.proofs.store.PairStore.open.Given.{Over}
 use Rattle.pair_store.proofs.store.PairStore.open.Goals as goal
 
@@ -21,15 +22,13 @@ returns-in_err-left-clause-below g c tells = now_met g.H.Host c.args.host.now c.
 
 pub returns-in_err-left-clause-phases : goal.returns-in_err-left-clause-phases
 returns-in_err-left-clause-phases g c tells =
-    let new = c.found_both.new.host in
-    let e = c.in_err-left.field-0.0 in
     let p = err_from_is_err_and c.from_residual.result c.from_residual.ensures.1 in
-    refusal_phases g.H.Host c.args.host.now new (λ l r u met. g.met.H.Host.only_now new l r u tells met) (c.found_both.ensures.text tells) (c.found_both.ensures.any_moment tells)
-    c.from_residual.result e (cc (p.1, p.2)) (λ other. record {
-      same = c.in_err-left.ensures.same tells (λ failed. other (came_from (Err e) e DiskFault refl failed));
-      durable = c.in_err-left.ensures.durable tells (λ failed. other (came_from (Err e) e DiskFault refl failed));
-      cost = c.found_both.ensures.cost tells;
-    })
+    let e = c.in_err-left.field-0.0 in
+    let is : c.from_residual.result ≡ Err e = cc (p.1, p.2) in
+    reading_phases g.H.Host c.args.host.now c.found_both.new.host _ c.from_residual.result (λ failed. passed_on c.from_residual.result e DiskFault is (came_from _ e DiskFault refl failed)) (c.in_err-left.ensures.phases tells)
+
+pub returns-in_err-left-clause-only_read : goal.returns-in_err-left-clause-only_read
+returns-in_err-left-clause-only_read g c tells none = record { moments = c.found_both.ensures.any_moment tells; cost = c.found_both.ensures.cost tells }
 
 -- ---- a pair that is refused
 
@@ -63,6 +62,13 @@ returns-in_err-choice-clause-bad_store g c tells = (is_refused g c tells).bad_st
 pub returns-in_err-choice-clause-bad_store_where : goal.returns-in_err-choice-clause-bad_store_where
 returns-in_err-choice-clause-bad_store_where g c tells bad = inl ((is_refused g c tells).bad_store_where bad)
 
+pub returns-in_err-choice-clause-phases : goal.returns-in_err-choice-clause-phases
+returns-in_err-choice-clause-phases g c tells =
+    reading_phases g.H.Host c.args.host.now c.found_both.new.host _ c.from_residual-in_err-choice.result (λ failed. cc) (c.in_ok-left.ensures.phases tells)
+
+pub returns-in_err-choice-clause-only_read : goal.returns-in_err-choice-clause-only_read
+returns-in_err-choice-clause-only_read g c tells none = record { moments = c.found_both.ensures.any_moment tells; cost = c.found_both.ensures.cost tells }
+
 -- ---- a pair that is opened
 
 is_choice : (g : Over) (c : goal.After-store_of g) → g.H.Host.tells → IsChoice (g.H.Host.reads c.args.host.now Left) (g.H.Host.reads c.args.host.now Right) c.in_ok-choice.choice
@@ -80,6 +86,9 @@ in_phases g c tells =
     choice_phases g.H.Host c.in_ok-choice.choice c.other.result c.args.host.now c.found_both.new.host c.shut_side.new.host (is_choice g c tells) c.other.ensures
     (c.in_ok-left.ensures.same tells (λ failed. cc)) (c.in_ok-left.ensures.durable tells (λ failed. cc))
     (c.in_ok-left.ensures.text tells) (c.found_both.ensures.cost tells) (c.in_ok-left.ensures.any_moment tells) (c.shut_side.ensures.any_moment tells)
+
+pub returns-clause-only_read : goal.returns-clause-only_read
+returns-clause-only_read g c tells none = absurd (none c.store_of.result.1 (is_opened g c tells).list)
 
 pub returns-clause-list : goal.returns-clause-list
 returns-clause-list g c tells = (is_opened g c tells).list
@@ -135,6 +144,12 @@ still_in_phases g c tells =
     choice_phases g.H.Host c.in_ok-choice.choice c.other.result c.args.host.now c.found_both.new.host c.shut_side.new.host (still_choice g c tells) c.other.ensures
     (c.in_ok-left.ensures.same tells (λ failed. cc)) (c.in_ok-left.ensures.durable tells (λ failed. cc))
     (c.in_ok-left.ensures.text tells) (c.found_both.ensures.cost tells) (c.in_ok-left.ensures.any_moment tells) (c.shut_side.ensures.any_moment tells)
+
+pub returns-in_err-shut_side-clause-only_read : goal.returns-in_err-shut_side-clause-only_read
+returns-in_err-shut_side-clause-only_read g c tells none =
+    let l = g.H.Host.reads c.args.host.now Left in
+    let r = g.H.Host.reads c.args.host.now Right in
+    absurd (none (payloads_of c.in_ok-choice.choice.records) (answer_list l r c.in_ok-choice.choice (still_choice g c tells)))
 
 pub returns-in_err-shut_side-clause-phases : goal.returns-in_err-shut_side-clause-phases
 returns-in_err-shut_side-clause-phases g c tells = inr (still_in_phases g c tells)
