@@ -1,3 +1,5 @@
 pub mod Folds
 pub mod Gates
 pub mod Listed
+mod Makings
+mod Copied

@@ -2,7 +2,7 @@
 use Rattle.std.specs.Prelude.{◌≡◌, ◌⊎◌, ℕ, List}
 use Rattle.host_model.specs.declared.host.Host.{Ghosts}
 use Rattle.row_batches.specs.declared.store_row.StoreRow.{StoreRow}
-use Rattle.row_store.specs.Rows.{HasRows, HasKeptRows}
+use Rattle.row_store.specs.Rows.{HasKeptRows}
 
 -- the map of before or that of after, with a byte where the next batch begins
 abbrev pub KeepsEitherRows : {H : Type 0} → Ghosts H → H → List StoreRow → List StoreRow → List ℕ → List ℕ → List ℕ → Type 0

@@ -1,8 +1,10 @@
 -- A batch that is ready to be committed.
 use Rattle.std.specs.Prelude.{◌≡◌, ◌<◌, ◌≤◌, ◌+◌, ℕ, Bool, true, false, List, [], ◌∷◌, ◌++◌, length, if◌then◌else◌}
+use Rattle.gate_journal.specs.OpenSide.{OpenSide}
+use Rattle.host_model.specs.declared.host.Host.{Ghosts}
 use Rattle.pair_store.specs.declared.mark.TheConstants.{MARK, MAX_WHOLE}
+use Rattle.pair_store.specs.Store.{IsAppended, IsTurned}
 use Rattle.row_batches.specs.Batch.{ChangeList, IsBatch, applied, batch_text, whole_of}
-use Rattle.row_batches.specs.declared.store_row.StoreRow.{StoreRow}
 use Rattle.row_store.specs.Store.{StoredRows, place}
 
 -- the batch, what is written of it, and whether that is the whole map after it
@@ -38,3 +40,8 @@ place_after ready before = if ready.is_whole then length ready.payload + 14 else
 abbrev pub payloads_after : Bool → List (List ℕ) → List ℕ → List (List ℕ)
 payloads_after true payloads payload = payload ∷ []
 payloads_after false payloads payload = payloads ++ payload ∷ []
+
+-- what a commit makes of both sides
+abbrev pub IsCommitted : {H : Type 0} → Ghosts H → Bool → OpenSide → List ℕ → H → H → Type 0
+IsCommitted h true records payload old new = IsTurned h records payload old new
+IsCommitted h false records payload old new = IsAppended h records payload old new

@@ -2,6 +2,7 @@
 //! may leave.
 #![tactic(auto)]
 
+mod copying;
 mod faults;
 mod folding;
 mod laws;

@@ -1,26 +1,28 @@
 // A map of rows on the two sides of a host.
 ghost use Rattle.std.specs.Prelude.{◌≡◌, ◌⊎◌, ◌<◌, ◌≤◌, ◌+◌, ◌↔◌, [], ◌∷◌, List, ℕ, length, drop, OnOk, OnErr, IfOk, IsOk, IsTrue, IsErrOf, option_map};
 ghost use Rattle.gate_journal.specs.Costs.{HasCost};
+ghost use Rattle.gate_journal.specs.Records.{made_on};
 ghost use Rattle.gate_journal.specs.declared.frame.TheConstants.{MAX_PAYLOAD};
 ghost use Rattle.host_model.specs.declared.side.Side.TheVariants.{Left, Right};
 ghost use Rattle.host_model.specs.Causes.{Rose, HasCause};
 ghost use Rattle.host_model.specs.Hosts.{IsDurable, MeetsAll};
+ghost use Rattle.host_model.specs.Sides.{other};
 ghost use Rattle.pair_store.specs.declared.mark.TheConstants.{MAX_WHOLE};
-ghost use Rattle.pair_store.specs.Moments.{StaysBelow, IsOpening, OpensInPhases};
-ghost use Rattle.pair_store.specs.Pair.{HasNoStore};
-ghost use Rattle.pair_store.specs.Repair.{repair_cost, IsLeftByOpening, IsUnwritten};
-ghost use Rattle.pair_store.specs.Store.{IsClosedOn, HasFailed, PairStandsWithGate};
-ghost use Rattle.gate_journal.specs.OpenSide.{OpenSide};
+ghost use Rattle.pair_store.specs.Moments.{StaysBelow, IsMaking, IsOnlyRead, IsOpening, OpensInPhases};
+ghost use Rattle.pair_store.specs.Pair.{HasNoList, HasNoStore};
+ghost use Rattle.pair_store.specs.Repair.{repair_cost, shut_first, IsLeftByOpening, IsUnwritten};
+ghost use Rattle.pair_store.specs.Store.{store_made, IsClosedOn, HasFailed, PairStandsWithGate};
 ghost use Rattle.row_batches.specs.declared.store_row.StoreRow.{StoreRow};
 ghost use Rattle.row_batches.specs.Batch.{applied, IsBatch, batch_text, whole_of};
 ghost use Rattle.row_batches.specs.Batches.{HaveRoom};
 ghost use Rattle.row_batches.specs.Rows.{AreRows, value_of};
 ghost use Rattle.row_store.specs.Folding.{Fold};
 ghost use Rattle.row_store.specs.Moments.{KeepsEitherRows};
-ghost use Rattle.row_store.specs.Ready.{IsReadyFor, IsWritten, PassesMark, commit_cost, place_after};
+ghost use Rattle.row_store.specs.Ready.{IsCommitted, IsReadyFor, IsWritten, PassesMark, commit_cost, place_after};
 ghost use Rattle.row_store.specs.Rows.{HasRows, HasKeptRows, HasPlace, IsBad};
 ghost use Rattle.row_store.specs.Store.{RowsStand, RowsStandWithGate, KeepsRows, place};
 
+use crate::copying::copy_of;
 use crate::faults::RowMakeFault;
 use crate::folding::fold_rows;
 use crate::ready::Ready;
@@ -64,10 +66,16 @@ impl RowStore {
         requires closed { H.tells → IsClosedOn H.Host host.old }
 
         ensures made { H.tells → OnOk result (KeepsRows H.Host host.new (applied whole.now [])) }
+        ensures stands { H.tells → OnOk result (PairStandsWithGate H.Host (store_made (batch_text whole.now)) host.new (batch_text whole.now ∷ [])) }
+        ensures place { H.tells → OnOk result (HasPlace (H.reads host.new Left) (H.reads host.new Right) (length (batch_text whole.now) + 14)) }
         ensures memory { IsErrOf result RowMakeFault.OutOfMemory → host.new ≡ host.old }
 
-        // The right side is as it was, but for a first byte 0.
+        // The left side has the journal's bytes, and the right one a first byte 0; else both are as they were.
+        ensures left { H.tells → OnOk result (H.reads host.new Left ≡ made_on 0 (batch_text whole.now) (H.reads host.old Left)) }
         ensures right { H.tells → OnOk result (H.reads host.new Right ≡ 0 ∷ drop 1 (H.reads host.old Right)) }
+
+        // At each moment one of the three steps of a making is at work.
+        ensures any_moment { H.tells → MeetsAll H.Host host.old host.new (IsMaking H.Host host.old (batch_text whole.now)) }
         ensures below { H.tells → MeetsAll H.Host host.old host.new (StaysBelow H.Host host.old) }
 
         ensures cost { H.tells → HasCost (length (batch_text whole.now) + 17) (H.written host.old) (H.written host.new) result }
@@ -105,6 +113,13 @@ impl RowStore {
         ensures phases { H.tells → OpensInPhases H.Host host.old host.new result }
         ensures below { H.tells → MeetsAll H.Host host.old host.new (StaysBelow H.Host host.old) }
 
+        // The side that counts is as it was, and the other one too but for a first byte 1, which is 0 then.
+        ensures same { H.tells → IfOk result (λ store. H.reads host.new store.records.side ≡ H.reads host.old store.records.side) }
+        ensures shut { H.tells → IfOk result (λ store. H.reads host.new (other store.records.side) ≡ shut_first (H.reads host.old (other store.records.side))) }
+
+        // Where the pair that was read has no list of payloads, nothing is written, whatever the answer.
+        ensures only_read { H.tells → HasNoList (H.reads host.old Left) (H.reads host.old Right) → IsOnlyRead H.Host host.old host.new }
+
         // Unless the disk fails, each image is what reads give then. Where there is no store, nothing is written.
         ensures left { H.tells → ¬ IsErrOf result PairFault.DiskFault → IsLeftByOpening H.Host host.old host.new }
         ensures none_written { H.tells → IsErrOf result PairFault.NoStore → IsUnwritten H.Host host.old host.new }
@@ -139,48 +154,47 @@ impl RowStore {
         self.rows.as_slice()
     }
 
-    /// Makes a batch ready to be committed, and reserves the room for it: no row is changed. Want of memory leaves the rows and
+    /// Makes a batch ready to be committed, as a copy of its own, and reserves the room for it: no row is changed. Want of memory leaves the rows and
     /// their room as they were.
-    pub fn prepare(&mut self, alloc: Global, batch: Batch) -> Result<Ready, AllocError>
-        requires size { length (batch_text batch) ≤ MAX_PAYLOAD }
-        requires whole_size { length (batch_text (whole_of (applied batch self.old.rows))) ≤ MAX_WHOLE }
+    pub fn prepare(&mut self, alloc: Global, batch: &Batch) -> Result<Ready, AllocError>
+        requires size { length (batch_text batch.now) ≤ MAX_PAYLOAD }
+        requires whole_size { length (batch_text (whole_of (applied batch.now self.old.rows))) ≤ MAX_WHOLE }
 
         ensures ready { IfOk result (λ ready. IsReadyFor self.new ready) }
-        ensures batch { IfOk result (λ ready. ready.batch ≡ batch) }
+        ensures batch { IfOk result (λ ready. ready.batch ≡ batch.now) }
 
         // It is the whole map's exactly where a record of the batch would pass byte 33,554,432.
-        ensures whole { IfOk result (λ ready. IsTrue ready.is_whole ↔ PassesMark self.old batch) }
+        ensures whole { IfOk result (λ ready. IsTrue ready.is_whole ↔ PassesMark self.old batch.now) }
 
         ensures rows { self.new.rows ≡ self.old.rows }
         ensures records { self.new.records ≡ self.old.records }
         ensures err { OnErr result (self.new ≡ self.old) }
     {
-        let more = batch.changes().len();
         let ready = self.ready_for(alloc, batch)?;
-        self.rows.reserve(more)?;
+        self.rows.reserve(batch.changes().len())?;
         Ok(ready)
     }
 
     // The batch with what is written of it.
-    fn ready_for(&self, alloc: Global, batch: Batch) -> Result<Ready, AllocError>
-        requires size { length (batch_text batch) ≤ MAX_PAYLOAD }
-        requires whole_size { length (batch_text (whole_of (applied batch self.now.rows))) ≤ MAX_WHOLE }
-        ensures batch { IfOk result (λ ready. ready.batch ≡ batch) }
-        ensures rules { IfOk result (λ _. IsBatch batch) }
-        ensures written { IfOk result (λ ready. IsWritten ready.is_whole self.now batch ready.payload) }
+    fn ready_for(&self, alloc: Global, batch: &Batch) -> Result<Ready, AllocError>
+        requires size { length (batch_text batch.now) ≤ MAX_PAYLOAD }
+        requires whole_size { length (batch_text (whole_of (applied batch.now self.now.rows))) ≤ MAX_WHOLE }
+        ensures batch { IfOk result (λ ready. ready.batch ≡ batch.now) }
+        ensures rules { IfOk result (λ _. IsBatch batch.now) }
+        ensures written { IfOk result (λ ready. IsWritten ready.is_whole self.now batch.now ready.payload) }
     {
         let bytes = batch.bytes(alloc)?;
         let frame = frame_of(alloc, &bytes)?;
         if self.pair.wants_checkpoint(&frame) {
             let whole = batch.whole_after(alloc, self.rows.as_slice())?;
             Ok(Ready {
-                batch,
+                batch: copy_of(alloc, batch)?,
                 frame: frame_of(alloc, &whole)?,
                 is_whole: true,
             })
         } else {
             Ok(Ready {
-                batch,
+                batch: copy_of(alloc, batch)?,
                 frame,
                 is_whole: false,
             })
@@ -194,6 +208,7 @@ impl RowStore {
         requires stands { H.tells → RowsStand H.Host self.old host.old }
 
         ensures acknowledged { H.tells → OnOk result (RowsStandWithGate H.Host self.new host.new) }
+        ensures bytes { H.tells → OnOk result (IsCommitted H.Host ready.is_whole self.old.records ready.payload host.old host.new) }
         ensures rows { OnOk result (self.new.rows ≡ applied ready.batch self.old.rows) }
         ensures same { OnErr result (self.new ≡ self.old) }
 
@@ -222,8 +237,10 @@ impl RowStore {
 fn make_pair<H: Host>(host: &mut H, first: &Frame) -> Result<(), DiskFailed>
     requires fits { length first.now ≤ MAX_WHOLE }
     requires closed { H.tells → IsClosedOn H.Host host.old }
-    ensures made { H.tells → OnOk result ((records : OpenSide) × PairStandsWithGate H.Host records host.new (first.now ∷ [])) }
+    ensures stands { H.tells → OnOk result (PairStandsWithGate H.Host (store_made first.now) host.new (first.now ∷ [])) }
+    ensures left { H.tells → OnOk result (H.reads host.new Left ≡ made_on 0 first.now (H.reads host.old Left)) }
     ensures right { H.tells → OnOk result (H.reads host.new Right ≡ 0 ∷ drop 1 (H.reads host.old Right)) }
+    ensures any_moment { H.tells → MeetsAll H.Host host.old host.new (IsMaking H.Host host.old first.now) }
     ensures below { H.tells → MeetsAll H.Host host.old host.new (StaysBelow H.Host host.old) }
     ensures cost { H.tells → HasCost (length first.now + 17) (H.written host.old) (H.written host.new) result }
     ensures cause { HasCause (H.disk_faults host.old) (H.disk_faults host.new) result }

@@ -6,7 +6,7 @@ ghost use Rattle.host_model.specs.Hosts.{MeetsAll};
 ghost use Rattle.pair_store.specs.declared.mark.TheConstants.{MARK, MAX_WHOLE};
 ghost use Rattle.pair_store.specs.Moments.{KeepsEither, StaysBelow};
 ghost use Rattle.pair_store.specs.Store.{PairStands, PairStandsWithGate};
-ghost use Rattle.row_store.specs.Ready.{payloads_after};
+ghost use Rattle.row_store.specs.Ready.{payloads_after, IsCommitted};
 
 use gate_journal::Frame;
 use host_model::{DiskFailed, Host};
@@ -24,6 +24,7 @@ pub(crate) fn write_payload<H: Host>(
     requires stands { H.tells → (payloads : List (List ℕ)) × PairStands H.Host pair.old host.old payloads }
     ensures acknowledged { H.tells → (payloads : List (List ℕ)) → PairStands H.Host pair.old host.old payloads
         → OnOk result (PairStandsWithGate H.Host pair.new host.new (payloads_after is_whole payloads frame.now)) }
+    ensures bytes { H.tells → OnOk result (IsCommitted H.Host is_whole pair.old frame.now host.old host.new) }
     ensures any_moment { H.tells → (payloads : List (List ℕ)) → PairStandsWithGate H.Host pair.old host.old payloads
         → MeetsAll H.Host host.old host.new (KeepsEither H.Host host.old payloads (payloads_after is_whole payloads frame.now)) }
     ensures below { H.tells → MeetsAll H.Host host.old host.new (StaysBelow H.Host host.old) }

@@ -374,7 +374,7 @@ fn ready_in(alloc: Global, rows: &mut RowStore, changes: &str) -> Result<Ready, 
     if !fits(alloc, rows, &batch)? {
         return Err(Unready::TooLong);
     }
-    match rows.prepare(alloc, batch) {
+    match rows.prepare(alloc, &batch) {
         Ok(ready) => Ok(ready),
         Err(AllocError) => Err(Unready::OutOfMemory),
     }

@@ -1,4 +1,4 @@
-use Rattle.std.proofs.Common.{◌≡◌, List, ℕ, [], sym, ap, ◌∙◌, subst}
+use Rattle.std.proofs.Common.{◌≡◌, List, [], sym, ap, ◌∙◌, subst}
 use Rattle.host_model.specs.Hosts.{MeetsAll}
 use Rattle.pair_store.specs.Moments.{KeepsEither}
 use Rattle.pair_store.specs.Store.{PairStands, PairStandsWithGate}

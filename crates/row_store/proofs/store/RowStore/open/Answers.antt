@@ -1,4 +1,4 @@
-use Rattle.std.proofs.Common.{◌≡◌, Err, inl, inr, ap}
+use Rattle.std.proofs.Common.{Err, inl, inr, ap}
 use Rattle.pair_store.specs.declared.faults.PairFault.TheVariants.{NoStore, BadStore, DiskFault}
 use Rattle.host_model.specs.declared.side.Side.TheVariants.{Left, Right}
 use Rattle.row_store.proofs.Folds.{failed, failed_too, fault_is, fold_same, not_ok, phases_on}
