@@ -72,8 +72,5 @@ holds_here P (f ∷ front) x more all = holds_here P front x more all.1
 pub next_in : (batch : ChangeList) (front : List RowChange) (c : RowChange) (more : List RowChange) → IsBatch batch → batch.changes ≡ front ++ c ∷ more → ComesNext (key_in c) front
 next_in batch front c more rules is = before_here front c more (subst (λ cs. Rise (map key_in cs)) is rules.rise)
 
-pub fits_in : (batch : ChangeList) (front : List RowChange) (c : RowChange) (more : List RowChange) → IsBatch batch → batch.changes ≡ front ++ c ∷ more → FitsFields c
-fits_in batch front c more rules is = holds_here FitsFields front c more (subst (AllByRecursion FitsFields) is rules.room)
-
 pub put_in : (batch : ChangeList) (front : List RowChange) (c : RowChange) (more : List RowChange) → IsBatch batch → batch.changes ≡ front ++ c ∷ more → IsTrue batch.clear → IsPut c
 put_in batch front c more rules is clear = holds_here IsPut front c more (subst (AllByRecursion IsPut) is (rules.puts clear))

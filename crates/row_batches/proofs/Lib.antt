@@ -5,6 +5,7 @@ pub mod FieldsRead
 pub mod Found
 pub mod Joining
 pub mod Gaps
+pub mod ItemWalks
 pub mod Keeping
 pub mod Merged
 pub mod OneSpelling

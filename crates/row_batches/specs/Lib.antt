@@ -3,6 +3,7 @@ pub mod BatchParts
 pub mod Batches
 pub mod Between
 pub mod Gap
+pub mod ItemRows
 pub mod Laws
 pub mod Merging
 pub mod Places

@@ -1,9 +1,6 @@
--- One step of a walk over the rows of two maps.
-use Rattle.std.specs.Prelude.{◌≡◌, ◌<◌, ◌+◌, List, [], ◌∷◌, ◌++◌, length}
-use Rattle.row_batches.specs.declared.between.Step.{Step}
-use Rattle.row_batches.specs.declared.between.Step.TheVariants as step
+-- A turn of a walk over the rows of two maps.
+use Rattle.std.specs.Prelude.{◌≡◌, ◌<◌, ◌+◌, List, ◌++◌, length}
 use Rattle.row_batches.specs.declared.change.RowChange.{RowChange}
-use Rattle.row_batches.specs.declared.change.RowChange.TheVariants as change
 use Rattle.row_batches.specs.declared.store_row.StoreRow.{StoreRow}
 use Rattle.row_batches.specs.Between.{changes_between}
 
@@ -11,9 +8,3 @@ use Rattle.row_batches.specs.Between.{changes_between}
 pub record IsTurn (changes : List RowChange) (olds_left news_left olds news : List StoreRow) : Type 0 where
   pub split : changes_between olds news ≡ changes ++ changes_between olds_left news_left
   pub fewer : length olds_left + length news_left < length olds + length news
-
-abbrev pub IsStep : List StoreRow → List StoreRow → Step → Type 0
-IsStep olds news step.End = changes_between olds news ≡ []
-IsStep olds news (step.Delete key left) = IsTurn (change.Delete key.now ∷ []) left.now news olds news
-IsStep olds news (step.Put new olds_left news_left) = IsTurn (change.Put new.now ∷ []) olds_left.now news_left.now olds news
-IsStep olds news (step.Same olds_left news_left) = IsTurn [] olds_left.now news_left.now olds news

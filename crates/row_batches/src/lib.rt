@@ -3,7 +3,6 @@
 #![tactic(auto)]
 
 mod batch;
-mod between;
 mod change;
 mod fault;
 mod gap;
@@ -11,15 +10,18 @@ mod laws;
 mod merging;
 mod parts;
 mod reading;
+mod row_form;
 mod row_map;
 mod store_row;
+mod walking;
 mod writing;
 
 pub use batch::Batch;
-pub use between::change_between;
 pub use change::RowChange;
 pub use fault::BatchFault;
-pub use laws::{empty_between, one_spelling};
+pub use laws::{between_makes, empty_between, one_spelling};
 pub use reading::batch_of;
+pub use row_form::RowForm;
 pub use row_map::RowMap;
 pub use store_row::StoreRow;
+pub use walking::{add_changes, add_rows};

@@ -1,0 +1,6 @@
+use Rattle.std.proofs.Common.{◌≡◌, ◌++◌, take}
+use Rattle.row_batches.specs.ItemRows.{item_rows}
+use Rattle.row_batches.proofs.walking.add_each.Given as goal
+
+abbrev pub invariant-loop-item : goal.invariant-loop-item
+invariant-loop-item g l = l.rows ≡ l.initial.rows ++ item_rows (g.F.RowForm.has_row l.form) (g.F.RowForm.key l.form) (g.F.RowForm.value l.form) (take l.item-index l.items)
