@@ -1,7 +1,7 @@
 pub mod ByteOrder
 pub mod Numbers
 pub mod Parts
-pub mod EntryTurns
+pub mod EntryOrder
 pub mod RowSizes
 pub mod RowsOfNext
 pub mod Order

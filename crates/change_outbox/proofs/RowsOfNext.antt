@@ -10,8 +10,7 @@ use Rattle.row_batches.specs.declared.change.RowChange.{RowChange}
 use Rattle.row_batches.specs.declared.change.RowChange.TheVariants.{Put, Delete}
 use Rattle.row_batches.specs.declared.store_row.StoreRow.{StoreRow}
 use Rattle.change_outbox.specs.declared.change.Change.{Change}
-use Rattle.change_outbox.specs.EntrySteps.{entry_rows}
-use Rattle.change_outbox.specs.Rows.{next_row, next_rows, number_text}
+use Rattle.change_outbox.specs.Rows.{entry_rows, next_row, next_rows, number_text}
 use Rattle.change_outbox.proofs.ByteOrder.{same_numbers}
 use Rattle.change_outbox.proofs.Order.{next_below}
 

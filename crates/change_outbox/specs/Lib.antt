@@ -1,6 +1,5 @@
 pub mod Changes
 pub mod Contents
-pub mod EntrySteps
 pub mod Laws
 pub mod Rows
 pub mod Shown

@@ -26,6 +26,9 @@ change_key number = 120 ∷ number_text number
 abbrev pub change_row : Change → StoreRow
 change_row c = record { key = change_key c.number; value = change_text c.kind c.slug c.branch }
 
+abbrev pub entry_rows : List Change → List StoreRow
+entry_rows cs = map change_row cs
+
 -- the next number stands under the letter x alone
 abbrev pub next_row : ℕ → StoreRow
 next_row next = record { key = codes "x"; value = number_text next }

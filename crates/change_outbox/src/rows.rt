@@ -1,14 +1,15 @@
 // The rows of an outbox.
-ghost use Rattle.std.specs.Prelude.{◌≡◌, ◌++◌, map, IfOk, OnOk};
-ghost use Rattle.row_batches.specs.Rows.{AreRows};
+ghost use Rattle.std.specs.Prelude.{◌≡◌, ◌↔◌, ◌++◌, map, refl, true, IfOk, IsTrue, OnOk, ⊤};
+ghost use Rattle.row_batches.specs.Rows.{AreRows, key_cmp};
 ghost use Rattle.change_outbox.specs.Contents.{IsSound};
 ghost use Rattle.change_outbox.specs.Rows.{change_key, change_row, change_text, kind_letter, next_row, next_rows, number_text, rows_of};
 
 use crate::change::{Change, ChangeKind};
 use crate::outbox::Outbox;
-use row_batches::StoreRow;
+use row_batches::{RowForm, StoreRow, add_rows};
 use sequences::Sequence;
 use std::alloc::{AllocError, Global};
+use std::cmp::Ordering;
 
 /// The letter that begins the key of each row.
 pub(crate) const OUTBOX: u8 = b'x';
@@ -30,7 +31,7 @@ impl Outbox {
     {
         let mut rows = Sequence::new(alloc);
         add_next_row(alloc, &mut rows, self.next())?;
-        add_change_rows(alloc, &mut rows, self.entries())?;
+        add_rows(alloc, &mut rows, &EntryRows, self.entries())?;
         Ok(rows)
     }
 }
@@ -45,20 +46,6 @@ fn add_next_row(alloc: Global, rows: &mut Sequence<StoreRow>, next: u64) -> Resu
     Ok(())
 }
 
-// Adds the row of each change.
-fn add_change_rows(
-    alloc: Global,
-    rows: &mut Sequence<StoreRow>,
-    changes: &[Change],
-) -> Result<(), AllocError>
-    ensures { OnOk result (rows.new ≡ rows.old ++ map change_row changes.now) }
-{
-    for change in changes {
-        rows.push(change_row(alloc, change)?)?;
-    }
-    Ok(())
-}
-
 /// The row of the next number.
 pub(crate) fn next_row(alloc: Global, next: u64) -> Result<StoreRow, AllocError>
     ensures { IfOk result (λ row. row ≡ next_row next) }
@@ -69,18 +56,74 @@ pub(crate) fn next_row(alloc: Global, next: u64) -> Result<StoreRow, AllocError>
     })
 }
 
-/// The row of a change.
-pub(crate) fn change_row(alloc: Global, change: &Change) -> Result<StoreRow, AllocError>
-    ensures { IfOk result (λ row. row ≡ change_row change.now) }
-{
-    Ok(StoreRow {
-        key: key_of(alloc, change.number)?,
-        value: value_of(alloc, change)?,
-    })
+/// How entries stand as rows.
+pub(crate) struct EntryRows;
+
+impl RowForm<Change> for EntryRows {
+    ghost has_row = { λ form _. true };
+
+    ghost key = { λ form entry. change_key entry.number };
+
+    ghost value = { λ form entry. change_text entry.kind entry.slug entry.branch };
+
+    ghost rows = { λ form entries. map change_row entries };
+
+    ghost fits = { λ _. ⊤ };
+
+    ghost none = { λ form. refl };
+
+    ghost each = { λ form entry entries. refl };
+
+    fn has_row(&self, _item: &Change) -> bool {
+        true
+    }
+
+    fn key_order(&self, old: &Change, new: &Change) -> Ordering {
+        key_order(old.number, new.number)
+    }
+
+    fn has_same_value(&self, old: &Change, new: &Change) -> bool {
+        is_same(old, new)
+    }
+
+    fn key(&self, alloc: Global, item: &Change) -> Result<Sequence<u8>, AllocError> {
+        key_of(alloc, item.number)
+    }
+
+    fn value(&self, alloc: Global, item: &Change) -> Result<Sequence<u8>, AllocError> {
+        value_of(alloc, item)
+    }
 }
 
-/// The letter and the number.
-pub(crate) fn key_of(alloc: Global, number: u64) -> Result<Sequence<u8>, AllocError>
+// How the keys of the rows of two numbers compare.
+#[tactic(auto, using(crate::proofs::EntryOrder::key_order_is))]
+fn key_order(old: u64, new: u64) -> Ordering
+    ensures { result ≡ key_cmp (change_key old) (change_key new) }
+{
+    old.cmp(&new)
+}
+
+// Whether changes have the same kind, slug and branch.
+fn is_same(old: &Change, new: &Change) -> bool
+    ensures { IsTrue result ↔ (change_text old.now.kind old.now.slug old.now.branch ≡ change_text new.now.kind new.now.slug new.now.branch) }
+{
+    if !is_same_kind(old.kind, new.kind) {
+        return false;
+    }
+    if old.slug != new.slug {
+        return false;
+    }
+    old.branch == new.branch
+}
+
+fn is_same_kind(old: ChangeKind, new: ChangeKind) -> bool
+    ensures { IsTrue result ↔ (old ≡ new) }
+{
+    old == new
+}
+
+// The letter and the number.
+fn key_of(alloc: Global, number: u64) -> Result<Sequence<u8>, AllocError>
     ensures { IfOk result (λ key. key ≡ change_key number) }
 {
     let mut key = Vec::with_capacity(alloc, 9)?;

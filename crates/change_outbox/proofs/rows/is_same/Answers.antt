@@ -1,8 +1,8 @@
 use Rattle.std.proofs.Common.{rules, ◌≡◌, IsTrue, sym, ◌∙◌}
 use Rattle.std.specs.Cmp.Lexicographic.{bytes_decides}
-use Rattle.change_outbox.proofs.EntryTurns.{is_other, is_one}
+use Rattle.change_outbox.proofs.EntryOrder.{is_other, is_one}
 use Rattle.change_outbox.proofs.OneList.{same_text, text_of_parts}
-use Rattle.change_outbox.proofs.entry_changes.is_same.Goals as goal
+use Rattle.change_outbox.proofs.rows.is_same.Goals as goal
 
 pub returns-then-ne : goal.returns-then-ne
 returns-then-ne c =
