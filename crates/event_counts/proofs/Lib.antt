@@ -9,7 +9,6 @@ pub mod SameRows
 pub mod Values
 pub mod RowsRead
 pub mod RowSizes
-pub mod RowTurns
 pub mod InOrder
 pub mod NameTexts
 pub mod Sums

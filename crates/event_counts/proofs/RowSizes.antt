@@ -1,5 +1,5 @@
 -- How many bytes the rows of counts take.
-use Rattle.std.proofs.Common.{◌≡◌, ◌+◌, ◌<◌, ◌≤◌, ◌++◌, ◌∷◌, [], List, ℕ, zero, suc, map, length, length-append, get_or, take, Bool, true, false, IsTrue, refl, ap, ◌∙◌, sym, subst, arith}
+use Rattle.std.proofs.Common.{◌≡◌, ◌+◌, ◌<◌, ◌≤◌, ◌++◌, ◌∷◌, [], List, ℕ, zero, suc, length, length-append, get_or, take, Bool, true, false, IsTrue, refl, ap, ◌∙◌, sym, subst, arith}
 use Rattle.std.specs.Prelude.{◌&&◌, nat_le, nat_lt}
 use Rattle.std.proofs.lemmas.Bool.{leb-true}
 use Rattle.std.proofs.lemmas.List.{map-append, take_more}
@@ -8,9 +8,8 @@ use Rattle.plain_text.specs.Names.{is_name}
 use Rattle.row_batches.proofs.Sizes.{put_size, puts_text-append}
 use Rattle.row_batches.specs.Batch.{puts_text}
 use Rattle.event_counts.specs.declared.name_counts.NameCounts.{NameCounts}
-use Rattle.event_counts.specs.RowSteps.{AreCounted}
 use Rattle.event_counts.specs.Rows.{row_of, rows_of}
-use Rattle.event_counts.specs.Sound.{HaveCounts, IsSoundName}
+use Rattle.event_counts.specs.Sound.{IsSoundName}
 use Rattle.event_counts.proofs.SameRows.{length-value}
 
 both : (a b : Bool) → (a && b) ≡ true → (a ≡ true) × (b ≡ true)
@@ -19,13 +18,6 @@ both false b is = absurd cc
 
 pub name_short : (name : List ℕ) → IsTrue (is_name name) → length name ≤ 80
 name_short name is = leb-true (length name) 80 (both _ _ (both (nat_lt 0 (length name) && nat_le (length name) 80) _ is).0).1
-
-have_counts : (ns : List NameCounts) → AllByRecursion IsSoundName ns → AllByRecursion HaveCounts ns
-have_counts [] sound = tt
-have_counts (n ∷ ns) sound = (sound.0.lists, have_counts ns sound.1)
-
-pub are_counted : (ns ms : List NameCounts) → AllByRecursion IsSoundName ns → AllByRecursion IsSoundName ms → AreCounted ns ms
-are_counted ns ms sound other = record { old = have_counts ns sound; new = have_counts ms other }
 
 pub sound_at : (ns : List NameCounts) (i : ℕ) (n : NameCounts) → AllByRecursion IsSoundName ns → i < length ns → n ≡ get_or ns i n → IsSoundName n
 sound_at [] i n sound within is = absurd (omega (arith, within))

@@ -5,6 +5,5 @@ pub mod Kept
 pub mod View
 pub mod Places
 pub mod Rows
-pub mod RowSteps
 pub mod History
 pub mod Laws

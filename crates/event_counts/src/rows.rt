@@ -1,16 +1,17 @@
 // The rows that keep counts in a store.
-ghost use Rattle.std.specs.Prelude.{◌≡◌, ◌++◌, codes, IfOk, OnOk};
+ghost use Rattle.std.specs.Prelude.{◌≡◌, ◌↔◌, ◌++◌, codes, refl, true, IfOk, IsTrue, OnOk};
 ghost use Rattle.row_batches.specs.Rows.{AreRows};
-ghost use Rattle.event_counts.specs.Rows.{list_bytes, row_of, rows_of, value_of};
-ghost use Rattle.event_counts.specs.Sound.{AreInOrder};
+ghost use Rattle.event_counts.specs.Rows.{list_bytes, rows_of, value_of};
+ghost use Rattle.event_counts.specs.Sound.{AreInOrder, HaveCounts, IsSoundName};
 
 use crate::counts::Counts;
 use crate::name_counts::NameCounts;
 use crate::ring::Ring;
 use crate::shared_counts::SharedCounts;
-use row_batches::StoreRow;
+use row_batches::{RowForm, StoreRow, add_rows};
 use sequences::Sequence;
 use std::alloc::{AllocError, Global};
+use std::cmp::Ordering;
 
 /// What the key of each row begins with.
 pub(crate) const TAG: u8 = b'e';
@@ -36,25 +37,64 @@ fn rows_of(alloc: Global, names: &[SharedCounts]) -> Result<Sequence<StoreRow>, 
     ensures order { IfOk result AreRows }
 {
     let mut rows = Sequence::new(alloc);
-    for counts in names {
-        rows.push(row_of(alloc, counts.get())?)?;
-    }
+    add_rows(alloc, &mut rows, &CountRows, names)?;
     Ok(rows)
 }
 
-/// The row of the counts of a name.
-pub(crate) fn row_of(alloc: Global, counts: &NameCounts) -> Result<StoreRow, AllocError>
-    ensures { IfOk result (λ row. row ≡ row_of counts.now) }
-{
-    let value = value_of(alloc, counts)?;
-    Ok(StoreRow {
-        key: key_of(alloc, counts)?,
-        value: Sequence::from_vec(value),
-    })
+/// How the counts of names stand as rows.
+pub(crate) struct CountRows;
+
+impl RowForm<SharedCounts> for CountRows {
+    ghost has_row = { λ form _. true };
+
+    ghost key = { λ form counts. codes "e" ++ counts.name };
+
+    ghost value = { λ form counts. value_of counts };
+
+    ghost rows = { λ form names. rows_of names };
+
+    ghost fits = { λ counts. IsSoundName counts };
+
+    ghost none = { λ form. refl };
+
+    ghost each = { λ form counts names. refl };
+
+    fn has_row(&self, _item: &SharedCounts) -> bool {
+        true
+    }
+
+    fn key_order(&self, old: &SharedCounts, new: &SharedCounts) -> Ordering {
+        old.get().name.cmp(&new.get().name)
+    }
+
+    fn has_same_value(&self, old: &SharedCounts, new: &SharedCounts) -> bool {
+        is_same(old.get(), new.get())
+    }
+
+    fn key(&self, alloc: Global, item: &SharedCounts) -> Result<Sequence<u8>, AllocError> {
+        key_of(alloc, item.get())
+    }
+
+    fn value(&self, alloc: Global, item: &SharedCounts) -> Result<Sequence<u8>, AllocError> {
+        Ok(Sequence::from_vec(value_of(alloc, item.get())?))
+    }
 }
 
-/// The key of the row of the counts of a name.
-pub(crate) fn key_of(alloc: Global, counts: &NameCounts) -> Result<Sequence<u8>, AllocError>
+// Whether the counts are the same, of whichever names.
+#[tactic(auto, using(crate::proofs::SameRows::fields_same, crate::proofs::SameRows::same_value))]
+fn is_same(old: &NameCounts, new: &NameCounts) -> bool
+    requires old_counts { HaveCounts old.now }
+    requires new_counts { HaveCounts new.now }
+    ensures { IsTrue result ↔ (value_of old.now ≡ value_of new.now) }
+{
+    old.latest == new.latest
+        && old.hours.is_same(&new.hours)
+        && old.days.is_same(&new.days)
+        && old.weeks.is_same(&new.weeks)
+}
+
+// The key of the row of the counts of a name.
+fn key_of(alloc: Global, counts: &NameCounts) -> Result<Sequence<u8>, AllocError>
     ensures { IfOk result (λ key. key ≡ codes "e" ++ counts.now.name) }
 {
     let name = counts.name.as_str().as_bytes();
