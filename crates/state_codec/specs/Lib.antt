@@ -5,6 +5,6 @@ pub mod Sound
 pub mod Laws
 pub mod Folds
 pub mod Reading
-pub mod Walking
+pub mod RecipeChanges
 pub mod RecipeLists
 pub mod Sizes

@@ -9,16 +9,15 @@ ghost use Rattle.state_codec.specs.RecipeLists.{HasLists};
 ghost use Rattle.state_codec.specs.Sound.{IsSound};
 ghost use Rattle.state_values.specs.Values.{participation};
 ghost use Rattle.state_codec.specs.Spelling.{status_rows, last_rows, pending_recipes, rows_behind_recipes, first_rows, later_rows, rows_of, spelling};
-ghost use Rattle.state_codec.specs.Walking.{live_changes, pending_changes};
+ghost use Rattle.state_codec.specs.RecipeChanges.{live_changes, pending_changes};
 
 use crate::recipe_lists::RecipeLists;
 use crate::row_kind::RowKind;
 use crate::row_making::{flag_row, id_row, moment_row, participation_row, version_row};
 use crate::rows::rows_of;
-use crate::walking::add_changes;
 use enrol_states::State;
 use recipe_reader::{Recipe, Recipes};
-use row_batches::{Batch, RowChange, StoreRow};
+use row_batches::{Batch, RowChange, StoreRow, add_changes};
 use sequences::Sequence;
 use std::alloc::{AllocError, Global};
 
@@ -106,7 +105,7 @@ fn changes_of(
 }
 
 /// The changes from the first rows of a state to those of the next, as `change_between` has them of all rows.
-#[tactic(auto, using(crate::proofs::Items::all_so), unfolding(crate::specs::Spelling::first_rows))]
+#[tactic(auto, using(row_batches::proofs::ItemWalks::all_fit), unfolding(crate::specs::Spelling::first_rows))]
 pub fn first_changes(
     alloc: Global,
     old: &State,
@@ -118,7 +117,7 @@ pub fn first_changes(
     add_changes(
         alloc,
         &mut changes,
-        RowKind::Coenrolling,
+        &RowKind::Coenrolling,
         old.coenrolling.as_slice(),
         new.coenrolling.as_slice(),
     )?;
@@ -181,7 +180,7 @@ fn add_recipes(
             add_changes(
                 alloc,
                 changes,
-                RowKind::Live,
+                &RowKind::Live,
                 old.live.as_slice(),
                 new.live.as_slice(),
             )?;
@@ -205,14 +204,14 @@ fn add_pending(
     add_changes(
         alloc,
         changes,
-        RowKind::Pending,
+        &RowKind::Pending,
         pending_recipes(&old.pending),
         pending_recipes(&new.pending),
     )
 }
 
 // Adds the changes of the rows behind those of recipes.
-#[tactic(auto, using(crate::proofs::Items::all_so))]
+#[tactic(auto, using(row_batches::proofs::ItemWalks::all_fit))]
 fn add_behind_recipes(
     alloc: Global,
     changes: &mut Sequence<RowChange>,
@@ -226,7 +225,7 @@ fn add_behind_recipes(
     add_changes(
         alloc,
         changes,
-        RowKind::OptedOut,
+        &RowKind::OptedOut,
         old.opted_out.as_slice(),
         new.opted_out.as_slice(),
     )?;
@@ -254,7 +253,7 @@ fn add_statuses(
     add_changes(
         alloc,
         changes,
-        RowKind::Status,
+        &RowKind::Status,
         old.rows.as_slice(),
         new.rows.as_slice(),
     )

@@ -16,7 +16,6 @@ mod rows;
 mod sections;
 mod size;
 mod state_reading;
-mod walking;
 
 pub use changes::{
     change_after, change_between, first_changes, later_changes, whole_batch, write_state,

@@ -1,5 +1,5 @@
 // How many bytes the rows of recipes take, and those of the next state's recipes by those of the recipes of before.
-ghost use Rattle.std.specs.Prelude.{◌≡◌, ◌≤◌, ◌+◌, ◌*◌, ◌^◌, length};
+ghost use Rattle.std.specs.Prelude.{◌≡◌, ◌≤◌, ◌+◌, ◌*◌, ◌^◌, ◌∷◌, [], length, IfSome, IfNone};
 ghost use Rattle.json_tree.specs.Json.{IsSound};
 ghost use Rattle.recipe_reader.specs.Payloads.{AreValid};
 ghost use Rattle.recipe_reader.specs.Records.{IsValid, record_json};
@@ -7,7 +7,6 @@ ghost use Rattle.state_codec.specs.Sizes.{recipe_size, recipes_size};
 ghost use Rattle.state_codec.specs.Sound.{AreRecords};
 
 use crate::size::PUT;
-use crate::walking::first_of;
 use recipe_reader::{Recipe, record_length};
 use std::cmp::Ordering;
 
@@ -68,6 +67,17 @@ pub(crate) fn recipes_size_after(before: u128, olds: &[Recipe], news: &[Recipe])
                 news = news_behind;
             }
         }
+    }
+}
+
+// The first recipe, and those behind it.
+fn first_of(recipes: &[Recipe]) -> Option<(&Recipe, &[Recipe])>
+    ensures some { IfSome result (λ p. recipes.now ≡ p.0.now ∷ p.1.now) }
+    ensures none { IfNone result (recipes.now ≡ []) }
+{
+    match recipes {
+        [] => None,
+        [recipe, behind @ ..] => Some((recipe, behind)),
     }
 }
 

@@ -1,143 +1,176 @@
-// What the items of a state's lists have in common: each has a row, whose key is the letter of its kind and a text.
-ghost use Rattle.std.specs.Prelude.{◌≡◌, ℕ, List, [], bytes_eq, IfOk, ⊤};
+// How the items of a state's lists stand as rows: the key is the letter of their kind and a text.
+ghost use Rattle.std.specs.Prelude.{◌∷◌, [], map, refl, true, ⊤};
 ghost use Rattle.recipe_reader.specs.Records.{IsValid};
-ghost use Rattle.recipe_reader.specs.declared.recipe.Recipe.{Recipe};
 ghost use Rattle.enrol_states.specs.Statuses.{IsStatus};
-ghost use Rattle.enrol_states.specs.declared.state.Row.{Row};
 ghost use Rattle.state_codec.specs.Kinds.{letter};
 ghost use Rattle.state_values.specs.Values.{recipe_text};
 ghost use Rattle.state_codec.specs.Spelling.{item_row};
 ghost use Rattle.state_values.specs.Statuses.{status_bytes};
 
 use crate::row_kind::RowKind;
-use crate::row_making::row_of;
+use crate::row_making::key_of;
 use enrol_states::Row;
 use plain_text::Slug;
 use recipe_reader::{Recipe, record_length};
-use row_batches::StoreRow;
-use sequences::Text;
+use row_batches::RowForm;
+use sequences::{Sequence, Text};
 use state_values::{push_status, recipe_text};
 use std::alloc::{AllocError, Global};
+use std::cmp::Ordering;
 
-/// An item of a state's list, which has a row.
-pub(crate) trait RowItem {
-    ghost key_text: { Self → List ℕ };
+impl RowForm<Text> for RowKind {
+    ghost has_row = { λ kind _. true };
 
-    ghost row_value: { Self → List ℕ };
+    ghost key = { λ kind text. letter kind ∷ text };
 
-    /// What an item of a state keeps.
-    ghost fits: { Self → Type 0 };
+    ghost value = { λ kind _. [] };
 
-    /// What follows the letter in the key.
-    fn key_text(&self) -> &str
-        ensures { result.now ≡ key_text self.now };
-
-    /// The row's value.
-    fn row_value(&self, alloc: Global) -> Result<Vec<u8>, AllocError>
-        ensures { IfOk result (λ value. value.items ≡ row_value self.now) };
-
-    /// Whether its row has the value of another's.
-    fn has_value_of(&self, other: &Self) -> bool
-        requires own { fits self.now }
-        requires of_other { fits other.now }
-        ensures { result ≡ bytes_eq (row_value self.now) (row_value other.now) };
-}
-
-impl RowItem for Text {
-    ghost key_text = { λ text. text };
-
-    ghost row_value = { λ _. [] };
+    ghost rows = { λ kind items. map (item_row (λ text. text) (λ _. []) (letter kind)) items };
 
     ghost fits = { λ _. ⊤ };
 
-    fn key_text(&self) -> &str {
-        self.as_str()
-    }
+    ghost none = { λ kind. refl };
 
-    fn row_value(&self, alloc: Global) -> Result<Vec<u8>, AllocError> {
-        Ok(Vec::new(alloc))
-    }
+    ghost each = { λ kind item items. refl };
 
-    fn has_value_of(&self, _other: &Text) -> bool {
+    fn has_row(&self, _item: &Text) -> bool {
         true
+    }
+
+    #[tactic(auto, using(crate::proofs::Items::tagged))]
+    fn key_order(&self, old: &Text, new: &Text) -> Ordering {
+        old.as_str().cmp(new.as_str())
+    }
+
+    fn has_same_value(&self, _old: &Text, _new: &Text) -> bool {
+        true
+    }
+
+    fn key(&self, alloc: Global, item: &Text) -> Result<Sequence<u8>, AllocError> {
+        key_of(alloc, *self, item.as_str())
+    }
+
+    fn value(&self, alloc: Global, _item: &Text) -> Result<Sequence<u8>, AllocError> {
+        Ok(Sequence::new(alloc))
     }
 }
 
-impl RowItem for Slug {
-    ghost key_text = { λ slug. slug };
+impl RowForm<Slug> for RowKind {
+    ghost has_row = { λ kind _. true };
 
-    ghost row_value = { λ _. [] };
+    ghost key = { λ kind slug. letter kind ∷ slug };
+
+    ghost value = { λ kind _. [] };
+
+    ghost rows = { λ kind items. map (item_row (λ slug. slug) (λ _. []) (letter kind)) items };
 
     ghost fits = { λ _. ⊤ };
 
-    fn key_text(&self) -> &str {
-        self.text()
-    }
+    ghost none = { λ kind. refl };
 
-    fn row_value(&self, alloc: Global) -> Result<Vec<u8>, AllocError> {
-        Ok(Vec::new(alloc))
-    }
+    ghost each = { λ kind item items. refl };
 
-    fn has_value_of(&self, _other: &Slug) -> bool {
+    fn has_row(&self, _item: &Slug) -> bool {
         true
+    }
+
+    #[tactic(auto, using(crate::proofs::Items::tagged))]
+    fn key_order(&self, old: &Slug, new: &Slug) -> Ordering {
+        old.text().cmp(new.text())
+    }
+
+    fn has_same_value(&self, _old: &Slug, _new: &Slug) -> bool {
+        true
+    }
+
+    fn key(&self, alloc: Global, item: &Slug) -> Result<Sequence<u8>, AllocError> {
+        key_of(alloc, *self, item.text())
+    }
+
+    fn value(&self, alloc: Global, _item: &Slug) -> Result<Sequence<u8>, AllocError> {
+        Ok(Sequence::new(alloc))
     }
 }
 
-impl RowItem for Recipe {
-    ghost key_text = { λ recipe. recipe.slug };
+impl RowForm<Recipe> for RowKind {
+    ghost has_row = { λ kind _. true };
 
-    ghost row_value = { λ recipe. recipe_text recipe };
+    ghost key = { λ kind recipe. letter kind ∷ recipe.slug };
+
+    ghost value = { λ kind recipe. recipe_text recipe };
+
+    ghost rows = { λ kind items. map (item_row (λ recipe. recipe.slug) (λ recipe. recipe_text recipe) (letter kind)) items };
 
     ghost fits = { λ recipe. IsValid recipe };
 
-    fn key_text(&self) -> &str {
-        self.slug.text()
+    ghost none = { λ kind. refl };
+
+    ghost each = { λ kind item items. refl };
+
+    fn has_row(&self, _item: &Recipe) -> bool {
+        true
     }
 
-    fn row_value(&self, alloc: Global) -> Result<Vec<u8>, AllocError> {
-        recipe_text(alloc, self)
+    #[tactic(auto, using(crate::proofs::Items::tagged))]
+    fn key_order(&self, old: &Recipe, new: &Recipe) -> Ordering {
+        old.slug.text().cmp(new.slug.text())
     }
 
     /// Recipes are compared as values. Of those that differ the lengths are counted for what that says of their records.
-    fn has_value_of(&self, other: &Recipe) -> bool {
-        if self == other {
+    fn has_same_value(&self, old: &Recipe, new: &Recipe) -> bool {
+        if old == new {
             return true;
         }
-        record_length(self);
-        record_length(other);
+        record_length(old);
+        record_length(new);
         false
+    }
+
+    fn key(&self, alloc: Global, item: &Recipe) -> Result<Sequence<u8>, AllocError> {
+        key_of(alloc, *self, item.slug.text())
+    }
+
+    fn value(&self, alloc: Global, item: &Recipe) -> Result<Sequence<u8>, AllocError> {
+        Ok(Sequence::from_vec(recipe_text(alloc, item)?))
     }
 }
 
-impl RowItem for Row {
-    ghost key_text = { λ row. row.slug };
+impl RowForm<Row> for RowKind {
+    ghost has_row = { λ kind _. true };
 
-    ghost row_value = { λ row. status_bytes row.status };
+    ghost key = { λ kind row. letter kind ∷ row.slug };
+
+    ghost value = { λ kind row. status_bytes row.status };
+
+    ghost rows = { λ kind items. map (item_row (λ row. row.slug) (λ row. status_bytes row.status) (letter kind)) items };
 
     ghost fits = { λ row. IsStatus row.status };
 
-    fn key_text(&self) -> &str {
-        self.slug.text()
+    ghost none = { λ kind. refl };
+
+    ghost each = { λ kind item items. refl };
+
+    fn has_row(&self, _item: &Row) -> bool {
+        true
     }
 
-    fn row_value(&self, alloc: Global) -> Result<Vec<u8>, AllocError> {
+    #[tactic(auto, using(crate::proofs::Items::tagged))]
+    fn key_order(&self, old: &Row, new: &Row) -> Ordering {
+        old.slug.text().cmp(new.slug.text())
+    }
+
+    #[tactic(auto, using(crate::proofs::Items::statuses_told))]
+    fn has_same_value(&self, old: &Row, new: &Row) -> bool {
+        old.status == new.status
+    }
+
+    fn key(&self, alloc: Global, item: &Row) -> Result<Sequence<u8>, AllocError> {
+        key_of(alloc, *self, item.slug.text())
+    }
+
+    fn value(&self, alloc: Global, item: &Row) -> Result<Sequence<u8>, AllocError> {
         let mut value = Vec::new(alloc);
-        push_status(&mut value, &self.status)?;
-        Ok(value)
+        push_status(&mut value, &item.status)?;
+        Ok(Sequence::from_vec(value))
     }
-
-    fn has_value_of(&self, other: &Row) -> bool {
-        self.status == other.status
-    }
-}
-
-/// The row of an item of this kind.
-pub(crate) fn item_row<T: RowItem>(
-    alloc: Global,
-    kind: RowKind,
-    item: &T,
-) -> Result<StoreRow, AllocError>
-    ensures { IfOk result (λ row. row ≡ item_row T.key_text T.row_value (letter kind) item.now) }
-{
-    row_of(alloc, kind, item.key_text(), item.row_value(alloc)?)
 }

@@ -1,17 +1,15 @@
 // The rows of a state, in the order of their keys.
-ghost use Rattle.std.specs.Prelude.{◌≡◌, ◌++◌, map, IfOk, OnOk};
+ghost use Rattle.std.specs.Prelude.{◌≡◌, ◌++◌, IfOk, OnOk};
 ghost use Rattle.enrol_states.specs.Consistent.{IsConsistent};
 ghost use Rattle.row_batches.specs.Rows.{AreRows};
-ghost use Rattle.state_codec.specs.Kinds.{letter};
-ghost use Rattle.state_codec.specs.Spelling.{item_row, status_rows, last_rows, first_rows, later_rows, rows_of};
+ghost use Rattle.state_codec.specs.Spelling.{status_rows, last_rows, first_rows, later_rows, rows_of};
 ghost use Rattle.state_values.specs.Values.{participation};
 
 use crate::changes::pending_recipes;
-use crate::row_item::{RowItem, item_row};
 use crate::row_kind::RowKind;
 use crate::row_making::{byte_row, flag_row, id_row, moment_row, version_row};
 use enrol_states::State;
-use row_batches::StoreRow;
+use row_batches::{StoreRow, add_rows};
 use sequences::Sequence;
 use state_values::participation_byte;
 use std::alloc::{AllocError, Global};
@@ -33,10 +31,10 @@ pub fn first_rows_of(alloc: Global, state: &State) -> Result<Sequence<StoreRow>,
     ensures { IfOk result (λ rows. rows ≡ first_rows state.now) }
 {
     let mut rows = Sequence::new(alloc);
-    add_items(
+    add_rows(
         alloc,
         &mut rows,
-        RowKind::Coenrolling,
+        &RowKind::Coenrolling,
         state.coenrolling.as_slice(),
     )?;
     Ok(rows)
@@ -72,14 +70,14 @@ fn add_later(
     ensures { OnOk result (rows.new ≡ rows.old ++ later_rows byte state.now) }
 {
     rows.push(id_row(alloc, state.id)?)?;
-    add_items(alloc, rows, RowKind::Live, state.live.as_slice())?;
-    add_items(
+    add_rows(alloc, rows, &RowKind::Live, state.live.as_slice())?;
+    add_rows(
         alloc,
         rows,
-        RowKind::Pending,
+        &RowKind::Pending,
         pending_recipes(&state.pending),
     )?;
-    add_items(alloc, rows, RowKind::OptedOut, state.opted_out.as_slice())?;
+    add_rows(alloc, rows, &RowKind::OptedOut, state.opted_out.as_slice())?;
     add_statuses(alloc, rows, byte, state)?;
     add_last(alloc, rows, state)
 }
@@ -95,7 +93,7 @@ fn add_statuses(
 {
     rows.push(byte_row(alloc, RowKind::Participation, byte)?)?;
     rows.push(flag_row(alloc, RowKind::IsPending, state.pending.is_some())?)?;
-    add_items(alloc, rows, RowKind::Status, state.rows.as_slice())
+    add_rows(alloc, rows, &RowKind::Status, state.rows.as_slice())
 }
 
 // Adds the rows of the moments and of the version.
@@ -105,19 +103,4 @@ fn add_last(alloc: Global, rows: &mut Sequence<StoreRow>, state: &State) -> Resu
     rows.push(moment_row(alloc, RowKind::Installed, state.installed)?)?;
     rows.push(moment_row(alloc, RowKind::Updated, state.updated)?)?;
     rows.push(version_row(alloc, &state.version)?)
-}
-
-// Adds the row of each item.
-fn add_items<T: RowItem>(
-    alloc: Global,
-    rows: &mut Sequence<StoreRow>,
-    kind: RowKind,
-    items: &[T],
-) -> Result<(), AllocError>
-    ensures { OnOk result (rows.new ≡ rows.old ++ map (item_row T.key_text T.row_value (letter kind)) items.now) }
-{
-    for item in items {
-        rows.push(item_row(alloc, kind, item)?)?;
-    }
-    Ok(())
 }

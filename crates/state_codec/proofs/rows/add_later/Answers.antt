@@ -10,9 +10,9 @@ pub returns : goal.returns
 unfolding later_rows
 returns c =
     let s = c.args.state.now in
-    let live = c.in_ok-add_items.ensures ∙ ap (λ rs. c.push.new.self ++ map (recipe_row (codes "l")) rs) c.as_slice.ensures.recipes in
-    let pending = c.in_ok-add_items-2.ensures ∙ ap (λ rs. c.add_items.new.rows ++ map (recipe_row (codes "n")) rs) c.pending_recipes.ensures in
-    let opted_out = c.in_ok-add_items-3.ensures ∙ ap (λ ss. c.add_items-2.new.rows ++ map (key_row (codes "o")) ss) c.as_slice-2.ensures in
+    let live = c.in_ok-add_rows.ensures ∙ ap (λ rs. c.push.new.self ++ map (recipe_row (codes "l")) rs) c.as_slice.ensures.recipes in
+    let pending = c.in_ok-add_rows-2.ensures ∙ ap (λ rs. c.add_rows.new.rows ++ map (recipe_row (codes "n")) rs) c.pending_recipes.ensures in
+    let opted_out = c.in_ok-add_rows-3.ensures ∙ ap (λ ss. c.add_rows-2.new.rows ++ map (key_row (codes "o")) ss) c.as_slice-2.ensures in
     on_ok_weaker c.add_last.result
     (λ last.
     (row_then (row (codes "i") (hyphenated s.id)) _ _ _ c.in_ok-push.ensures.ok c.in_ok-id_row.ensures

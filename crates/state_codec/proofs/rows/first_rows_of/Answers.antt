@@ -6,6 +6,6 @@ use Rattle.state_codec.proofs.rows.first_rows_of.Goals as goal
 pub returns : goal.returns
 unfolding first_rows
 returns c =
-    c.in_ok-add_items.ensures
+    c.in_ok-add_rows.ensures
     ∙ ap (λ xs. c.new-rows.result ++ map (key_row (99 ∷ [])) xs) c.as_slice.ensures
     ∙ ap (λ l. l ++ first_rows c.args.state.now) c.new-rows.ensures
