@@ -6,8 +6,7 @@ pub mod Sound
 pub mod UserMaps
 pub mod Values
 pub mod OneList
-pub mod ValueTurns
-pub mod HoldTurns
+pub mod Told
 pub mod RowSizes
 pub mod RowOrder
 pub mod Rising

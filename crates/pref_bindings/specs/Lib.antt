@@ -2,7 +2,7 @@ pub mod Preferences
 pub mod Changes
 pub mod Joining
 pub mod Rows
-pub mod RowSteps
+pub mod HoldRows
 pub mod Sizes
 pub mod Reading
 pub mod Bindings

@@ -21,6 +21,11 @@ before_text (Some v) = value_text v
 abbrev pub hold_text : List ℕ → Option Tree → List ℕ
 hold_text holder before = length holder ∷ (holder ++ before_text before)
 
+-- nothing where there is no hold
+abbrev pub hold_value : Option Hold → List ℕ
+hold_value None = []
+hold_value (Some h) = hold_text h.holder h.before
+
 -- the letter h and the name
 abbrev pub hold_key : List ℕ → List ℕ
 hold_key name = 104 ∷ name

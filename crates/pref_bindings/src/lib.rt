@@ -5,17 +5,17 @@
 mod bindings;
 mod bound;
 mod fault;
-mod hold_changes;
 mod joining;
 mod laws;
 mod leaving;
 mod preference;
 mod prefs;
 mod reading;
+mod row_changes;
+mod row_forms;
 mod rows;
 mod setting;
 mod size;
-mod value_changes;
 
 pub use bindings::{Binding, Bindings, read_bindings};
 pub use bound::bound_values;

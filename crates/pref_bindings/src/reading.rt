@@ -16,7 +16,7 @@ ghost use Rattle.pref_bindings.specs.Rows.{before_text, hold_key, hold_row, hold
 use crate::fault::PrefsFault;
 use crate::preference::{Hold, Preference, is_value};
 use crate::prefs::Prefs;
-use crate::rows::{HOLD, VALUE};
+use crate::row_forms::{HOLD, VALUE};
 use json_tree::{Tree, TreeFault, read, write};
 use plain_text::{Slug, SlugFault, is_name, slug_of};
 use row_batches::StoreRow;

@@ -6,5 +6,5 @@ use Rattle.pref_bindings.proofs.prefs.Prefs.rows.Goals as goal
 
 pub returns-clause-order : goal.returns-clause-order
 returns-clause-order c =
-    let rows : c.add_value_rows.new.rows ≡ rows_of c.args.self.now = search rules in
+    let rows : c.add_rows-2.new.rows ≡ rows_of c.args.self.now = search rules in
     subst AreRows (sym rows) (rows_rise c.args.self.now c.as_slice-preferences.ensures.sound.names)

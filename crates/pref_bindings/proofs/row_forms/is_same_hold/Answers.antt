@@ -1,9 +1,9 @@
 use Rattle.std.proofs.Common.{sym, ◌∙◌}
 use Rattle.std.specs.Cmp.Lexicographic.{bytes_decides}
 use Rattle.pref_bindings.specs.Rows.{before_text}
-use Rattle.pref_bindings.proofs.HoldTurns.{holds_told}
+use Rattle.pref_bindings.proofs.Told.{holds_told}
 use Rattle.pref_bindings.proofs.Values.{same_text_parts}
-use Rattle.pref_bindings.proofs.hold_changes.is_same_hold.Goals as goal
+use Rattle.pref_bindings.proofs.row_forms.is_same_hold.Goals as goal
 
 pub returns-then-eq : goal.returns-then-eq
 returns-then-eq c =
