@@ -32,7 +32,7 @@ pub set_first : (slug : List ℕ) (v : Setting) (vs : List Setting) (ps : List P
 unfolding IsStrictlySortedBy
 set_first slug v vs ps above rise = ap (joined slug vs) (put_first slug v ps above) ∙ stays_first slug vs (held_by slug v None) ps rise.0
 
-joined_name : (b : Bool) (slug : List ℕ) (v : Setting) (p : Preference) → p.name ≡ v.0 → (if b then p else held_by slug v (Some p.value)).name ≡ v.0
+pub joined_name : (b : Bool) (slug : List ℕ) (v : Setting) (p : Preference) → p.name ≡ v.0 → (if b then p else held_by slug v (Some p.value)).name ≡ v.0
 joined_name true slug v p same = same
 joined_name false slug v p same = refl
 
@@ -68,3 +68,7 @@ pub none_joined : (slug : List ℕ) (vs : List Setting) (ps : List Preference) �
 none_joined slug [] [] p v = refl
 none_joined slug [] (q ∷ ps) p v = absurd (omega arith)
 none_joined slug (w ∷ vs) ps p v = absurd (omega arith)
+
+pub nothing_joined : (slug : List ℕ) (vs : List Setting) (ps : List Preference) → length vs ≡ 0 → joined slug vs ps ≡ ps
+nothing_joined slug [] ps none = refl
+nothing_joined slug (v ∷ vs) ps none = absurd (omega arith)

@@ -4,6 +4,7 @@ pub mod Joins
 pub mod Parts
 pub mod Sound
 pub mod UserMaps
+pub mod HeldKept
 pub mod Values
 pub mod OneList
 pub mod Told

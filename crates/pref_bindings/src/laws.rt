@@ -1,5 +1,5 @@
 // Laws of the definitions. The functions do nothing: their contracts are the laws.
-ghost use Rattle.pref_bindings.specs.Laws.{HasOneListOfRows, JoinKeepsUserMap, LeaveKeepsUserMap, LeaveUndoesJoin, UserSetsOwn};
+ghost use Rattle.pref_bindings.specs.Laws.{HasOneListOfRows, JoinKeepsHeld, JoinKeepsUserMap, LeaveKeepsHeld, LeaveKeepsUserMap, LeaveUndoesJoin, SetKeepsHeld, UserSetsOwn};
 
 /// Sound preferences that have one list of rows are one. It takes no memory.
 pub fn one_list_of_rows()
@@ -21,4 +21,12 @@ pub fn user_map_is_kept()
 /// changes. It takes no memory.
 pub fn user_sets_own()
     ensures { UserSetsOwn }
+{}
+
+/// A preference that is held keeps its value, its holder and its value of before through joins, through leaves of other slugs, and
+/// while the user sets names that nobody holds. It takes no memory.
+pub fn held_is_kept()
+    ensures join { JoinKeepsHeld }
+    ensures leave { LeaveKeepsHeld }
+    ensures set { SetKeepsHeld }
 {}

@@ -20,7 +20,9 @@ mod size;
 pub use bindings::{Binding, Bindings, read_bindings};
 pub use bound::bound_values;
 pub use fault::{BindingFault, PrefsFault};
-pub use laws::{leave_undoes_join, one_list_of_rows, user_map_is_kept, user_sets_own};
+pub use laws::{
+    held_is_kept, leave_undoes_join, one_list_of_rows, user_map_is_kept, user_sets_own,
+};
 pub use preference::{Hold, Preference, is_value};
 pub use prefs::Prefs;
 pub use reading::{prefs_of, prefs_of_parts};
