@@ -66,7 +66,7 @@ free_restored slug p free = ap (λ (h : Option Hold). if holds slug h then users
 slug_restores : (slug : List ℕ) → Restores slug (restored slug)
 slug_restores slug = record { held = held_restored slug; free = free_restored slug }
 
-left_none : (slug : List ℕ) (ps : List Preference) → HoldsNone slug ps → left slug ps ≡ ps
+pub left_none : (slug : List ℕ) (ps : List Preference) → HoldsNone slug ps → left slug ps ≡ ps
 left_none slug [] none = refl
 left_none slug (p ∷ ps) none =
     ap₂ (λ (x y : List Preference). x ++ y) (ap (λ b. if b then users_part p p.hold else p ∷ []) none.0) (left_none slug ps none.1)

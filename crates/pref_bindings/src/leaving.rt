@@ -1,6 +1,7 @@
 // What is left when a slug leaves.
-ghost use Rattle.std.specs.Prelude.{◌≡◌, ◌++◌, IfOk, OnOk};
+ghost use Rattle.std.specs.Prelude.{◌≡◌, ◌++◌, IfOk, IsTrue, OnOk};
 ghost use Rattle.pref_bindings.specs.Changes.{holds, left, restored, set_value};
+ghost use Rattle.pref_bindings.specs.Laws.{HoldsNone};
 ghost use Rattle.pref_bindings.specs.Preferences.{IsSound};
 
 use crate::preference::{Hold, Preference};
@@ -24,6 +25,28 @@ pub(crate) fn left(
         add_restored(&mut left, slug, preference)?;
     }
     Ok(left)
+}
+
+/// Whether the slug holds none of the preferences. It takes no memory.
+pub(crate) fn holds_none(slug: &Slug, preferences: &[Preference]) -> bool
+    ensures { IsTrue result → HoldsNone slug.now preferences.now }
+{
+    for preference in preferences {
+        if is_held_by(preference, slug) {
+            return false;
+        }
+    }
+    true
+}
+
+// Whether the slug holds the preference.
+fn is_held_by(preference: &Preference, slug: &Slug) -> bool
+    ensures { result ≡ holds slug.now preference.now.hold }
+{
+    match &preference.hold {
+        Some(hold) => hold.holder == *slug,
+        None => false,
+    }
 }
 
 // Adds what the leave makes of the preference.

@@ -7,7 +7,7 @@ ghost use Rattle.pref_bindings.specs.Preferences.{IsSound, IsValue, found, holde
 ghost use Rattle.pref_bindings.specs.Rows.{rows_of};
 
 use crate::joining::joined;
-use crate::leaving::left;
+use crate::leaving::{holds_none, left};
 use crate::preference::Preference;
 use crate::setting::{users_preference, with_preference, without_name};
 use crate::size::preferences_size;
@@ -124,7 +124,9 @@ impl Prefs {
     }
 
     /// The preferences where a slug sets each of these that nobody holds, and holds it: its value of before, or that there was
-    /// none, is kept. One that is held stays. The one error is want of memory. Both lists are walked once.
+    /// none, is kept. One that is held stays. The one error is want of memory. Both lists are walked once; where nothing is to be
+    /// set, it takes no memory.
+    #[tactic(auto, using(crate::proofs::Joins::nothing_joined))]
     pub fn join(
         &self,
         alloc: Global,
@@ -134,15 +136,22 @@ impl Prefs {
         requires { AreSettings values.now }
         ensures { IfOk result (λ prefs. prefs ≡ joined slug.now values.now self.now) }
     {
+        if values.is_empty() {
+            return self.clone();
+        }
         let preferences = joined(alloc, slug, self.as_slice(), values)?;
         Prefs::of_preferences(alloc, preferences)
     }
 
     /// The preferences where each that the slug holds has its value of before again, or none where there was none. The one error
-    /// is want of memory. The list is walked once.
+    /// is want of memory. The list is walked once where the slug holds none, which takes no memory, and else twice.
+    #[tactic(auto, using(crate::proofs::UserMaps::left_none))]
     pub fn leave(&self, alloc: Global, slug: &Slug) -> Result<Prefs, AllocError>
         ensures { IfOk result (λ prefs. prefs ≡ left slug.now self.now) }
     {
+        if holds_none(slug, self.as_slice()) {
+            return self.clone();
+        }
         let preferences = left(alloc, slug, self.as_slice())?;
         Prefs::of_preferences(alloc, preferences)
     }
