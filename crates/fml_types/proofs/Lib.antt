@@ -14,5 +14,6 @@ pub mod Reaching
 pub mod Mentioned
 pub mod Raising
 pub mod Needing
+pub mod Chains
 pub mod Weighing
 pub mod SoundTypes

@@ -47,7 +47,7 @@ past [] i h = refl
 past (ps ∷ g) zero h = absurd (omega arith)
 past (ps ∷ g) (suc i) h = past g i (omega arith)
 
-higher_up_to : (g : List (List Part)) (k i j : ℕ) → SomeNeeds g (parts_at g i) j → height_up_to g (suc k) i ≤ k → height_up_to g (suc k) j < height_up_to g (suc k) i
+pub higher_up_to : (g : List (List Part)) (k i j : ℕ) → SomeNeeds g (parts_at g i) j → height_up_to g (suc k) i ≤ k → height_up_to g (suc k) j < height_up_to g (suc k) i
 higher_up_to g k i j needs low =
     elim (cases_lt i (length g)) [
       | inl within ↦ under (height_up_to g (suc k) j) (height_up_to g (suc k) i) (greatest (needed (height_up_to g (suc k)) (reached_all g (height_up_to g (suc k)))) (parts_at g i))

@@ -1,5 +1,5 @@
 -- Laws of heights and weights.
-use Rattle.std.specs.Prelude.{◌≡◌, ◌<◌, ◌≤◌, ◌⊎◌, ◌+◌, ℕ, zero, suc, List, [], ◌∷◌, length, Option, Some}
+use Rattle.std.specs.Prelude.{◌≡◌, ◌<◌, ◌≤◌, ◌⊎◌, ◌↔◌, ◌+◌, ℕ, zero, suc, List, [], ◌∷◌, length, Option, Some}
 use Rattle.std.specs.List.{sum_by}
 use Rattle.fml_types.specs.Graph.{graph_of}
 use Rattle.fml_types.specs.Ground.{parts_at, greatest, needed, reached_all, height_up_to, share, weight_up_to}
@@ -45,6 +45,10 @@ AreHigher = (g : List (List Part)) (i j : ℕ) → SomeNeeds g (parts_at g i) j 
 -- an object on a cycle of needs is too high
 abbrev pub AreEndless : Type 0
 AreEndless = (g : List (List Part)) (n i : ℕ) → NeedsIn g n i i → 32 < height_up_to g 33 i
+
+-- an object is too high exactly where it is the first of 33 objects, each of which needs the next; one may stand among them more than once
+abbrev pub AreTooHigh : Type 0
+AreTooHigh = (g : List (List Part)) (i : ℕ) → (32 < height_up_to g 33 i) ↔ ((j : ℕ) × (j < length g) × NeedsIn g 31 i j)
 
 -- ---- weights
 
