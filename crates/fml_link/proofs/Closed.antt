@@ -135,6 +135,29 @@ begun_at [] more i f h = absurd cc
 begun_at (g ∷ gs) more zero f h = h
 begun_at (g ∷ gs) more (suc i) f h = begun_at gs more i f h
 
+file-there-then : (file : List ℕ → Option (List ℕ)) (root channel : List ℕ) (i : ℕ) (f : List ℕ × List ℕ) (at whole : Listed) (there : Option (List ℕ × List ℕ))
+    → i < 64 → list_after file root channel i ≡ Ok at → Begins at whole → list_after file root channel 64 ≡ Ok whole → slice_get whole i ≡ Some f → slice_get at i ≡ there → there ≡ Some f
+file-there-then file root channel i f at whole None below so_far begins all here is =
+    let left : ℕ = 64 - i in
+    let stays : list_after file root channel 64 ≡ Ok at = list_stay file root channel at i left 64 (omega arith) (absent_short at i (sym is)) so_far in
+    let same : at ≡ whole = cc in
+    let none : slice_get whole i ≡ None = subst (λ l. slice_get l i ≡ None) same is in
+    absurd cc
+file-there-then file root channel i f at whole (Some g) below so_far begins all here is =
+    let found : slice_get whole i ≡ Some g = subst (λ l. slice_get l i ≡ Some g) (sym begins.1) (begun_at at begins.0 i g is) in
+    cc
+
+-- a file of the whole list is there when its turn comes
+pub there_at_turn : (file : List ℕ → Option (List ℕ)) (root channel : List ℕ) (i : ℕ) (f : List ℕ × List ℕ) (whole : Listed) → list_after file root channel 64 ≡ Ok whole → slice_get whole i ≡ Some f
+    → (at : Listed) × (list_after file root channel i ≡ Ok at) × (slice_get at i ≡ Some f)
+unfolding Grows
+there_at_turn file root channel i f whole all here =
+    let inside : i < length whole = slice_get_within whole i f here in
+    let few : length whole ≤ 64 = list_within file root channel whole all in
+    let left : ℕ = 64 - i in
+    let begun = list_grows file root channel i left 64 (omega arith) whole all in
+    (begun.0, begun.1, file-there-then file root channel i f begun.0 whole (slice_get begun.0 i) (omega (arith, inside, few)) begun.1 begun.2 all here refl)
+
 -- the file at a place of the whole list is the one that adds those that it names there
 file_at : (file : List ℕ → Option (List ℕ)) (root channel : List ℕ) (i : ℕ) (f : List ℕ × List ℕ) (at list whole : Listed) (there : Option (List ℕ × List ℕ)) (m : Module)
     → i < 64 → list_after file root channel i ≡ Ok at → slice_get at i ≡ there → after_file file at there ≡ Ok list → Begins at whole → Begins list whole → list_after file root channel 64 ≡ Ok whole

@@ -30,6 +30,7 @@ use Rattle.fml_link.specs.IncludedTables as plain
 use Rattle.fml_link.specs.Laws.{ImportNothing, LinkAsIncluded}
 use Rattle.fml_link.specs.Linking.{of_files, linked}
 use Rattle.fml_link.specs.Outcome.{◌>>=◌, each}
+use Rattle.fml_link.proofs.Closed.{there_at_turn}
 use Rattle.fml_link.proofs.Listing.{Listed}
 
 same_itself : (name : List ℕ) → bytes_eq name name ≡ true
@@ -106,24 +107,56 @@ module _ (channel : List ℕ) where
   same_place (n ∷ ns) zero = refl
   same_place (n ∷ ns) (suc i) = same_place ns i
 
-module _ (file : List ℕ → Option (List ℕ)) (nothing : ImportNothing file) (root channel : List ℕ) where
-  file-added : (names : List (List ℕ)) (name : List ℕ) (r : Result Module LinkRefusal) → file_module name (file name) ≡ r → (r >>= λ m. with_named (included_by channel names) (named_by channel m)) ≡ listed channel (r >>= λ m. with_includes names m.includes)
-  file-added names name (Ok m) is = module_added channel names m (nothing name m is)
-  file-added names name (Err e) is = refl
+-- the file of a name imports nothing, where it is read
+abbrev ImportsNothing : (List ℕ → Option (List ℕ)) → List ℕ → Type 0
+ImportsNothing file name = (m : Module) → file_module name (file name) ≡ Ok m → m.imports ≡ []
 
-  file_added : (names : List (List ℕ)) (name : Option (List ℕ)) → after_file file (included_by channel names) (option_map (λ (n : List ℕ). (n, channel)) name) ≡ listed channel (after_include file names name)
-  file_added names None = refl
-  file_added names (Some name) = file-added names name (file_module name (file name)) refl
+module _ (file : List ℕ → Option (List ℕ)) (channel : List ℕ) where
+  file-added : (names : List (List ℕ)) (name : List ℕ) (r : Result Module LinkRefusal) → ImportsNothing file name → file_module name (file name) ≡ r
+      → (r >>= λ m. with_named (included_by channel names) (named_by channel m)) ≡ listed channel (r >>= λ m. with_includes names m.includes)
+  file-added names name (Ok m) nothing is = module_added channel names m (nothing m is)
+  file-added names name (Err e) nothing is = refl
+
+  file_added : (names : List (List ℕ)) (name : Option (List ℕ)) → ((n : List ℕ) → name ≡ Some n → ImportsNothing file n)
+      → after_file file (included_by channel names) (option_map (λ (n : List ℕ). (n, channel)) name) ≡ listed channel (after_include file names name)
+  file_added names None nothing = refl
+  file_added names (Some name) nothing = file-added names name (file_module name (file name)) (nothing name refl) refl
+
+module _ (file : List ℕ → Option (List ℕ)) (root : List ℕ) (nothing : ImportNothing file root) (channel : List ℕ) where
+  next-list : (n : ℕ) (r : Result (List (List ℕ)) LinkRefusal) → names_after file root n ≡ r
+      → (listed channel r >>= λ l. after_file file l (slice_get l n)) ≡ listed channel (r >>= λ names. after_include file names (slice_get names n))
+  next-list n (Ok names) is =
+      ap (after_file file (included_by channel names)) (same_place channel names n)
+      ∙ file_added file channel names (slice_get names n) (λ (name : List ℕ) (at : slice_get names n ≡ Some name) (m : Module) (says : file_module name (file name) ≡ Ok m). nothing n names name m is at says)
+  next-list n (Err e) is = refl
 
   same_list : (n : ℕ) → list_after file root channel n ≡ listed channel (names_after file root n)
   unfolding list_after names_after
   same_list zero = refl
-  same_list (suc n) =
-      ap (λ r. r >>= λ l. after_file file l (slice_get l n)) (same_list n)
-      ∙ elim (names_after file root n) as (λ (r : Result (List (List ℕ)) LinkRefusal). (listed channel r >>= λ l. after_file file l (slice_get l n)) ≡ listed channel (r >>= λ names. after_include file names (slice_get names n))) [
-        | Ok names ↦ ap (after_file file (included_by channel names)) (same_place channel names n) ∙ file_added names (slice_get names n)
-        | Err e ↦ refl
-      ]
+  same_list (suc n) = ap (λ r. r >>= λ l. after_file file l (slice_get l n)) (same_list n) ∙ next-list n (names_after file root n) refl
+
+  with_channel : Option (List ℕ) → Option (List ℕ × List ℕ)
+  with_channel o = option_map (λ (n : List ℕ). (n, channel)) o
+
+  name_of : (o : Option (List ℕ)) (name : List ℕ) → with_channel o ≡ Some (name, channel) → o ≡ Some name
+  unfolding with_channel
+  name_of None name h = absurd cc
+  name_of (Some n) name h = ap (λ (o : Option (List ℕ × List ℕ)). option_map (λ (f : List ℕ × List ℕ). f.0) o) h
+
+  named-at : (i : ℕ) (name : List ℕ) (at : Listed) (r : Result (List (List ℕ)) LinkRefusal) → listed channel r ≡ Ok at → slice_get at i ≡ Some (name, channel) → (names : List (List ℕ)) × (r ≡ Ok names) × (slice_get names i ≡ Some name)
+  unfolding with_channel
+  named-at i name at (Ok names) is here =
+      let same : included_by channel names ≡ at = cc in
+      (names, refl, name_of (slice_get names i) name (sym (same_place channel names i) ∙ ap (λ (l : Listed). slice_get l i) same ∙ here))
+  named-at i name at (Err e) is here = absurd cc
+
+  -- no file of the whole list imports another
+  none_imports : (names : List (List ℕ)) → names_after file root 64 ≡ Ok names → (i : ℕ) (name : List ℕ) → slice_get names i ≡ Some name → ImportsNothing file name
+  unfolding with_channel
+  none_imports names all i name here m says =
+      let at = there_at_turn file root channel i (name, channel) (included_by channel names) (same_list 64 ∙ ap (listed channel) all) (same_place channel names i ∙ ap with_channel here) in
+      let named = named-at i name at.0 (names_after file root i) (sym (same_list i) ∙ at.1) at.2 in
+      nothing i named.0 name m named.1 named.2 says
 
 -- ---- what the files say
 
@@ -143,7 +176,7 @@ Reads : List ℕ → Result (List Linked) LinkRefusal → Result (List Module) L
 Reads channel (Ok files) read = (read ≡ Ok (modules files)) × AreOwn channel files
 Reads channel (Err e) read = read ≡ Err e
 
-module _ (file : List ℕ → Option (List ℕ)) (nothing : ImportNothing file) (channel : List ℕ) where
+module _ (file : List ℕ → Option (List ℕ)) (channel : List ℕ) where
   more-read : (name : List ℕ) (m : Module) (files : Result (List Linked) LinkRefusal) (read : Result (List Module) LinkRefusal) → m.imports ≡ [] → Reads channel files read
       → Reads channel (files >>= λ fs. Ok (record { name = name; channel = channel; «module» = m } ∷ fs)) (read >>= λ ms. Ok (m ∷ ms))
   unfolding Reads
@@ -151,16 +184,16 @@ module _ (file : List ℕ → Option (List ℕ)) (nothing : ImportNothing file) 
       (ap (λ r. r >>= λ ms. Ok (m ∷ ms)) reads.0, all_cons (IsOwn channel) (record { name = name; channel = channel; «module» = m }) files (record { same = refl; nothing = none }) reads.1)
   more-read name m (Err e) read none reads = ap (λ r. r >>= λ ms. Ok (m ∷ ms)) reads
 
-  one-read : (name : List ℕ) (names : List (List ℕ)) (r : Result Module LinkRefusal) → file_module name (file name) ≡ r → Reads channel (read_each file (included_by channel names)) (modules_in file names)
+  one-read : (name : List ℕ) (names : List (List ℕ)) (r : Result Module LinkRefusal) → ImportsNothing file name → file_module name (file name) ≡ r → Reads channel (read_each file (included_by channel names)) (modules_in file names)
       → Reads channel (r >>= λ m. read_each file (included_by channel names) >>= λ fs. Ok (record { name = name; channel = channel; «module» = m } ∷ fs)) (r >>= λ m. modules_in file names >>= λ ms. Ok (m ∷ ms))
   unfolding Reads
-  one-read name names (Ok m) is reads = more-read name m (read_each file (included_by channel names)) (modules_in file names) (nothing name m is) reads
-  one-read name names (Err e) is reads = refl
+  one-read name names (Ok m) nothing is reads = more-read name m (read_each file (included_by channel names)) (modules_in file names) (nothing m is) reads
+  one-read name names (Err e) nothing is reads = refl
 
-  all_read : (names : List (List ℕ)) → Reads channel (read_each file (included_by channel names)) (modules_in file names)
+  all_read : (names : List (List ℕ)) → ((i : ℕ) (name : List ℕ) → slice_get names i ≡ Some name → ImportsNothing file name) → Reads channel (read_each file (included_by channel names)) (modules_in file names)
   unfolding Reads
-  all_read [] = (refl, all_nil (IsOwn channel))
-  all_read (name ∷ names) = one-read name names (file_module name (file name)) refl (all_read names)
+  all_read [] nothing = (refl, all_nil (IsOwn channel))
+  all_read (name ∷ names) nothing = one-read name names (file_module name (file name)) (nothing 0 name refl) refl (all_read names (λ (i : ℕ). nothing (suc i)))
 
 -- ---- they are joined as their modules are
 
@@ -221,9 +254,9 @@ module _ (channel : List ℕ) where
 
 pub linked_as_included : LinkAsIncluded
 unfolding linked included
-linked_as_included file nothing root channel =
-    ap (λ r. (r >>= λ l. read_each file l) >>= λ fs. of_files (joined fs channel)) (same_list file nothing root channel 64)
-    ∙ elim (names_after file root 64) as (λ (r : Result (List (List ℕ)) LinkRefusal). ((listed channel r >>= λ l. read_each file l) >>= λ fs. of_files (joined fs channel)) ≡ (r >>= λ names. modules_in file names >>= λ ms. of_files (joined_modules ms channel))) [
-      | Ok names ↦ same-linked channel (read_each file (included_by channel names)) (modules_in file names) (all_read file nothing channel names)
-      | Err e ↦ refl
-    ]
+linked_as_included file root nothing channel =
+    ap (λ r. (r >>= λ l. read_each file l) >>= λ fs. of_files (joined fs channel)) (same_list file root nothing channel 64) ∙ both-linked (names_after file root 64) refl
+  where
+    both-linked : (r : Result (List (List ℕ)) LinkRefusal) → names_after file root 64 ≡ r → ((listed channel r >>= λ l. read_each file l) >>= λ fs. of_files (joined fs channel)) ≡ (r >>= λ names. modules_in file names >>= λ ms. of_files (joined_modules ms channel))
+    both-linked (Ok names) is = same-linked channel (read_each file (included_by channel names)) (modules_in file names) (all_read file channel names (none_imports file root nothing channel names is))
+    both-linked (Err e) is = refl

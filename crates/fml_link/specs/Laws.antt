@@ -8,7 +8,7 @@ use Rattle.fml_reader.specs.declared.module.Module.{Module}
 use Rattle.fml_imports.specs.Single.{single}
 use Rattle.fml_imports.specs.WellFormed.{IsWellFormed}
 use Rattle.fml_link.specs.Files.{file_module, max_bytes, named_by, list_of}
-use Rattle.fml_link.specs.Included.{included}
+use Rattle.fml_link.specs.Included.{names_after, included}
 use Rattle.fml_link.specs.Linking.{linked}
 
 -- no name stands twice
@@ -29,13 +29,13 @@ abbrev pub AreClosed : Type 0
 AreClosed = (file : Seq ℕ → Option (Seq ℕ)) (root channel : Seq ℕ) (list : Seq (Seq ℕ × Seq ℕ)) → list_of file root channel ≡ Ok list
     → (name own : Seq ℕ) (m : Module) → found name list ≡ Some own → file_module name (file name) ≡ Ok m → All (λ (f : Seq ℕ × Seq ℕ). found f.0 list ≡ Some f.1) (named_by own m)
 
--- no file imports another
-abbrev pub ImportNothing : (Seq ℕ → Option (Seq ℕ)) → Type 0
-ImportNothing file = (name : Seq ℕ) (m : Module) → file_module name (file name) ≡ Ok m → m.imports ≡ []
+-- of the root and the files that are included from it, in the order in which they are read, none imports another
+abbrev pub ImportNothing : (Seq ℕ → Option (Seq ℕ)) → Seq ℕ → Type 0
+ImportNothing file root = (place : ℕ) (names : Seq (Seq ℕ)) (name : Seq ℕ) (m : Module) → names_after file root place ≡ Ok names → slice_get names place ≡ Some name → file_module name (file name) ≡ Ok m → m.imports ≡ []
 
--- where no file imports another, the manifest is that of the included files, whose channels count for nothing
+-- where none of these imports another, the manifest is that of the included files, whose channels count for nothing
 abbrev pub LinkAsIncluded : Type 0
-LinkAsIncluded = (file : Seq ℕ → Option (Seq ℕ)) → ImportNothing file → (root channel : Seq ℕ) → linked file root channel ≡ included file root channel
+LinkAsIncluded = (file : Seq ℕ → Option (Seq ℕ)) (root : Seq ℕ) → ImportNothing file root → (channel : Seq ℕ) → linked file root channel ≡ included file root channel
 
 -- where the file of a name is the single file of a well formed manifest, and has at most 4,194,304 bytes, linking it for the manifest's channel gives the manifest
 abbrev pub SingleLinksBack : Type 0

@@ -10,8 +10,8 @@ pub fn list_of_files()
     ensures closed { AreClosed }
 {}
 
-/// Where no file imports another, `link` gives the manifest of the files that the root includes. It
-/// takes no memory.
+/// Where neither the root nor a file that is included from it imports another, `link` gives the
+/// manifest of these files. It takes no memory.
 pub fn included_files()
     ensures { LinkAsIncluded }
 {}
