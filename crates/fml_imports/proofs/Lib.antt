@@ -17,5 +17,8 @@ pub mod Alone
 pub mod OrderedNames
 pub mod SpelledTypes
 pub mod FormedModules
+pub mod JoinedParts
 pub mod FormedManifests
+pub mod SoundTexts
+pub mod SoundSingles
 pub mod Joined

@@ -47,25 +47,25 @@ pub keyed_ok : {A : Type 0} (c : Bool) (r : Result A ModuleRefusal) (a : A) → 
 keyed_ok true r a h = (refl, h)
 keyed_ok false r a h = absurd cc
 
-required_ok : {A : Type 0} (k : List ℕ) (read : Json → Result A ModuleRefusal) (o : Option Json) (a : A) → IsSoundOption o → required k read o ≡ Ok a → (x : Json) × IsSound x × (read x ≡ Ok a)
+pub required_ok : {A : Type 0} (k : List ℕ) (read : Json → Result A ModuleRefusal) (o : Option Json) (a : A) → IsSoundOption o → required k read o ≡ Ok a → (x : Json) × IsSound x × (read x ≡ Ok a)
 required_ok k read None a sound h = absurd cc
 required_ok k read (Some x) a sound h = (x, sound, under_ok k (read x) a h)
 
-optional_ok : {A : Type 0} (P : A → Type 0) (k : List ℕ) (read : Json → Result A ModuleRefusal) (without : A) (o : Option Json) (a : A) → P without → ((x : Json) (b : A) → IsSound x → read x ≡ Ok b → P b) → IsSoundOption o → optional k read without o ≡ Ok a → P a
+pub optional_ok : {A : Type 0} (P : A → Type 0) (k : List ℕ) (read : Json → Result A ModuleRefusal) (without : A) (o : Option Json) (a : A) → P without → ((x : Json) (b : A) → IsSound x → read x ≡ Ok b → P b) → IsSoundOption o → optional k read without o ≡ Ok a → P a
 optional_ok P k read without None a default step sound h = let same : without ≡ a = cc in subst P same default
 optional_ok P k read without (Some x) a default step sound h = step x a sound (under_ok k (read x) a h)
 
-either_ok : {A : Type 0} (P : A → Type 0) (plural single : List ℕ) (read : Json → Result A ModuleRefusal) (without : A) (o other : Option Json) (a : A)
+pub either_ok : {A : Type 0} (P : A → Type 0) (plural single : List ℕ) (read : Json → Result A ModuleRefusal) (without : A) (o other : Option Json) (a : A)
     → P without → ((x : Json) (b : A) → IsSound x → read x ≡ Ok b → P b) → IsSoundOption o → IsSoundOption other → first_there plural single read without o other ≡ Ok a → P a
 either_ok P plural single read without None other a default step sound sound_other h = optional_ok P single read without other a default step sound_other h
 either_ok P plural single read without (Some x) other a default step sound sound_other h = step x a sound (under_ok plural (read x) a h)
 
-in_types_ok : {A : Type 0} (P : A → Type 0) (k : List ℕ) (read : Json → Result A ModuleRefusal) (without : A) (o : Option Json) (a : A) → P without → ((x : Json) (b : A) → IsSound x → read x ≡ Ok b → P b) → IsSoundOption o → in_types k read without o ≡ Ok a → P a
+pub in_types_ok : {A : Type 0} (P : A → Type 0) (k : List ℕ) (read : Json → Result A ModuleRefusal) (without : A) (o : Option Json) (a : A) → P without → ((x : Json) (b : A) → IsSound x → read x ≡ Ok b → P b) → IsSoundOption o → in_types k read without o ≡ Ok a → P a
 in_types_ok P k read without None a default step sound h = let same : without ≡ a = cc in subst P same default
 in_types_ok P k read without (Some x) a default step sound h = optional_ok P k read without (get k x) a default step (get_sound k x sound) (under_ok (codes "types") (optional k read without (get k x)) a h)
 
 -- each item is read
-items_ok : {A : Type 0} (P : A → Type 0) (read : Json → Result A ModuleRefusal) → ((x : Json) (a : A) → IsSound x → read x ≡ Ok a → P a) → (i : ℕ) (xs : Items) (as' : List A) → AreSoundItems xs → each_item read i xs ≡ Ok as' → All P as'
+pub items_ok : {A : Type 0} (P : A → Type 0) (read : Json → Result A ModuleRefusal) → ((x : Json) (a : A) → IsSound x → read x ≡ Ok a → P a) → (i : ℕ) (xs : Items) (as' : List A) → AreSoundItems xs → each_item read i xs ≡ Ok as' → All P as'
 items_ok P read step i no_items as' sound h = let same : [] ≡ as' = cc in subst (All P) same (all_nil P)
 items_ok P read step i (item x xs) as' sound h =
     let first = ok_of (under (decimal i) (read x)) (λ a. each_item read (suc i) xs >>= λ bs. Ok (a ∷ bs)) as' h in
@@ -86,12 +86,12 @@ members_ok P test read step (member k x ms) ps sound h =
 
 -- ---- values
 
-value_sound : (x : Json) (t : Tree) → IsSound x → value_in x ≡ Ok t → IsSound (json_of t)
+pub value_sound : (x : Json) (t : Tree) → IsSound x → value_in x ≡ Ok t → IsSound (json_of t)
 value_sound x t sound h =
     let read = keyed_ok (nat_le (length (text_of x)) 65536) (Ok (tree_from x)) t h in
     subst IsSound (sym (of_tree x) ∙ ap json_of (same_ok (tree_from x) t read.1)) sound
 
-default_sound : (x : Json) (d : Option Tree) → IsSound x → there value_in x ≡ Ok d → IsSoundDefault d
+pub default_sound : (x : Json) (d : Option Tree) → IsSound x → there value_in x ≡ Ok d → IsSoundDefault d
 default_sound x d sound h =
     let a = ok_of (value_in x) (λ t. Ok (Some t)) d h in
     subst IsSoundDefault (same_ok (Some a.0) d a.2) (value_sound x a.0 sound a.1)
@@ -226,7 +226,7 @@ features_read (object ms) fs sound h = members_ok IsReadFeature is_name feature_
 features_read x fs sound h = absurd cc
 
 -- what stands under `types`
-types_sound : (o t : Option Json) → IsSoundOption o → types_in o ≡ Ok t → IsSoundOption t
+pub types_sound : (o t : Option Json) → IsSoundOption o → types_in o ≡ Ok t → IsSoundOption t
 types_sound None t sound h = subst IsSoundOption (same_ok None t h) tt
 types_sound (Some x) t sound h =
     let a = ok_of (under (codes "types") (object_in x)) (λ u. Ok (Some x)) t h in

@@ -1,9 +1,11 @@
 // The manifest of files for a channel.
 ghost use Rattle.std.specs.Prelude.{◌≡◌, IfOk, option_map};
+ghost use Rattle.json_tree.specs.Json.{IsSound};
 ghost use Rattle.fml_types.specs.Sound.{IsSoundManifest};
 ghost use Rattle.fml_imports.specs.Channels.{is_among};
 ghost use Rattle.fml_imports.specs.Joining.{joined, checked, root_channels};
 ghost use Rattle.fml_imports.specs.Outcome.{Gives};
+ghost use Rattle.fml_imports.specs.Single.{single};
 ghost use Rattle.fml_imports.specs.Sound.{AreRead};
 ghost use Rattle.fml_imports.specs.WellFormed.{IsWellFormed};
 
@@ -48,6 +50,7 @@ pub fn join(alloc: Global, files: Sequence<Linked>, channel: &str) -> Result<Man
     ensures joins { Gives result (joined files channel.now) }
     ensures sound { IfOk result (λ m. IsSoundManifest m) }
     ensures well_formed { IfOk result (λ m. IsWellFormed m) }
+    ensures sound_single { IfOk result (λ m. IsSound (single m)) }
 {
     let channel = Text::new(alloc, channel)?;
     let is_known = is_channel(files.as_slice(), &channel);

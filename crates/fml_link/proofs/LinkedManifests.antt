@@ -2,6 +2,7 @@
 use Rattle.std.proofs.Common.{◌≡◌, ◌≤◌, ℕ, Bool, true, false, List, [], ◌∷◌, length, Option, Some, None, Result, Ok, Err, refl, ap, ◌∙◌, subst}
 use Rattle.std.specs.Prelude.{nat_le, nat_lt, if◌then◌else◌}
 use Rattle.std.proofs.lemmas.Bool.{leb-true}
+use Rattle.json_reading.proofs.Reading.{values_read_are_sound}
 use Rattle.json_tree.specs.Bytes.{tree_of}
 use Rattle.json_tree.specs.Json.{Json, IsSound, depth}
 use Rattle.fml_types.specs.Named.{AreRising}
@@ -12,16 +13,20 @@ use Rattle.fml_reader.specs.declared.fault.ModuleRefusal.{ModuleRefusal}
 use Rattle.fml_reader.specs.declared.fault.ModuleRefusal.TheVariants as read
 use Rattle.fml_reader.specs.declared.module.Module.{Module}
 use Rattle.fml_imports.proofs.Alls.{all_nil, all_cons}
+use Rattle.fml_imports.proofs.FormedManifests.{joined_formed}
 use Rattle.fml_imports.proofs.RisingFeatures.{joined_rises}
 use Rattle.fml_imports.proofs.SoundManifests.{joined_sound}
+use Rattle.fml_imports.proofs.SoundSingles.{joined_single_sound}
 use Rattle.fml_imports.specs.Joining.{joined}
 use Rattle.fml_imports.specs.Sound.{IsRead, AreRead}
 use Rattle.fml_imports.specs.declared.fault.JoinRefusal.{JoinRefusal}
 use Rattle.fml_imports.specs.declared.joining.Linked.{Linked}
 use Rattle.fml_link.specs.declared.fault.LinkRefusal.{LinkRefusal}
 use Rattle.fml_link.specs.Files.{max_bytes, shallow_tree, file_tree, in_file, file_module, list_of, read_each, files_of}
+use Rattle.fml_link.specs.Laws.{LinkedLinksBack}
 use Rattle.fml_link.specs.Linking.{of_files, linked}
 use Rattle.fml_link.proofs.Linked.{bind_ok}
+use Rattle.fml_link.proofs.SingleFiles.{links_back}
 
 -- where the values of bytes are sound
 module _ (values_are_sound : (bytes : List ℕ) (x : Json) → tree_of bytes ≡ Some x → IsSound x) where
@@ -68,11 +73,20 @@ module _ (values_are_sound : (bytes : List ℕ) (x : Json) → tree_of bytes ≡
   of_joined (Ok n) m h = let same : n ≡ m = cc in ap (λ k. Ok k) same
   of_joined (Err e) m h = absurd cc
 
-  -- it is sound, and its features are in order
-  pub linked_kept : (file : List ℕ → Option (List ℕ)) (root channel : List ℕ) (m : Manifest) → linked file root channel ≡ Ok m → IsSoundManifest m × AreRising m.features
+  -- the files of which it is joined are read
+  files_read : (file : List ℕ → Option (List ℕ)) (root channel : List ℕ) (m : Manifest) → linked file root channel ≡ Ok m → (files : List Linked) × AreRead files × (joined files channel ≡ Ok m)
   unfolding linked
-  linked_kept file root channel m h =
+  files_read file root channel m h =
       let files = bind_ok (files_of file root channel) (λ fs. of_files (joined fs channel)) m h in
       let list = bind_ok (list_of file root channel) (read_each file) files.0 files.1 in
-      let made = of_joined (joined files.0 channel) m files.2 in
-      (joined_sound files.0 channel m (each_read file list.0 files.0 list.2) made, joined_rises files.0 channel m made)
+      (files.0, each_read file list.0 files.0 list.2, of_joined (joined files.0 channel) m files.2)
+
+  -- it is sound, and its features are in order
+  pub linked_kept : (file : List ℕ → Option (List ℕ)) (root channel : List ℕ) (m : Manifest) → linked file root channel ≡ Ok m → IsSoundManifest m × AreRising m.features
+  linked_kept file root channel m h = let made = files_read file root channel m h in (joined_sound made.0 channel m made.1 made.2, joined_rises made.0 channel m made.2)
+
+-- its single file links back
+pub linked_links_back : LinkedLinksBack
+linked_links_back file root channel m h =
+    let made = files_read values_read_are_sound file root channel m h in
+    links_back m (joined_formed made.0 channel m made.1 made.2) (joined_single_sound made.0 channel m made.1 made.2)

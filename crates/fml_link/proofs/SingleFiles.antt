@@ -16,6 +16,7 @@ use Rattle.fml_imports.proofs.JoinsAlone.{joined_alone}
 use Rattle.fml_imports.proofs.ReadsAgain.{alone, module_again}
 use Rattle.fml_imports.proofs.Shallow.{single_shallow}
 use Rattle.fml_link.specs.Files.{max_bytes, shallow_tree, file_tree, in_file, file_module, named_by, with_named, after_file, list_after, list_of, read_each, files_of}
+use Rattle.fml_link.specs.Laws.{LinksBack}
 use Rattle.fml_link.specs.Linking.{of_files, linked}
 use Rattle.fml_link.specs.Outcome.{◌>>=◌}
 use Rattle.fml_link.specs.declared.fault.LinkRefusal.{LinkRefusal}
@@ -83,3 +84,6 @@ single_links file root m formed sound stands short =
     let tree = tree_again root (single m) sound (single_shallow m formed) short in
     let says = ap (file_module root) stands ∙ file_again root (single m) (alone m) tree (module_again m formed) in
     links_alone file root m says formed
+
+pub links_back : (m : Manifest) → IsWellFormed m → IsSound (single m) → LinksBack m
+links_back m formed sound = λ file root stands short. single_links file root m formed sound stands short

@@ -40,3 +40,11 @@ LinkAsIncluded = (file : Seq ℕ → Option (Seq ℕ)) (root : Seq ℕ) → Impo
 -- where the file of a name is the single file of a well formed manifest, and has at most 4,194,304 bytes, linking it for the manifest's channel gives the manifest
 abbrev pub SingleLinksBack : Type 0
 SingleLinksBack = (file : Seq ℕ → Option (Seq ℕ)) (root : Seq ℕ) (m : Manifest) → IsWellFormed m → IsSound (single m) → file root ≡ Some (text_of (single m)) → length (text_of (single m)) ≤ max_bytes → linked file root m.channel ≡ Ok m
+
+-- each shelf on which the file of a name is the text of the manifest's single file, of at most 4,194,304 bytes, links that name to an equal manifest, for the manifest's channel
+abbrev pub LinksBack : Manifest → Type 0
+LinksBack m = (file : Seq ℕ → Option (Seq ℕ)) (root : Seq ℕ) → file root ≡ Some (text_of (single m)) → length (text_of (single m)) ≤ max_bytes → linked file root m.channel ≡ Ok m
+
+-- each manifest that files link to is linked back
+abbrev pub LinkedLinksBack : Type 0
+LinkedLinksBack = (file : Seq ℕ → Option (Seq ℕ)) (root channel : Seq ℕ) (m : Manifest) → linked file root channel ≡ Ok m → LinksBack m

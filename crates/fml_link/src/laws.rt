@@ -1,5 +1,5 @@
 // Laws of the list of files and of the manifest.
-ghost use Rattle.fml_link.specs.Laws.{StartWithRoot, AreDistinct, AreClosed, LinkAsIncluded, SingleLinksBack};
+ghost use Rattle.fml_link.specs.Laws.{StartWithRoot, AreDistinct, AreClosed, LinkAsIncluded, SingleLinksBack, LinkedLinksBack};
 
 /// The files that `link` reads start with the root, for the asked channel. No name stands twice among
 /// them, and each file that one of them includes or imports is one of them, and is read for that
@@ -17,7 +17,9 @@ pub fn included_files()
 {}
 
 /// A shelf on which the file of a name is the text of the single file of a well formed manifest, of at
-/// most 4,194,304 bytes, links it to that manifest, for the manifest's channel. It takes no memory.
+/// most 4,194,304 bytes, links it to that manifest, for the manifest's channel. Each manifest that
+/// files link to is well formed, so its single file links back. It takes no memory.
 pub fn single_links_back()
-    ensures { SingleLinksBack }
+    ensures well_formed { SingleLinksBack }
+    ensures linked { LinkedLinksBack }
 {}

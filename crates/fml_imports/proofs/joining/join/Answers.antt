@@ -7,6 +7,7 @@ use Rattle.fml_imports.specs.declared.joining.Linked.{Linked}
 use Rattle.fml_imports.proofs.FormedManifests.{gives_formed}
 use Rattle.fml_imports.proofs.Joined.{joins}
 use Rattle.fml_imports.proofs.SoundManifests.{gives_sound}
+use Rattle.fml_imports.proofs.SoundSingles.{gives_sound_single}
 use Rattle.fml_imports.proofs.joining.join.Goals as goal
 
 pub returns-clause-joins : goal.returns-clause-joins
@@ -31,3 +32,6 @@ returns-clause-sound c =
 
 pub returns-clause-well_formed : goal.returns-clause-well_formed
 returns-clause-well_formed c = gives_formed c.args.files c.args.channel.now c.checked.result c.requires (returns-clause-joins c)
+
+pub returns-clause-sound_single : goal.returns-clause-sound_single
+returns-clause-sound_single c = gives_sound_single c.args.files c.args.channel.now c.checked.result c.requires (returns-clause-joins c)
