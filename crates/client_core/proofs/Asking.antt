@@ -5,7 +5,7 @@ use Rattle.fml_link.specs.Asked.{IsAskedFrom}
 use Rattle.client_words.specs.declared.command.Command.{Command}
 use Rattle.client_words.specs.declared.command.Command.TheVariants.{Apply, Participate, OptOut, OptIn, Reset, Show, Feature, Fetch, Event, Confirm, Bind, SetPreference, ClearPreference, WriteManifest}
 use Rattle.client_words.specs.declared.command.Command.TheVariants as commands
-use Rattle.client_core.specs.Commands.{names_file, HasAsked}
+use Rattle.client_steps.specs.Commands.{names_file, HasAsked}
 
 module _ {F : Type 0} (f : Ghosts F) (shelf left : F) (command : Command) (file : List ℕ) where
   pub manifest_asked : (channel : List ℕ) → command ≡ commands.Manifest file channel → IsAskedFrom f.asks file shelf left → HasAsked f command shelf left

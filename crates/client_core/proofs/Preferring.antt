@@ -10,8 +10,8 @@ use Rattle.client_state.specs.Sound.{IsConsistent}
 use Rattle.client_state.specs.declared.client_state.ClientState.{ClientState}
 use Rattle.client_state.specs.declared.state_change.StateChange.{StateChange}
 use Rattle.client_state.proofs.HoldersAfter.{holders_after}
-use Rattle.client_core.specs.declared.session.Session.{Session}
-use Rattle.client_core.proofs.FollowedPreferences.{released_free}
+use Rattle.client_steps.specs.declared.session.Session.{Session}
+use Rattle.client_steps.proofs.FollowedPreferences.{released_free}
 
 module _ (s : ClientState) (c : IsConsistent s) (session : Session) (name holder : List ℕ) (held : holder_of name s.preferences ≡ Some holder) (e : State) (ended : e ≡ enrolment_ended holder s.enrolment) (lists : RecipeLists) (change : StateChange) (is : change ≡ of_enrolment e lists) where
   free_after : (t : ClientState) → t ≡ followed session.manifest session.bindings change s → holder_of name t.preferences ≡ None

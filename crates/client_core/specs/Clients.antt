@@ -1,14 +1,14 @@
 -- What contracts see of a client.
 use Rattle.std.specs.Prelude.{◌≡◌, ℕ}
 use Rattle.host_model.specs.declared.host.Host.{Ghosts}
-use Rattle.row_store.specs.Store.{RowsStand, RowsStandWithGate, place}
 use Rattle.client_state.specs.declared.client_state.ClientState.{ClientState}
-use Rattle.client_core.specs.declared.client.Client.{Client}
 use Rattle.client_words.specs.declared.command.Command.{Command}
-use Rattle.client_core.specs.declared.session.Session.{Session}
-use Rattle.client_core.specs.Settings.{Setting}
-use Rattle.client_core.specs.Steps.{Step, step}
-use Rattle.client_core.specs.Stored.{IsStored, IsSameStored}
+use Rattle.client_store.specs.OpenStore as stores
+use Rattle.client_store.specs.Stored.{IsSameStored}
+use Rattle.client_steps.specs.declared.session.Session.{Session}
+use Rattle.client_steps.specs.Settings.{Setting}
+use Rattle.client_steps.specs.Steps.{Step, step}
+use Rattle.client_core.specs.declared.client.Client.{Client}
 
 abbrev pub state_of : Client → ClientState
 state_of client = client.store.state
@@ -18,17 +18,16 @@ session_of client = client.session
 
 -- where the next record begins
 abbrev pub end_of : Client → ℕ
-end_of client = place client.store.rows
+end_of client = stores.end_of client.store
 
 -- the sides of this host are as the client's last call left them: their records fold to the rows of its state, which is sound,
 -- and each image is what reads give
-pub record IsOpenOn {H : Type 0} (h : Ghosts H) (client : Client) (host : H) : Type 0 where
-  pub stored : IsStored client.store
-  pub stands : RowsStand h client.store.rows host
+abbrev pub IsOpenOn : {H : Type 0} → Ghosts H → Client → H → Type 0
+IsOpenOn h client host = stores.IsOpenOn h client.store host
 
 -- and a byte stands where the next record begins
 abbrev pub HasGateOn : {H : Type 0} → Ghosts H → Client → H → Type 0
-HasGateOn h client host = RowsStandWithGate h client.store.rows host
+HasGateOn h client host = stores.HasGateOn h client.store host
 
 -- it stores what it stored, in the same session; its store may have room for more rows
 pub record IsSameClient (old new : Client) : Type 0 where

@@ -5,16 +5,16 @@ ghost use Rattle.host_model.specs.Causes.{HasCause};
 ghost use Rattle.host_model.specs.Hosts.{MeetsAll};
 ghost use Rattle.pair_store.specs.Moments.{StaysBelow};
 ghost use Rattle.client_state.specs.Sound.{IsConsistent, IsSound};
-ghost use Rattle.client_core.specs.Moments.{WhileWritten};
-ghost use Rattle.client_core.specs.OpenStore.{IsSettled, AllKept, AllKeptEither, AllStand};
-ghost use Rattle.client_core.specs.Places.{place_after, bytes_for, makes_checkpoint};
-ghost use Rattle.client_core.specs.Sessions.{changed_by};
+ghost use Rattle.client_store.specs.Moments.{WhileWritten};
+ghost use Rattle.client_store.specs.OpenStore.{IsSettled, AllKept, AllKeptEither, AllStand};
+ghost use Rattle.client_store.specs.Places.{place_after, bytes_for, makes_checkpoint};
+ghost use Rattle.client_steps.specs.Sessions.{changed_by};
 
-use crate::prepared::{Change, Prepared};
-use crate::session::{Session, SessionChange};
-use crate::state_store::StateStore;
+use crate::prepared::Prepared;
 use change_outbox::Outbox;
 use client_state::ClientState;
+use client_steps::{Session, SessionChange};
+use client_store::{Change, StateStore};
 use enrol_states::State;
 use event_counts::Counts;
 use host_model::{DiskFailed, Host};
@@ -32,7 +32,8 @@ pub struct Client {
 
 impl Client {
     ghost use Rattle.client_core.specs.Clients.{state_of, session_of, end_of, IsOpenOn, HasGateOn};
-    ghost use Rattle.client_core.specs.Prepared.{IsMadeOn, IsChangeOf, next_state, next_session, is_checkpoint};
+    ghost use Rattle.client_store.specs.Changes.{IsChangeOf};
+    ghost use Rattle.client_core.specs.Prepared.{IsMadeOn, next_state, next_session, is_checkpoint};
 
     /// The state. It takes no memory.
     pub fn state(&self) -> &ClientState

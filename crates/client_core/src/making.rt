@@ -1,5 +1,5 @@
 // A store is made.
-ghost use Rattle.std.specs.Prelude.{◌≡◌, ◌⊎◌, ◌≤◌, ◌+◌, List, [], ◌∷◌, drop, IfOk, OnOk, IsOk, IsErrOf};
+ghost use Rattle.std.specs.Prelude.{◌≡◌, ◌⊎◌, ◌≤◌, ◌+◌, List, ◌∷◌, drop, OnOk, IsOk, IsErrOf};
 ghost use Rattle.gate_journal.specs.Costs.{HasCost};
 ghost use Rattle.host_model.specs.declared.side.Side.TheVariants.{Left, Right};
 ghost use Rattle.host_model.specs.Causes.{Rose};
@@ -9,25 +9,18 @@ ghost use Rattle.pair_store.specs.Repair.{repair_cost, IsLeftByOpening};
 ghost use Rattle.client_state.specs.declared.client_state.ClientState.{ClientState};
 ghost use Rattle.enrol_states.specs.State.{last_moment};
 ghost use Rattle.row_store.specs.Rows.{HasRows};
-ghost use Rattle.row_batches.specs.Batch.{whole_of, applied, batch_text};
-ghost use Rattle.client_state.specs.Sound.{IsSound};
-ghost use Rattle.client_state.specs.Spelling.{rows_of, spelling};
-ghost use Rattle.client_core.specs.Finds.{MakeFinds, MakeFailed};
-ghost use Rattle.client_core.specs.Moments.{IsQuiet, IsLeftAmong};
-ghost use Rattle.client_core.specs.NewStates.{fresh};
-ghost use Rattle.client_core.specs.OpenStore.{AllKept, AllKeptAmong, IsSettled};
-ghost use Rattle.client_core.specs.Places.{making_bytes};
-ghost use Rattle.client_core.specs.Store.{IsStore, IsAbsent, IsBad};
+ghost use Rattle.client_state.specs.Spelling.{rows_of};
+ghost use Rattle.client_store.specs.Finds.{MakeFinds, MakeFailed};
+ghost use Rattle.client_store.specs.Moments.{IsQuiet, IsLeftAmong};
+ghost use Rattle.client_store.specs.NewStates.{fresh};
+ghost use Rattle.client_store.specs.OpenStore.{AllKept, AllKeptAmong, IsSettled};
+ghost use Rattle.client_store.specs.Places.{making_bytes};
+ghost use Rattle.client_store.specs.Store.{IsStore, IsAbsent, IsBad};
 
 use crate::client::Client;
-use crate::faults::{ClientFault, MakeFault};
-use crate::found_store::FoundStore;
-use client_state::{ClientState, whole_batch};
-use enrol_states::State;
+use client_store::{MakeFault, StateStore};
 use host_model::Host;
-use row_batches::Batch;
-use row_store::RowStore;
-use std::alloc::{AllocError, Global};
+use std::alloc::Global;
 use uuid::Uuid;
 
 impl Client {
@@ -71,26 +64,6 @@ impl Client {
         ensures disk_faults { H.disk_faults host.old ≤ H.disk_faults host.new }
         ensures say_faults { H.say_faults host.new ≡ H.say_faults host.old }
     {
-        let first = first_rows(alloc, id, now)?;
-        match FoundStore::open(alloc, host) {
-            Ok(_) => Err(MakeFault::AlreadyStore),
-            Err(ClientFault::NoStore) => Ok(RowStore::make(alloc, host, &first)?),
-            Err(ClientFault::BadStore) => Err(MakeFault::BadStore),
-            Err(ClientFault::DiskFault) => Err(MakeFault::DiskFault),
-            Err(ClientFault::OutOfMemory) => Err(MakeFault::OutOfMemory),
-        }
+        StateStore::make(alloc, host, id, now)
     }
-}
-
-// The rows of the state of a new store, behind a clear.
-fn first_rows(alloc: Global, id: Uuid, now: u64) -> Result<Batch, AllocError>
-    requires { now ≤ last_moment }
-    ensures sound { IsSound (fresh id now) }
-    ensures rows { IfOk result (λ batch. batch ≡ whole_of (rows_of (fresh id now))) }
-    ensures text { IfOk result (λ batch. batch_text batch ≡ spelling (fresh id now)) }
-    ensures gives { IfOk result (λ batch. applied batch [] ≡ rows_of (fresh id now)) }
-{
-    let enrolment = State::new(alloc, id, now);
-    let state = ClientState::new(alloc, enrolment);
-    whole_batch(alloc, &state)
 }

@@ -6,20 +6,20 @@ ghost use Rattle.host_model.specs.Hosts.{MeetsAll};
 ghost use Rattle.pair_store.specs.Moments.{StaysBelow};
 ghost use Rattle.client_state.specs.declared.client_state.ClientState.{ClientState};
 ghost use Rattle.client_state.specs.Sound.{IsSound};
-ghost use Rattle.client_core.specs.Moments.{IsLeftAmong};
-ghost use Rattle.client_core.specs.OpenStore.{AllKeptAmong};
-ghost use Rattle.client_core.specs.Sessions.{no_session};
+ghost use Rattle.client_store.specs.Moments.{IsLeftAmong};
+ghost use Rattle.client_store.specs.OpenStore.{AllKeptAmong};
+ghost use Rattle.client_steps.specs.Sessions.{no_session};
 
 use crate::client::Client;
-use crate::faults::ClientFault;
-use crate::found_store::FoundStore;
-use crate::session::Session;
+use client_steps::Session;
+use client_store::{ClientFault, StateStore};
 use host_model::Host;
 use std::alloc::Global;
 
 impl Client {
+    ghost use Rattle.client_store.specs.Openings.{OpensInPhases, OpenJudges};
     ghost use Rattle.client_core.specs.Clients.{state_of, session_of};
-    ghost use Rattle.client_core.specs.Openings.{OpensInPhases, OpenEnds, OpenJudges};
+    ghost use Rattle.client_core.specs.Openings.{OpenEnds};
 
     /// Opens the store: both sides are synced and read, and the session is empty. Nothing is said.
     ///
@@ -44,14 +44,11 @@ impl Client {
         ensures disk_faults { H.disk_faults host.old ≤ H.disk_faults host.new }
         ensures say_faults { H.say_faults host.new ≡ H.say_faults host.old }
     {
-        match FoundStore::open(alloc, host) {
-            Ok(found) => match found.migrated(alloc, host) {
-                Ok(store) => Ok(Client {
-                    store,
-                    session: Session::new(),
-                }),
-                Err(fault) => Err(fault),
-            },
+        match StateStore::open(alloc, host) {
+            Ok(store) => Ok(Client {
+                store,
+                session: Session::new(),
+            }),
             Err(fault) => Err(fault),
         }
     }

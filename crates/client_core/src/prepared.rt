@@ -1,17 +1,9 @@
 // A step, built before anything of it is written.
 ghost use Rattle.std.specs.Prelude.{◌≡◌};
 
-use crate::session::SessionChange;
-use crate::sized_state::SizedState;
+use client_steps::SessionChange;
+use client_store::Change;
 use client_words::Answer;
-use row_store::Ready;
-
-/// A new state, and the changed rows, ready to be committed.
-#[derive(Drop)]
-pub(crate) struct Change {
-    pub(crate) state: SizedState,
-    pub(crate) ready: Ready,
-}
 
 /// What a command leaves, and its answer. Where the state changes it holds the new one with the changed rows.
 #[derive(Drop)]

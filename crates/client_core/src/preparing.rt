@@ -8,24 +8,22 @@ ghost use Rattle.client_state.specs.Following.{followed, spends};
 ghost use Rattle.client_state.specs.Sound.{max_size};
 ghost use Rattle.client_state.specs.Spelling.{spelling};
 ghost use Rattle.client_words.specs.Commands.{IsCommand};
-ghost use Rattle.client_core.specs.Asked.{asked_outcome, answer_for, changed_outcome, FollowsFrom, IsAnswerOrRefused};
-ghost use Rattle.client_core.specs.Commands.{names_file, HasAsked};
-ghost use Rattle.client_core.specs.ServedValues.{IsTyped};
-ghost use Rattle.client_core.specs.Settings.{setting};
-ghost use Rattle.client_core.specs.Sessions.{changed_by};
-ghost use Rattle.client_core.specs.Steps.{Accepted, outcome, done};
+ghost use Rattle.client_steps.specs.Asked.{asked_outcome, answer_for, changed_outcome, FollowsFrom, IsAnswerOrRefused};
+ghost use Rattle.client_steps.specs.Commands.{names_file, HasAsked};
+ghost use Rattle.client_steps.specs.ServedValues.{IsTyped};
+ghost use Rattle.client_steps.specs.Settings.{setting};
+ghost use Rattle.client_steps.specs.Sessions.{changed_by};
+ghost use Rattle.client_steps.specs.Steps.{Accepted, outcome, done};
 
-use crate::asked::Asked;
-use crate::bind::reading_bindings;
 use crate::client::Client;
-use crate::context::reading_context;
-use crate::faults::StepFault;
-use crate::fetch::fetching;
-use crate::manifest::setting_manifest;
 use crate::prepared::Prepared;
-use crate::session::SessionChange;
 use change_outbox::AppendChangesFault;
 use client_state::StateChange;
+use client_steps::{
+    Asked, SessionChange, StepFault, applying, confirming, counting, fetching, listing_changes,
+    listing_preferences, opting_in, opting_out, participating, reading_bindings, reading_context,
+    resetting, serving, setting_manifest, showing, writing_manifest,
+};
 use client_words::{Answer, Command};
 use host_model::Shelf;
 use jexl_transforms::TransformTable;
@@ -102,23 +100,28 @@ impl Client {
             Command::Manifest { file, channel } => setting_manifest(alloc, shelf, file, channel),
             Command::Context { file } => reading_context(alloc, shelf, file),
             Command::Fetch { file } => fetching(alloc, self.state(), shelf, file),
-            Command::Apply => Ok(self.applying(alloc, table, now)?),
-            Command::Participate { part, on } => Ok(self.participating(alloc, *part, *on)?),
-            Command::OptOut { slug } => Ok(self.opting_out(alloc, slug)?),
-            Command::OptIn { slug, branch } => Ok(self.opting_in(alloc, slug, branch)?),
-            Command::Reset { id } => Ok(self.resetting(alloc, *id)?),
-            Command::Show => Ok(self.showing(alloc)?),
-            Command::Feature { name } => Ok(self.serving(alloc, name)?),
-            Command::WriteManifest => Ok(self.writing_manifest(alloc)?),
-            Command::Event { name, count } => Ok(self.counting(alloc, name, *count, now)?),
-            Command::Changes => Ok(self.listing_changes(alloc)?),
-            Command::Confirm { number } => Ok(self.confirming(*number)?),
+            Command::Apply => Ok(applying(alloc, self.state(), &self.session, table, now)?),
+            Command::Participate { part, on } => Ok(participating(
+                alloc,
+                self.state(),
+                *part,
+                *on,
+            )?),
+            Command::OptOut { slug } => Ok(opting_out(alloc, self.state(), slug)?),
+            Command::OptIn { slug, branch } => Ok(opting_in(alloc, self.state(), slug, branch)?),
+            Command::Reset { id } => Ok(resetting(alloc, self.state(), *id)?),
+            Command::Show => Ok(showing(self.state())?),
+            Command::Feature { name } => Ok(serving(alloc, self.state(), &self.session, name)?),
+            Command::WriteManifest => Ok(writing_manifest(alloc, &self.session)?),
+            Command::Event { name, count } => Ok(counting(alloc, self.state(), name, *count, now)?),
+            Command::Changes => Ok(listing_changes(alloc, self.state())?),
+            Command::Confirm { number } => Ok(confirming(self.state(), *number)?),
             Command::Bind { file } => reading_bindings(alloc, shelf, file),
             Command::SetPreference { name, value } => {
                 Ok(self.preferring(alloc, name, Some(value))?)
             }
             Command::ClearPreference { name } => Ok(self.preferring(alloc, name, None)?),
-            Command::Preferences => Ok(self.listing_preferences()?),
+            Command::Preferences => Ok(listing_preferences(self.state())?),
         }
     }
 

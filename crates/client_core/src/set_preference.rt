@@ -4,13 +4,13 @@ ghost use Rattle.plain_text.specs.Names.{is_name};
 ghost use Rattle.pref_bindings.specs.Preferences.{IsValue, holder_of};
 ghost use Rattle.client_state.specs.Changes.{IsWholeChangeOf, state_after};
 ghost use Rattle.client_words.specs.declared.answer.Answer.TheVariants.{Okay, ChangesSpent};
-ghost use Rattle.client_core.specs.Asked.{asked_outcome, FollowsFrom};
-ghost use Rattle.client_core.specs.Steps.{Accepted, Refused, preferring, releasing};
+ghost use Rattle.client_steps.specs.Asked.{asked_outcome, FollowsFrom};
+ghost use Rattle.client_steps.specs.Steps.{Accepted, Refused, preferring, releasing};
 
-use crate::asked::Asked;
 use crate::client::Client;
 use change_outbox::AppendChangesFault;
 use client_state::{StateChange, end_enrolment, set_preference};
+use client_steps::Asked;
 use client_words::Answer;
 use json_tree::Tree;
 use sequences::Text;

@@ -5,8 +5,8 @@ use Rattle.host_model.specs.Hosts.{MeetsAll}
 use Rattle.host_model.specs.Moments.{IsSaying}
 use Rattle.host_model.proofs.Meeting.{then_met, met_weaker}
 use Rattle.client_state.specs.declared.client_state.ClientState.{ClientState}
-use Rattle.client_core.specs.Moments.{WhileWritten}
-use Rattle.client_core.specs.OpenStore.{AllKept}
+use Rattle.client_store.specs.Moments.{WhileWritten}
+use Rattle.client_store.specs.OpenStore.{AllKept}
 use Rattle.session_run.specs.declared.faults.RunFault.{RunFault}
 use Rattle.session_run.specs.Ends.{LineEnds}
 use Rattle.session_run.specs.Moments.{DuringLine}

@@ -4,7 +4,7 @@ use Rattle.std.proofs.lemmas.List.{append-nil}
 use Rattle.host_model.specs.ShelfLaws.{reached_then}
 use Rattle.host_model.specs.declared.shelf.Shelf.{Ghosts}
 use Rattle.client_words.specs.declared.command.Command.{Command}
-use Rattle.client_core.specs.Commands.{HasAsked}
+use Rattle.client_steps.specs.Commands.{HasAsked}
 use Rattle.client_words.specs.Commands.{command_of}
 use Rattle.session_run.specs.Files.{LineAsksFor, LinesAskFor, LineAsked, LinesAsked}
 

@@ -7,8 +7,8 @@ use Rattle.host_model.specs.Hosts.{MeetsAll}
 use Rattle.host_model.specs.Moments.{IsSaying, Elapses, KeepsSide}
 use Rattle.host_model.proofs.Meeting.{goes_on, met_weaker}
 use Rattle.client_state.specs.declared.client_state.ClientState.{ClientState}
-use Rattle.client_core.specs.Moments.{IsQuiet}
-use Rattle.client_core.specs.OpenStore.{AllKept}
+use Rattle.client_store.specs.Moments.{IsQuiet}
+use Rattle.client_store.specs.OpenStore.{AllKept}
 use Rattle.session_run.specs.Making.{DuringMaking}
 
 module _ {H : Type 0} (h : Ghosts H) (start mid new : H) (s : ClientState) (text : List ℕ) where

@@ -3,11 +3,11 @@ use Rattle.std.proofs.Common.{◌≡◌, ◌⊎◌, inl, inr, ℕ, List, refl, s
 use Rattle.host_model.specs.declared.host.Host.{Ghosts}
 use Rattle.pair_store.specs.Repair.{IsLeftByOpening}
 use Rattle.client_state.specs.declared.client_state.ClientState.{ClientState}
-use Rattle.client_core.specs.Finds.{MakeFinds}
-use Rattle.client_core.specs.declared.faults.ClientFault.{ClientFault}
-use Rattle.client_core.specs.declared.faults.ClientFault.TheVariants as client
-use Rattle.client_core.specs.declared.faults.MakeFault.{MakeFault}
-use Rattle.client_core.specs.declared.faults.MakeFault.TheVariants as make
+use Rattle.client_store.specs.Finds.{MakeFinds}
+use Rattle.client_store.specs.declared.faults.ClientFault.{ClientFault}
+use Rattle.client_store.specs.declared.faults.ClientFault.TheVariants as client
+use Rattle.client_store.specs.declared.faults.MakeFault.{MakeFault}
+use Rattle.client_store.specs.declared.faults.MakeFault.TheVariants as make
 use Rattle.session_run.specs.declared.faults.RunFault.{RunFault}
 use Rattle.session_run.specs.declared.faults.RunFault.TheVariants as run
 use Rattle.session_run.specs.declared.script.ScriptFault.{ScriptFault}

@@ -4,10 +4,10 @@ use Rattle.std.specs.Prelude.{IsErrOf}
 use Rattle.host_model.specs.Causes.{Rose}
 use Rattle.host_model.specs.declared.host.Host.{Ghosts}
 use Rattle.host_model.specs.declared.shelf.Shelf as shelves
-use Rattle.client_core.specs.declared.faults.ClientFault.{ClientFault}
-use Rattle.client_core.specs.declared.faults.ClientFault.TheVariants as store
-use Rattle.client_core.specs.declared.faults.MakeFault.{MakeFault}
-use Rattle.client_core.specs.declared.faults.MakeFault.TheVariants as make
+use Rattle.client_store.specs.declared.faults.ClientFault.{ClientFault}
+use Rattle.client_store.specs.declared.faults.ClientFault.TheVariants as store
+use Rattle.client_store.specs.declared.faults.MakeFault.{MakeFault}
+use Rattle.client_store.specs.declared.faults.MakeFault.TheVariants as make
 use Rattle.session_run.specs.declared.faults.RunFault.{RunFault}
 use Rattle.session_run.specs.declared.faults.RunFault.TheVariants as run
 use Rattle.session_run.specs.declared.status.RunStatus.{RunStatus}

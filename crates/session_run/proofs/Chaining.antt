@@ -4,8 +4,8 @@ use Rattle.std.specs.Prelude.{IsTrue}
 use Rattle.enrol_states.specs.Order.{is_in}
 use Rattle.client_state.specs.declared.client_state.ClientState.{ClientState}
 use Rattle.client_state.specs.Sound.{IsSound}
-use Rattle.client_core.specs.Store.{KeptFor}
-use Rattle.client_core.proofs.Uniqueness.{one_state}
+use Rattle.client_store.specs.Store.{KeptFor}
+use Rattle.client_store.proofs.Uniqueness.{one_state}
 use Rattle.session_run.specs.Steps.{after}
 use Rattle.session_run.specs.Chains.{Link, Leads, IsChain, EndsKept, folded, NoneBringsBack, IsHeldOutOver}
 use Rattle.session_run.specs.OptOuts.{IsHeldOut, IsOut}

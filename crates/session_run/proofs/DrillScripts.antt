@@ -9,7 +9,7 @@ use Rattle.client_state.specs.declared.client_state.ClientState.{ClientState}
 use Rattle.recipe_drill.specs.declared.drill.Drill.{Drill}
 use Rattle.recipe_drill.specs.Parts.{Parts, parts_of, drill}
 use Rattle.recipe_drill.specs.Summary as counts
-use Rattle.client_core.specs.Settings.{Setting}
+use Rattle.client_steps.specs.Settings.{Setting}
 use Rattle.client_words.specs.Commands.{lines_of}
 use Rattle.session_run.specs.declared.status.RunStatus.{RunStatus}
 use Rattle.session_run.specs.declared.status.RunStatus.TheVariants.{Done, ScriptTooLong, SourceFault, ShelfFault}

@@ -13,10 +13,10 @@ use Rattle.client_state.specs.Sound.{IsSound}
 use Rattle.client_state.proofs.Empty.{empty_is_sound}
 use Rattle.state_codec.proofs.Fresh.{fresh_is_sound}
 use Rattle.recipe_drill.specs.Parts.{drill_id}
-use Rattle.client_core.specs.Moments.{IsLeftAmong}
+use Rattle.client_store.specs.Moments.{IsLeftAmong}
 use Rattle.row_store.specs.Rows.{HasPlace}
-use Rattle.client_core.specs.Store.{IsAbsent}
-use Rattle.client_core.proofs.Holding.{kept_said}
+use Rattle.client_store.specs.Store.{IsAbsent}
+use Rattle.client_store.proofs.Holding.{kept_said}
 use Rattle.session_run.specs.declared.status.RunStatus.{RunStatus}
 use Rattle.session_run.specs.declared.status.RunStatus.TheVariants.{Done, Usage, ScriptTooLong, NoStore, AlreadyStore, BadStore, SourceFault, ShelfFault, DiskFault, SayFault, OutOfMemory}
 use Rattle.session_run.specs.Drills.{drill_bytes, drill_fresh, drill_ready, drill_setting, drill_start, drill_summary, AfterReady, DuringDrill}

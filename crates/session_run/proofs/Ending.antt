@@ -3,8 +3,8 @@ use Rattle.std.proofs.Common.{◌≡◌, inl, inr, ℕ, ◌<◌, ◌≤◌, ◌+
 use Rattle.std.specs.Prelude.{slice_get}
 use Rattle.host_model.specs.declared.host.Host.{Ghosts}
 use Rattle.client_state.specs.declared.client_state.ClientState.{ClientState}
-use Rattle.client_core.specs.OpenStore.{AllKept, AllKeptEither}
-use Rattle.client_core.specs.Settings.{Setting}
+use Rattle.client_store.specs.OpenStore.{AllKept, AllKeptEither}
+use Rattle.client_steps.specs.Settings.{Setting}
 use Rattle.session_run.specs.declared.faults.RunFault.{RunFault}
 use Rattle.session_run.specs.declared.faults.RunFault.TheVariants as run
 use Rattle.session_run.specs.declared.script.ScriptFault.{ScriptFault}

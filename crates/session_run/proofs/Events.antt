@@ -12,11 +12,11 @@ use Rattle.client_words.specs.declared.command.Command.{Command}
 use Rattle.client_words.specs.declared.command.Command.TheVariants as commands
 use Rattle.client_words.specs.declared.line.LineFault.{LineFault}
 use Rattle.client_words.specs.Commands.{command_of}
-use Rattle.client_core.specs.EventSteps.{is_okay, counts_after as counts_then}
-use Rattle.client_core.specs.Settings.{Setting}
-use Rattle.client_core.specs.Store.{KeptFor}
-use Rattle.client_core.specs.Steps.{step}
-use Rattle.client_core.proofs.EventSteps.{events_follow}
+use Rattle.client_steps.specs.EventSteps.{is_okay, counts_after as counts_then}
+use Rattle.client_steps.specs.Settings.{Setting}
+use Rattle.client_store.specs.Store.{KeptFor}
+use Rattle.client_steps.specs.Steps.{step}
+use Rattle.client_steps.proofs.EventSteps.{events_follow}
 use Rattle.session_run.specs.Chains.{Link, IsChain, EndsKept, folded}
 use Rattle.session_run.specs.EventChains.{noted_by, noted, events_over}
 use Rattle.session_run.specs.Histories.{Turn, turns_of, history, done_in, command_done}

@@ -2,11 +2,11 @@
 use Rattle.std.proofs.Common.{◌≡◌, ◌⊎◌, inl, inr, ℕ, List, [], ◌∷◌, refl}
 use Rattle.session_run.specs.declared.status.RunStatus.{RunStatus}
 use Rattle.session_run.specs.declared.status.RunStatus.TheVariants.{Done, Usage, ScriptTooLong, NoStore, AlreadyStore, BadStore, SourceFault, ShelfFault, DiskFault, SayFault, OutOfMemory}
-use Rattle.client_core.specs.Store.{KeptAmong, IsStore, IsAbsent, IsBad}
+use Rattle.client_store.specs.Store.{KeptAmong, IsStore, IsAbsent, IsBad}
 use Rattle.client_state.specs.declared.client_state.ClientState.{ClientState}
-use Rattle.client_core.proofs.Holding.{stands_of_kept}
+use Rattle.client_store.proofs.Holding.{stands_of_kept}
 use Rattle.session_run.specs.Finds.{EndedBefore, RunFinds, MakingFinds, RunJudges, MakingJudges}
-use Rattle.client_core.proofs.Refusing.{stands_not_absent}
+use Rattle.client_store.proofs.Refusing.{stands_not_absent}
 
 module _ (l r : List ℕ) where
   store_not_absent : IsStore l r → IsAbsent l r → ⊥

@@ -4,8 +4,8 @@ use Rattle.std.specs.Prelude.{slice_get, Some}
 use Rattle.host_model.specs.declared.host.Host.{Ghosts}
 use Rattle.host_model.specs.Hosts.{MeetsAll}
 use Rattle.client_state.specs.declared.client_state.ClientState.{ClientState}
-use Rattle.client_core.specs.Places.{place_after, bytes_for}
-use Rattle.client_core.specs.Settings.{Setting}
+use Rattle.client_store.specs.Places.{place_after, bytes_for}
+use Rattle.client_steps.specs.Settings.{Setting}
 use Rattle.session_run.specs.declared.faults.RunFault.{RunFault}
 use Rattle.session_run.specs.declared.faults.RunFault.TheVariants.{ShelfFault}
 use Rattle.session_run.specs.Steps.{RunState, begun, run_after, answer, run_at, after, out}

@@ -4,8 +4,8 @@ use Rattle.host_model.specs.declared.side.Side.TheVariants.{Left, Right}
 use Rattle.host_model.specs.declared.host.Host.{Ghosts}
 use Rattle.host_model.specs.Hosts.{NowOf}
 use Rattle.client_state.specs.declared.client_state.ClientState.{ClientState}
-use Rattle.client_core.specs.OpenStore.{AllKept, AllKeptAmong}
-use Rattle.client_core.specs.Store.{KeptFor, KeptAmong}
+use Rattle.client_store.specs.OpenStore.{AllKept, AllKeptAmong}
+use Rattle.client_store.specs.Store.{KeptFor, KeptAmong}
 use Rattle.session_run.specs.declared.status.RunStatus.{RunStatus}
 use Rattle.session_run.specs.declared.status.RunStatus.TheVariants.{Done, Usage, ScriptTooLong, NoStore, AlreadyStore, BadStore, SourceFault, ShelfFault, DiskFault, SayFault, OutOfMemory}
 use Rattle.session_run.specs.Chains.{IsLinked, MomentsAreLinks}

@@ -6,12 +6,12 @@ use Rattle.host_model.specs.declared.host.Host.{Ghosts}
 use Rattle.host_model.specs.Hosts.{MeetsAll}
 use Rattle.host_model.specs.Moments.{IsSaying, Elapses, KeepsSide}
 use Rattle.row_store.specs.Rows.{HasRows}
-use Rattle.client_core.specs.NewStates.{fresh}
+use Rattle.client_store.specs.NewStates.{fresh}
 use Rattle.client_state.specs.Spelling.{rows_of}
-use Rattle.client_core.specs.Moments.{IsQuiet}
-use Rattle.client_core.specs.OpenStore.{AllKept}
-use Rattle.client_core.specs.Places.{making_bytes}
-use Rattle.client_core.specs.Store.{IsAbsent}
+use Rattle.client_store.specs.Moments.{IsQuiet}
+use Rattle.client_store.specs.OpenStore.{AllKept}
+use Rattle.client_store.specs.Places.{making_bytes}
+use Rattle.client_store.specs.Store.{IsAbsent}
 use Rattle.session_run.specs.declared.status.RunStatus.{RunStatus}
 use Rattle.session_run.specs.declared.status.RunStatus.TheVariants.{OutOfMemory}
 use Rattle.session_run.specs.Making.{ready, DuringMaking, MakingEnds, Made}

@@ -37,13 +37,13 @@ use Rattle.client_words.specs.declared.answer.Answer.TheVariants.{Okay, OptedOut
 use Rattle.client_words.specs.declared.command.Command.{Command}
 use Rattle.client_words.specs.declared.command.Command.TheVariants.{Fetch, Apply, Participate, OptOut, OptIn, Reset, Show, Feature, Event, Confirm, Bind, SetPreference, ClearPreference, WriteManifest}
 use Rattle.client_words.specs.declared.command.Command.TheVariants as commands
-use Rattle.client_core.specs.declared.session.Session.{Session}
-use Rattle.client_core.specs.Choosing.{first_taker}
-use Rattle.client_core.specs.Fetching.{file_tree}
-use Rattle.client_core.specs.Manifests.{manifest_of}
-use Rattle.client_core.specs.Sessions.{with_manifest}
-use Rattle.client_core.specs.Settings.{Setting}
-use Rattle.client_core.specs.Steps.{OutcomeOver, EnrolmentOutcome, Outcome, Accepted, Refused, Step, with_enrolment, whole, enrolling, seeing, has_no_room_for, counting, confirming, participation, opting_out, taking, offering, choosing, opting_in, resetting, showing, listing_changes, listing_preferences, fetched, fetching, context_read, reading_context, bindings_read, reading_bindings, releasing, valued_by_user, preferring, setting_manifest, applying, valued, serving, writing_manifest, done, step}
+use Rattle.client_steps.specs.declared.session.Session.{Session}
+use Rattle.client_steps.specs.Choosing.{first_taker}
+use Rattle.client_steps.specs.Fetching.{file_tree}
+use Rattle.client_steps.specs.Manifests.{manifest_of}
+use Rattle.client_steps.specs.Sessions.{with_manifest}
+use Rattle.client_steps.specs.Settings.{Setting}
+use Rattle.client_steps.specs.Steps.{OutcomeOver, EnrolmentOutcome, Outcome, Accepted, Refused, Step, with_enrolment, whole, enrolling, seeing, has_no_room_for, counting, confirming, participation, opting_out, taking, offering, choosing, opting_in, resetting, showing, listing_changes, listing_preferences, fetched, fetching, context_read, reading_context, bindings_read, reading_bindings, releasing, valued_by_user, preferring, setting_manifest, applying, valued, serving, writing_manifest, done, step}
 use Rattle.client_words.specs.declared.line.LineFault.{LineFault}
 use Rattle.client_words.specs.Commands.{command_of}
 use Rattle.session_run.specs.Steps.{RunState, run_after, effect, run_at}

@@ -12,19 +12,20 @@ use Rattle.enrol_states.specs.Statuses.{last_moment}
 use Rattle.client_state.specs.declared.client_state.ClientState.{ClientState}
 use Rattle.client_state.specs.Forms.{needs_migration}
 use Rattle.client_core.specs.declared.client.Client.{Client}
-use Rattle.client_core.specs.declared.faults.ClientFault.{ClientFault}
-use Rattle.client_core.specs.declared.faults.ClientFault.TheVariants.{NoStore, BadStore, DiskFault, OutOfMemory}
+use Rattle.client_store.specs.declared.faults.ClientFault.{ClientFault}
+use Rattle.client_store.specs.declared.faults.ClientFault.TheVariants.{NoStore, BadStore, DiskFault, OutOfMemory}
 use Rattle.client_core.specs.Clients.{state_of, end_of, HasGateOn}
-use Rattle.client_core.specs.Finds.{OpenFinds}
-use Rattle.client_core.specs.Moments.{IsLeftAs}
-use Rattle.client_core.specs.Migrations.{OpensWith, place_opened, opening_bytes}
-use Rattle.client_core.specs.Openings.{IsReadOrMigrating, OpensInPhases, OpensInTwoPhases, IsOpened, OpenLeaves}
-use Rattle.client_core.specs.OpenStore.{AllKept, AllKeptAmong}
-use Rattle.client_core.specs.Settings.{setting}
-use Rattle.client_core.specs.Store.{StandsFor, KeptFor, IsStore}
-use Rattle.client_core.proofs.Holding.{stands_of_kept}
-use Rattle.client_core.proofs.Openings.{phase_kept}
-use Rattle.client_core.proofs.Refusing.{stands_not_absent}
+use Rattle.client_store.specs.Finds.{OpenFinds}
+use Rattle.client_store.specs.Moments.{IsLeftAs}
+use Rattle.client_store.specs.Migrations.{OpensWith, place_opened, opening_bytes}
+use Rattle.client_store.specs.Openings.{IsReadOrMigrating, OpensInPhases, OpensInTwoPhases, OpenLeaves}
+use Rattle.client_core.specs.Openings.{IsOpened}
+use Rattle.client_store.specs.OpenStore.{AllKept, AllKeptAmong}
+use Rattle.client_steps.specs.Settings.{setting}
+use Rattle.client_store.specs.Store.{StandsFor, KeptFor, IsStore}
+use Rattle.client_store.proofs.Holding.{stands_of_kept}
+use Rattle.client_store.proofs.Openings.{phase_kept}
+use Rattle.client_store.proofs.Refusing.{stands_not_absent}
 use Rattle.session_run.specs.declared.faults.RunFault.{RunFault}
 use Rattle.session_run.specs.declared.faults.RunFault.TheVariants as run
 use Rattle.session_run.specs.declared.status.RunStatus.{RunStatus}

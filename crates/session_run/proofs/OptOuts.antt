@@ -13,10 +13,10 @@ use Rattle.enrol_states.specs.declared.state.State.{State}
 use Rattle.client_state.specs.declared.client_state.ClientState.{ClientState}
 use Rattle.enrol_states.specs.declared.state.Row.{Row}
 use Rattle.client_state.specs.Sound.{IsSound}
-use Rattle.client_core.specs.Settings.{Setting}
-use Rattle.client_core.specs.Steps.{step}
+use Rattle.client_steps.specs.Settings.{Setting}
+use Rattle.client_steps.specs.Steps.{step}
 use Rattle.client_words.specs.declared.command.Command.{Command}
-use Rattle.client_core.proofs.OptOuts.{opt_outs_hold}
+use Rattle.client_steps.proofs.OptOuts.{opt_outs_hold}
 use Rattle.client_words.specs.declared.line.LineFault.{LineFault}
 use Rattle.client_words.specs.Commands.{command_of}
 use Rattle.session_run.specs.Steps.{RunState, run_after, effect, run_at, after}

@@ -18,13 +18,13 @@ use Rattle.client_words.specs.declared.command.Command.{Command}
 use Rattle.client_words.specs.declared.command.Command.TheVariants as commands
 use Rattle.client_words.specs.declared.line.LineFault.{LineFault}
 use Rattle.client_words.specs.Commands.{command_of}
-use Rattle.client_core.specs.EventSteps.{is_okay}
-use Rattle.client_core.specs.OutboxSteps.{confirmed_after}
-use Rattle.client_core.specs.Settings.{Setting}
-use Rattle.client_core.specs.Store.{KeptFor}
-use Rattle.client_core.specs.Steps.{Accepted, Refused, Step, done, step}
-use Rattle.client_core.specs.declared.session.Session.{Session}
-use Rattle.client_core.proofs.OutboxSteps.{outbox_follows}
+use Rattle.client_steps.specs.EventSteps.{is_okay}
+use Rattle.client_steps.specs.OutboxSteps.{confirmed_after}
+use Rattle.client_steps.specs.Settings.{Setting}
+use Rattle.client_store.specs.Store.{KeptFor}
+use Rattle.client_steps.specs.Steps.{Accepted, Refused, Step, done, step}
+use Rattle.client_steps.specs.declared.session.Session.{Session}
+use Rattle.client_steps.proofs.OutboxSteps.{outbox_follows}
 use Rattle.session_run.specs.Chains.{Link, IsChain, EndsKept, folded}
 use Rattle.session_run.specs.Histories.{Turn, turns_of, history, done_in, command_done}
 use Rattle.session_run.specs.OutboxChains.{changes_by, changes_over, confirmed_by, number_confirmed, confirmed_over}

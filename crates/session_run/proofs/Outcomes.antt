@@ -6,12 +6,12 @@ use Rattle.host_model.specs.Hosts.{MeetsAll, NowOf}
 use Rattle.host_model.proofs.Meeting.{started}
 use Rattle.client_state.specs.declared.client_state.ClientState.{ClientState}
 use Rattle.client_words.specs.declared.command.Command.{Command}
-use Rattle.client_core.specs.declared.faults.StepFault.{StepFault}
-use Rattle.client_core.specs.declared.faults.StepFault.TheVariants as step_fault
-use Rattle.client_core.specs.declared.session.Session.{Session}
-use Rattle.client_core.specs.OpenStore.{AllKept}
-use Rattle.client_core.specs.Settings.{Setting}
-use Rattle.client_core.specs.Steps.{step}
+use Rattle.client_steps.specs.declared.faults.StepFault.{StepFault}
+use Rattle.client_steps.specs.declared.faults.StepFault.TheVariants as step_fault
+use Rattle.client_steps.specs.declared.session.Session.{Session}
+use Rattle.client_store.specs.OpenStore.{AllKept}
+use Rattle.client_steps.specs.Settings.{Setting}
+use Rattle.client_steps.specs.Steps.{step}
 use Rattle.client_words.specs.declared.line.LineFault.{LineFault}
 use Rattle.client_words.specs.declared.line.LineFault.TheVariants.{OutOfMemory}
 use Rattle.session_run.specs.declared.faults.RunFault.{RunFault}

@@ -4,8 +4,8 @@ use Rattle.std.specs.Prelude.{slice_get}
 use Rattle.std.proofs.lemmas.List.{take_more, length-map}
 use Rattle.std.proofs.lemmas.Option.{slice_get-get_or}
 use Rattle.std.proofs.Math.ListN.{get_or-map}
-use Rattle.client_core.specs.Places.{place_after, bytes_for}
-use Rattle.client_core.specs.Settings.{Setting}
+use Rattle.client_store.specs.Places.{place_after, bytes_for}
+use Rattle.client_steps.specs.Settings.{Setting}
 use Rattle.client_words.specs.Commands.{bytes_at}
 use Rattle.session_run.specs.Steps.{RunState, run_after, all_after}
 use Rattle.session_run.specs.Places.{all_places, all_bytes}

@@ -20,12 +20,12 @@ use Rattle.client_words.specs.declared.command.Command.{Command}
 use Rattle.client_words.specs.declared.command.Command.TheVariants as commands
 use Rattle.client_words.specs.declared.line.LineFault.{LineFault}
 use Rattle.client_words.specs.Commands.{command_of}
-use Rattle.client_core.specs.EventSteps.{is_okay}
-use Rattle.client_core.specs.PreferenceSteps.{set_after, HasHolders}
-use Rattle.client_core.specs.Settings.{Setting as Moment}
-use Rattle.client_core.specs.Store.{KeptFor}
-use Rattle.client_core.specs.Steps.{step}
-use Rattle.client_core.proofs.PreferenceSteps.{preferences_follow}
+use Rattle.client_steps.specs.EventSteps.{is_okay}
+use Rattle.client_steps.specs.PreferenceSteps.{set_after, HasHolders}
+use Rattle.client_steps.specs.Settings.{Setting as Moment}
+use Rattle.client_store.specs.Store.{KeptFor}
+use Rattle.client_steps.specs.Steps.{step}
+use Rattle.client_steps.proofs.PreferenceSteps.{preferences_follow}
 use Rattle.session_run.specs.Chains.{Link, IsChain, EndsKept, folded}
 use Rattle.session_run.specs.Histories.{Turn, turned, turns_of, history, done_in, command_done}
 use Rattle.session_run.specs.OutboxChains.{changes_by}

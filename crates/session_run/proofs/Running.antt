@@ -5,8 +5,8 @@ use Rattle.host_model.specs.declared.host.Host.{Ghosts}
 use Rattle.host_model.specs.Hosts.{MeetsAll}
 use Rattle.host_model.proofs.Meeting.{then_met}
 use Rattle.client_state.specs.declared.client_state.ClientState.{ClientState}
-use Rattle.client_core.specs.Settings.{Setting}
-use Rattle.client_core.specs.Store.{KeptFor}
+use Rattle.client_steps.specs.Settings.{Setting}
+use Rattle.client_store.specs.Store.{KeptFor}
 use Rattle.session_run.specs.Steps.{RunState, begun, run_after, answer, all_after, all_answers, run_at, after, out}
 use Rattle.session_run.specs.Moments.{DuringLine, IsPrefixOf, AfterPrefix}
 use Rattle.session_run.proofs.Starting.{begin}

@@ -4,10 +4,10 @@ use Rattle.enrol_states.specs.Statuses.{last_moment}
 use Rattle.client_state.specs.declared.client_state.ClientState.{ClientState}
 use Rattle.client_state.specs.Sound.{IsSound}
 use Rattle.client_words.specs.declared.command.Command.{Command}
-use Rattle.client_core.specs.Settings.{Setting}
-use Rattle.client_core.specs.Soundness.{IsLawful}
+use Rattle.client_steps.specs.Settings.{Setting}
+use Rattle.client_steps.specs.Soundness.{IsLawful}
 use Rattle.client_words.specs.Commands.{IsCommand}
-use Rattle.client_core.proofs.Soundness.{steps_stay_sound}
+use Rattle.client_steps.proofs.Soundness.{steps_stay_sound}
 use Rattle.client_words.specs.declared.line.LineFault.{LineFault}
 use Rattle.client_words.specs.Commands.{command_of}
 use Rattle.session_run.specs.Steps.{RunState, begun, effect, run_after, all_after, run_at}

@@ -8,7 +8,7 @@ use Rattle.client_state.specs.declared.client_state.ClientState.{ClientState}
 use Rattle.client_state.specs.Forms.{needs_migration}
 use Rattle.client_state.specs.Spelling.{rows_of}
 use Rattle.client_state.proofs.Forms.{spelled_is_new}
-use Rattle.client_core.specs.Migrations.{OpensWith, place_opened, opening_bytes}
+use Rattle.client_store.specs.Migrations.{OpensWith, place_opened, opening_bytes}
 use Rattle.session_run.specs.declared.status.RunStatus.{RunStatus}
 use Rattle.session_run.specs.Ends.{RunEnds}
 use Rattle.session_run.specs.Starts.{Start}

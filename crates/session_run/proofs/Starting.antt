@@ -1,7 +1,7 @@
 -- What lines begin with, part by part.
 use Rattle.std.proofs.Common.{◌≡◌, ℕ, List, ap, ◌∙◌}
 use Rattle.client_state.specs.declared.client_state.ClientState.{ClientState}
-use Rattle.client_core.specs.Settings.{Setting}
+use Rattle.client_steps.specs.Settings.{Setting}
 use Rattle.session_run.specs.Starts.{Start}
 
 abbrev pub begin : Setting → ClientState → ℕ → List (List ℕ) → List ℕ → ℕ → Start

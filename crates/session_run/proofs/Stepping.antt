@@ -4,7 +4,7 @@ use Rattle.std.specs.Prelude.{Option}
 use Rattle.std.proofs.lemmas.List.{append-nil}
 use mathlib.Core.Path.{fun_ext}
 use Rattle.host_model.specs.declared.shelf.Shelf.{Ghosts}
-use Rattle.client_core.specs.Settings.{Setting, setting}
+use Rattle.client_steps.specs.Settings.{Setting, setting}
 use Rattle.session_run.specs.Steps.{RunState, run_after, answer, all_after, all_answers}
 
 module _ (at : Setting) where

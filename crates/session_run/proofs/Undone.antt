@@ -6,8 +6,8 @@ use Rattle.host_model.specs.Hosts.{MeetsAll, NowOf}
 use Rattle.client_state.specs.declared.client_state.ClientState.{ClientState}
 use Rattle.client_core.specs.declared.client.Client.{Client}
 use Rattle.client_core.specs.Clients.{state_of, end_of, IsOpenOn, IsSameClient}
-use Rattle.client_core.specs.OpenStore.{AllKept}
-use Rattle.client_core.specs.Places.{bytes_for}
+use Rattle.client_store.specs.OpenStore.{AllKept}
+use Rattle.client_store.specs.Places.{bytes_for}
 use Rattle.client_core.proofs.Holding.{all_kept, gate_again, end_again}
 use Rattle.session_run.specs.declared.faults.RunFault.{RunFault}
 use Rattle.session_run.specs.Ends.{LineEnds}

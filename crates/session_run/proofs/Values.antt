@@ -12,9 +12,9 @@ use Rattle.client_state.specs.Sound.{IsSound}
 use Rattle.client_words.specs.declared.answer.Answer.{Answer}
 use Rattle.client_words.specs.declared.answer.Answer.TheVariants.{Okay, Fetched, Applied, Value, Shown, Manifest, Changes, Preferences}
 use Rattle.client_words.specs.declared.command.Command.{Command}
-use Rattle.client_core.specs.Settings.{Setting}
-use Rattle.client_core.specs.Steps.{step}
-use Rattle.client_core.proofs.ServedValues.{values_have_types}
+use Rattle.client_steps.specs.Settings.{Setting}
+use Rattle.client_steps.specs.Steps.{step}
+use Rattle.client_steps.proofs.ServedValues.{values_have_types}
 use Rattle.client_words.specs.declared.line.LineFault.{LineFault}
 use Rattle.client_words.specs.declared.line.LineFault.TheVariants.{Blank, OutOfMemory}
 use Rattle.client_words.specs.Answers.{answer_lines, change_line, changes_lines, fetched_lines, preference_line, preferences_lines, shown_lines}

@@ -5,7 +5,7 @@ use Rattle.host_model.specs.declared.side.Side.TheVariants.{Left, Right}
 use Rattle.host_model.specs.declared.host.Host.{Ghosts}
 use Rattle.host_model.specs.declared.shelf.Shelf as shelves
 use Rattle.host_model.specs.declared.source.Source as sources
-use Rattle.client_core.specs.Store.{IsStore, IsAbsent}
+use Rattle.client_store.specs.Store.{IsStore, IsAbsent}
 use Rattle.session_run.specs.declared.status.RunStatus.{RunStatus}
 use Rattle.session_run.specs.declared.status.RunStatus.TheVariants.{Done, Usage, ScriptTooLong, NoStore, AlreadyStore, BadStore, SourceFault, ShelfFault, DiskFault, SayFault, OutOfMemory}
 use Rattle.session_run.specs.Finds.{RunFound, MakingFound}

@@ -4,8 +4,8 @@ use Rattle.host_model.specs.declared.side.Side.TheVariants.{Left, Right}
 use Rattle.host_model.specs.declared.host.Host.{Ghosts}
 use Rattle.enrol_states.specs.Order.{is_in}
 use Rattle.client_state.specs.declared.client_state.ClientState.{ClientState}
-use Rattle.client_core.specs.Settings.{Setting}
-use Rattle.client_core.specs.Store.{KeptFor}
+use Rattle.client_steps.specs.Settings.{Setting}
+use Rattle.client_store.specs.Store.{KeptFor}
 use Rattle.session_run.specs.Moments.{AfterPrefix}
 use Rattle.session_run.specs.OptOuts.{LineBringsBack, IsHeldOut}
 use Rattle.session_run.specs.Starts.{Start}

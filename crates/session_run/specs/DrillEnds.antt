@@ -5,10 +5,10 @@ use Rattle.host_model.specs.declared.host.Host.{Ghosts}
 use Rattle.host_model.specs.Hosts.{MeetsAll}
 use Rattle.pair_store.specs.Repair.{repair_cost}
 use Rattle.client_state.specs.declared.client_state.ClientState.{ClientState}
-use Rattle.client_core.specs.Moments.{IsLeftAmong}
+use Rattle.client_store.specs.Moments.{IsLeftAmong}
 use Rattle.row_store.specs.Rows.{HasPlace}
-use Rattle.client_core.specs.OpenStore.{AllKept, AllKeptAmong}
-use Rattle.client_core.specs.Places.{making_bytes}
+use Rattle.client_store.specs.OpenStore.{AllKept, AllKeptAmong}
+use Rattle.client_store.specs.Places.{making_bytes}
 use Rattle.session_run.specs.declared.status.RunStatus.{RunStatus}
 use Rattle.session_run.specs.declared.status.RunStatus.TheVariants.{Done, Usage, ScriptTooLong, NoStore, AlreadyStore, BadStore, SourceFault, ShelfFault, DiskFault, SayFault, OutOfMemory}
 use Rattle.session_run.specs.Drills.{drill_fresh, drill_ready, drill_start, drill_summary, DuringDrill}

@@ -1,12 +1,12 @@
 -- A drill: its store, its files and its script, and what might be met at its moments.
 use Rattle.std.specs.Prelude.{◌≡◌, ◌⊎◌, ℕ, List, [], ◌∷◌, ◌++◌, Option, Some, None, codes, bytes_eq, take, if◌then◌else◌}
 use Rattle.client_state.specs.declared.client_state.ClientState.{ClientState}
-use Rattle.client_core.specs.NewStates.{fresh}
+use Rattle.client_store.specs.NewStates.{fresh}
 use Rattle.recipe_drill.specs.Files.{script}
 use Rattle.recipe_drill.specs.Parts.{drill}
 use Rattle.recipe_drill.specs.Summary as counts
-use Rattle.client_core.specs.Settings.{Setting}
-use Rattle.client_core.specs.Store.{KeptFor}
+use Rattle.client_steps.specs.Settings.{Setting}
+use Rattle.client_store.specs.Store.{KeptFor}
 use Rattle.client_words.specs.Commands.{lines_of}
 use Rattle.session_run.specs.Making.{ready, DuringMaking}
 use Rattle.session_run.specs.Moments.{AfterPrefix}

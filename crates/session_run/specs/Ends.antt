@@ -2,7 +2,7 @@
 use Rattle.std.specs.Prelude.{◌≡◌, ◌⊎◌, ◌<◌, ◌≤◌, ◌+◌, ℕ, List, ◌++◌, Result, Ok, Err, Some, take, slice_get}
 use Rattle.host_model.specs.declared.host.Host.{Ghosts}
 use Rattle.client_state.specs.declared.client_state.ClientState.{ClientState}
-use Rattle.client_core.specs.OpenStore.{AllKept, AllKeptAmong, AllKeptEither}
+use Rattle.client_store.specs.OpenStore.{AllKept, AllKeptAmong, AllKeptEither}
 use Rattle.session_run.specs.declared.faults.RunFault.{RunFault}
 use Rattle.session_run.specs.declared.faults.RunFault.TheVariants as run
 use Rattle.session_run.specs.declared.status.RunStatus.{RunStatus}

@@ -6,7 +6,7 @@ use Rattle.event_counts.specs.View.{view_of}
 use Rattle.client_state.specs.declared.client_state.ClientState.{ClientState}
 use Rattle.client_words.specs.declared.command.Command.{Command}
 use Rattle.client_words.specs.declared.command.Command.TheVariants as commands
-use Rattle.client_core.specs.Store.{KeptFor}
+use Rattle.client_store.specs.Store.{KeptFor}
 use Rattle.session_run.specs.Chains.{Link, IsChain, EndsKept}
 use Rattle.session_run.specs.Histories.{Turn, command_done, history}
 

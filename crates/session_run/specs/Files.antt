@@ -3,7 +3,7 @@ use Rattle.std.specs.Prelude.{◌≡◌, ◌⊎◌, ℕ, List, [], ◌∷◌, �
 use Rattle.host_model.specs.Shelf.{IsReached}
 use Rattle.host_model.specs.declared.shelf.Shelf.{Ghosts}
 use Rattle.client_words.specs.declared.command.Command.{Command}
-use Rattle.client_core.specs.Commands.{names_file, AsksFor}
+use Rattle.client_steps.specs.Commands.{names_file, AsksFor}
 use Rattle.client_words.specs.Commands.{command_of}
 
 -- the line's command names a file

@@ -4,9 +4,9 @@ use Rattle.client_state.specs.declared.client_state.ClientState.{ClientState}
 use Rattle.client_words.specs.declared.command.Command.{Command}
 use Rattle.client_words.specs.declared.line.LineFault.{LineFault}
 use Rattle.client_words.specs.Commands.{command_of}
-use Rattle.client_core.specs.EventSteps.{is_okay}
-use Rattle.client_core.specs.Settings.{Setting}
-use Rattle.client_core.specs.Steps.{step}
+use Rattle.client_steps.specs.EventSteps.{is_okay}
+use Rattle.client_steps.specs.Settings.{Setting}
+use Rattle.client_steps.specs.Steps.{step}
 use Rattle.session_run.specs.Chains.{Link}
 use Rattle.session_run.specs.Steps.{RunState, begun, run_after, after}
 

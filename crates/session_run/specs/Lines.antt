@@ -6,7 +6,7 @@ use Rattle.gate_journal.specs.Costs.{HasCost}
 use Rattle.client_state.specs.declared.client_state.ClientState.{ClientState}
 use Rattle.client_core.specs.declared.client.Client.{Client}
 use Rattle.client_core.specs.Clients.{state_of, end_of, IsOpenOn, HasGateOn}
-use Rattle.client_core.specs.Places.{bytes_for}
+use Rattle.client_store.specs.Places.{bytes_for}
 use Rattle.session_run.specs.declared.faults.RunFault.{RunFault}
 use Rattle.session_run.specs.Ends.{LineEnds}
 use Rattle.session_run.specs.Moments.{DuringLine}

@@ -5,12 +5,12 @@ use Rattle.host_model.specs.declared.host.Host.{Ghosts}
 use Rattle.host_model.specs.Hosts.{MeetsAll}
 use Rattle.row_store.specs.Rows.{HasRows}
 use Rattle.client_state.specs.declared.client_state.ClientState.{ClientState}
-use Rattle.client_core.specs.NewStates.{fresh}
+use Rattle.client_store.specs.NewStates.{fresh}
 use Rattle.client_state.specs.Spelling.{rows_of}
-use Rattle.client_core.specs.Moments.{IsLeftAmong}
-use Rattle.client_core.specs.OpenStore.{AllKept, AllKeptAmong}
-use Rattle.client_core.specs.Places.{making_bytes}
-use Rattle.client_core.specs.Store.{KeptFor, IsAbsent}
+use Rattle.client_store.specs.Moments.{IsLeftAmong}
+use Rattle.client_store.specs.OpenStore.{AllKept, AllKeptAmong}
+use Rattle.client_store.specs.Places.{making_bytes}
+use Rattle.client_store.specs.Store.{KeptFor, IsAbsent}
 use Rattle.client_words.specs.Answers.{hyphenated}
 use Rattle.session_run.specs.declared.status.RunStatus.{RunStatus}
 use Rattle.session_run.specs.declared.status.RunStatus.TheVariants.{Done, Usage, ScriptTooLong, NoStore, AlreadyStore, BadStore, SourceFault, ShelfFault, DiskFault, SayFault, OutOfMemory}

@@ -4,9 +4,9 @@ use Rattle.host_model.specs.declared.host.Host.{Ghosts}
 use Rattle.host_model.specs.Hosts.{MeetsAll}
 use Rattle.client_state.specs.declared.client_state.ClientState.{ClientState}
 use Rattle.pair_store.specs.Repair.{IsUnwritten}
-use Rattle.client_core.specs.Moments.{WhileWritten}
-use Rattle.client_core.specs.OpenStore.{AllKept}
-use Rattle.client_core.specs.Store.{KeptFor, KeptAmong}
+use Rattle.client_store.specs.Moments.{WhileWritten}
+use Rattle.client_store.specs.OpenStore.{AllKept}
+use Rattle.client_store.specs.Store.{KeptFor, KeptAmong}
 use Rattle.session_run.specs.declared.status.RunStatus.{RunStatus}
 use Rattle.session_run.specs.Finds.{EndedBefore}
 use Rattle.session_run.specs.Starts.{Start, line_count, state_at, answers}

@@ -4,9 +4,9 @@ use Rattle.enrol_states.specs.Order.{is_in}
 use Rattle.enrol_states.specs.State.{status_of}
 use Rattle.enrol_states.specs.Statuses.{is_enrolled_now}
 use Rattle.client_state.specs.declared.client_state.ClientState.{ClientState}
-use Rattle.client_core.specs.OptOuts.{BringsBack}
-use Rattle.client_core.specs.Settings.{Setting}
-use Rattle.client_core.specs.Steps.{step}
+use Rattle.client_steps.specs.OptOuts.{BringsBack}
+use Rattle.client_steps.specs.Settings.{Setting}
+use Rattle.client_steps.specs.Steps.{step}
 use Rattle.client_words.specs.declared.answer.Answer.TheVariants.{Okay}
 use Rattle.client_words.specs.declared.command.Command.{Command}
 use Rattle.client_words.specs.declared.command.Command.TheVariants.{OptOut}

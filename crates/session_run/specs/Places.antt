@@ -1,7 +1,7 @@
 -- Where the next record begins, and how many bytes were written, line by line.
 use Rattle.std.specs.Prelude.{ℕ, ◌+◌, List, [], ◌∷◌}
-use Rattle.client_core.specs.Places.{place_after, bytes_for}
-use Rattle.client_core.specs.Settings.{Setting}
+use Rattle.client_store.specs.Places.{place_after, bytes_for}
+use Rattle.client_steps.specs.Settings.{Setting}
 use Rattle.session_run.specs.Steps.{RunState, run_after}
 
 -- where the next record begins after these lines

@@ -5,9 +5,9 @@ use Rattle.host_model.specs.declared.host.Host.{Ghosts}
 use Rattle.host_model.specs.Hosts.{MeetsAll}
 use Rattle.client_state.specs.declared.client_state.ClientState.{ClientState}
 use Rattle.client_state.specs.Forms.{needs_migration}
-use Rattle.client_core.specs.Migrations.{OpensWith}
-use Rattle.client_core.specs.OpenStore.{AllKept, AllKeptAmong, AllStand}
-use Rattle.client_core.specs.Store.{StandsFor, KeptFor}
+use Rattle.client_store.specs.Migrations.{OpensWith}
+use Rattle.client_store.specs.OpenStore.{AllKept, AllKeptAmong, AllStand}
+use Rattle.client_store.specs.Store.{StandsFor, KeptFor}
 use Rattle.session_run.specs.declared.faults.RunFault.{RunFault}
 use Rattle.session_run.specs.declared.status.RunStatus.{RunStatus}
 use Rattle.session_run.specs.declared.status.RunStatus.TheVariants.{Done, DiskFault}

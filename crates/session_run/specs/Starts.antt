@@ -3,7 +3,7 @@ use Rattle.std.specs.Prelude.{◌≢◌, ◌+◌, ◌<◌, ℕ, List, length, ta
 use Rattle.host_model.specs.declared.host.Host.{Ghosts}
 use Rattle.host_model.specs.declared.shelf.Shelf as shelves
 use Rattle.client_state.specs.declared.client_state.ClientState.{ClientState}
-use Rattle.client_core.specs.Settings.{Setting, setting}
+use Rattle.client_steps.specs.Settings.{Setting, setting}
 use Rattle.session_run.specs.Places.{all_places, all_bytes}
 use Rattle.session_run.specs.Steps.{begun, after, out}
 

@@ -1,12 +1,12 @@
 -- The exit number of each status, and the status of each fault.
 use Rattle.std.specs.Prelude.{ℕ, Result, Ok, Err}
 use Rattle.client_core.specs.declared.client.Client.{Client}
-use Rattle.client_core.specs.declared.faults.ClientFault.{ClientFault}
-use Rattle.client_core.specs.declared.faults.ClientFault.TheVariants as store
-use Rattle.client_core.specs.declared.faults.MakeFault.{MakeFault}
-use Rattle.client_core.specs.declared.faults.MakeFault.TheVariants as make
-use Rattle.client_core.specs.declared.faults.StepFault.{StepFault}
-use Rattle.client_core.specs.declared.faults.StepFault.TheVariants as step
+use Rattle.client_store.specs.declared.faults.ClientFault.{ClientFault}
+use Rattle.client_store.specs.declared.faults.ClientFault.TheVariants as store
+use Rattle.client_store.specs.declared.faults.MakeFault.{MakeFault}
+use Rattle.client_store.specs.declared.faults.MakeFault.TheVariants as make
+use Rattle.client_steps.specs.declared.faults.StepFault.{StepFault}
+use Rattle.client_steps.specs.declared.faults.StepFault.TheVariants as step
 use Rattle.session_run.specs.declared.faults.RunFault.{RunFault}
 use Rattle.session_run.specs.declared.faults.RunFault.TheVariants as run
 use Rattle.session_run.specs.declared.script.ScriptFault.{ScriptFault}

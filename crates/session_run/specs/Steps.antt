@@ -3,10 +3,10 @@ use Rattle.std.specs.Prelude.{ℕ, List, [], ◌∷◌, ◌++◌, Result, Ok, Er
 use Rattle.client_state.specs.declared.client_state.ClientState.{ClientState}
 use Rattle.client_core.specs.declared.client.Client.{Client}
 use Rattle.client_words.specs.declared.command.Command.{Command}
-use Rattle.client_core.specs.declared.session.Session.{Session}
-use Rattle.client_core.specs.Settings.{Setting}
-use Rattle.client_core.specs.Sessions.{no_session}
-use Rattle.client_core.specs.Steps.{Step, step}
+use Rattle.client_steps.specs.declared.session.Session.{Session}
+use Rattle.client_steps.specs.Settings.{Setting}
+use Rattle.client_steps.specs.Sessions.{no_session}
+use Rattle.client_steps.specs.Steps.{Step, step}
 use Rattle.client_words.specs.declared.line.LineFault.{LineFault}
 use Rattle.client_words.specs.Commands.{command_of}
 use Rattle.client_words.specs.Answers.{answer_lines, fault_answer}

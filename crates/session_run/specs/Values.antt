@@ -8,10 +8,10 @@ use Rattle.client_state.specs.declared.client_state.ClientState.{ClientState}
 use Rattle.client_words.specs.declared.answer.Answer.TheVariants.{Okay}
 use Rattle.client_words.specs.declared.command.Command.TheVariants.{Feature}
 use Rattle.client_words.specs.declared.command.Command.TheVariants as commands
-use Rattle.client_core.specs.Manifests.{manifest_of}
-use Rattle.client_core.specs.ServedValues.{IsServedWithType}
-use Rattle.client_core.specs.Settings.{Setting}
-use Rattle.client_core.specs.Steps.{step}
+use Rattle.client_steps.specs.Manifests.{manifest_of}
+use Rattle.client_steps.specs.ServedValues.{IsServedWithType}
+use Rattle.client_steps.specs.Settings.{Setting}
+use Rattle.client_steps.specs.Steps.{step}
 use Rattle.client_words.specs.Commands.{command_of}
 use Rattle.session_run.specs.Steps.{RunState, answer, run_at}
 

@@ -12,7 +12,7 @@ ghost use Rattle.recipe_drill.specs.Parts.{drill_id, parts_of, HasRoom};
 ghost use Rattle.recipe_drill.specs.Summary as counts;
 ghost use Rattle.row_store.specs.Rows.{HasRows, HasPlace};
 ghost use Rattle.client_state.specs.Spelling.{rows_of};
-ghost use Rattle.client_core.specs.OpenStore.{AllKept};
+ghost use Rattle.client_store.specs.OpenStore.{AllKept};
 ghost use Rattle.session_run.specs.DrillEnds.{SummaryEnds, ScriptEnds, Drilled};
 ghost use Rattle.session_run.specs.Drills.{drill_bytes, drill_fresh, drill_start, drill_summary, AfterReady};
 ghost use Rattle.session_run.specs.FaultCauses.{IsStatusOf, HasHostCauses};

@@ -3,10 +3,10 @@ ghost use Rattle.std.specs.Prelude.{◌≡◌, ◌≢◌, ◌≤◌, OnOk, IsErr
 ghost use Rattle.enrol_states.specs.State.{last_moment};
 ghost use Rattle.jexl_transforms.specs.Table.{HasStandardNames};
 ghost use Rattle.client_core.specs.Clients.{state_of, session_of, end_of, IsOpenOn, step_of};
-ghost use Rattle.client_core.specs.Places.{place_after};
-ghost use Rattle.client_core.specs.Commands.{names_file, HasAsked};
+ghost use Rattle.client_store.specs.Places.{place_after};
+ghost use Rattle.client_steps.specs.Commands.{names_file, HasAsked};
 ghost use Rattle.client_core.specs.Prepared.{IsMadeOn, next_state, next_session};
-ghost use Rattle.client_core.specs.Settings.{setting};
+ghost use Rattle.client_steps.specs.Settings.{setting};
 ghost use Rattle.client_words.specs.Answers.{answer_lines, fault_answer};
 ghost use Rattle.client_words.specs.Commands.{IsCommand};
 ghost use Rattle.session_run.specs.Steps.{run_of, run_after, answer};

@@ -3,8 +3,8 @@ ghost use Rattle.std.specs.Prelude.{◌≡◌, ◌≤◌, ℕ, List, All, OnOk, 
 ghost use Rattle.enrol_states.specs.State.{last_moment};
 ghost use Rattle.jexl_transforms.specs.Table.{HasStandardNames};
 ghost use Rattle.client_core.specs.Clients.{state_of, session_of, end_of, IsOpenOn, HasGateOn};
-ghost use Rattle.client_core.specs.Settings.{setting};
-ghost use Rattle.client_core.specs.Sessions.{no_session};
+ghost use Rattle.client_steps.specs.Settings.{setting};
+ghost use Rattle.client_steps.specs.Sessions.{no_session};
 ghost use Rattle.client_words.specs.Commands.{bytes_at, IsWithin};
 ghost use Rattle.session_run.specs.FaultCauses.{HasShelfCauses, HasHostCauses};
 ghost use Rattle.session_run.specs.Files.{LinesAsked};

@@ -5,7 +5,7 @@ ghost use Rattle.client_state.specs.declared.client_state.ClientState.{ClientSta
 ghost use Rattle.enrol_states.specs.State.{last_moment};
 ghost use Rattle.jexl_transforms.specs.Table.{HasStandardNames};
 ghost use Rattle.client_core.specs.Clients.{state_of};
-ghost use Rattle.client_core.specs.Store.{StandsFor};
+ghost use Rattle.client_store.specs.Store.{StandsFor};
 ghost use Rattle.client_words.specs.Commands.{lines_of};
 ghost use Rattle.session_run.specs.Causes.{IsUnreached};
 ghost use Rattle.session_run.specs.FaultCauses.{IsStatusOf, HasShelfCauses, HasHostCauses};

@@ -4,7 +4,7 @@ use Rattle.host_model.specs.declared.side.Side.TheVariants.{Left, Right}
 use Rattle.pair_store.specs.Repair.{repair_cost}
 use Rattle.client_state.specs.declared.client_state.ClientState.{ClientState}
 use Rattle.recipe_drill.specs.Parts.{parts_of}
-use Rattle.client_core.proofs.Holding.{stands_of_kept}
+use Rattle.client_store.proofs.Holding.{stands_of_kept}
 use Rattle.client_words.specs.Commands.{lines_of}
 use Rattle.session_run.specs.declared.status.RunStatus.TheVariants.{Done, DiskFault, SayFault}
 use Rattle.session_run.specs.DrillEnds.{ScriptEnds}

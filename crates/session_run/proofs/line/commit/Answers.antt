@@ -3,7 +3,8 @@ use Rattle.std.proofs.Common.{List, ℕ, ◌++◌, ◌∙◌, sym, ap, take, ari
 use Rattle.host_model.specs.declared.side.Side.TheVariants.{Left, Right}
 use Rattle.client_core.specs.Clients.{state_of}
 use Rattle.client_core.specs.Prepared.{next_state}
-use Rattle.client_core.proofs.Holding.{open_said, gate_said, kept_said}
+use Rattle.client_store.proofs.Holding.{kept_said}
+use Rattle.client_core.proofs.Holding.{open_said, gate_said}
 use Rattle.session_run.specs.Writes.{IsBelowMark}
 use Rattle.session_run.specs.declared.faults.RunFault.TheVariants.{DiskFault, SayFault}
 use Rattle.session_run.proofs.Answering.{written_met, line_met}

@@ -2,8 +2,9 @@
 use Rattle.std.proofs.Common.{List, ℕ, ◌++◌, ◌∙◌, ap, subst, refl, arith}
 use Rattle.host_model.specs.Hosts.{MeetsAll}
 use Rattle.client_core.specs.Clients.{state_of, end_of}
-use Rattle.client_core.proofs.Holding.{all_kept, open_said, gate_said, kept_said}
-use Rattle.client_core.proofs.Placing.{bytes_same}
+use Rattle.client_store.proofs.Holding.{kept_said}
+use Rattle.client_core.proofs.Holding.{all_kept, open_said, gate_said}
+use Rattle.client_store.proofs.Placing.{bytes_same}
 use Rattle.session_run.specs.declared.faults.RunFault.TheVariants.{SayFault, OutOfMemory}
 use Rattle.session_run.specs.Lines.{LineRan}
 use Rattle.session_run.specs.Moments.{DuringLine}

@@ -1,11 +1,11 @@
 -- The step that is prepared is the command's, and it is committed and answered.
 use Rattle.std.proofs.Common.{◌≡◌, List, ℕ, ◌∙◌, ap, subst, sym, OnOk}
 use Rattle.client_state.specs.declared.client_state.ClientState.{ClientState}
-use Rattle.client_core.specs.declared.session.Session.{Session}
+use Rattle.client_steps.specs.declared.session.Session.{Session}
 use Rattle.client_core.specs.Clients.{state_of, session_of, end_of, step_of}
-use Rattle.client_core.specs.Places.{place_after}
+use Rattle.client_store.specs.Places.{place_after}
 use Rattle.client_core.specs.Prepared.{next_state}
-use Rattle.client_core.specs.Settings.{setting}
+use Rattle.client_steps.specs.Settings.{setting}
 use Rattle.client_core.proofs.Holding.{open_again, gate_again, end_again}
 use Rattle.client_words.specs.Answers.{answer_lines}
 use Rattle.session_run.specs.declared.faults.RunFault.TheVariants.{OutOfMemory}

@@ -1,8 +1,8 @@
 -- A line with a command does it, and one without is answered alone.
 use Rattle.std.proofs.Common.{◌≢◌, List, ℕ, ◌∙◌, refl, subst, rules, Err}
 use Rattle.client_core.specs.Clients.{state_of, end_of, step_of}
-use Rattle.client_core.specs.Settings.{setting}
-use Rattle.client_core.proofs.Placing.{place_same}
+use Rattle.client_steps.specs.Settings.{setting}
+use Rattle.client_store.proofs.Placing.{place_same}
 use Rattle.client_words.specs.declared.line.LineFault.TheVariants.{OutOfMemory}
 use Rattle.client_words.specs.Commands.{command_of}
 use Rattle.session_run.specs.declared.faults.RunFault.TheVariants as run

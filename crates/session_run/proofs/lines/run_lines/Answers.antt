@@ -5,8 +5,8 @@ use Rattle.std.proofs.lemmas.List.{append-nil, length-map}
 use Rattle.host_model.specs.declared.side.Side.TheVariants.{Left, Right}
 use Rattle.host_model.proofs.Meeting.{started}
 use Rattle.client_core.specs.Clients.{state_of, end_of, HasGateOn}
-use Rattle.client_core.specs.OpenStore.{AllKept, AllStand}
-use Rattle.client_core.specs.Settings.{setting}
+use Rattle.client_store.specs.OpenStore.{AllKept, AllStand}
+use Rattle.client_steps.specs.Settings.{setting}
 use Rattle.client_core.proofs.Holding.{all_kept, all_stand}
 use Rattle.session_run.specs.declared.faults.RunFault.{RunFault}
 use Rattle.client_words.specs.Commands.{bytes_at}

@@ -3,7 +3,7 @@ use Rattle.std.proofs.Common.{◌≡◌, ◌≢◌, ◌+◌, ℕ, ◌≤◌, ◌
 use Rattle.host_model.specs.declared.side.Side.TheVariants.{Left, Right}
 use Rattle.host_model.specs.Hosts.{MeetsAll}
 use Rattle.client_core.specs.Clients.{state_of, end_of, IsOpenOn, HasGateOn}
-use Rattle.client_core.specs.Settings.{setting}
+use Rattle.client_steps.specs.Settings.{setting}
 use Rattle.client_words.specs.Commands.{bytes_at}
 use Rattle.session_run.specs.Steps.{run_of, begun, run_at, after, out}
 use Rattle.session_run.specs.Files.{LinesAsked}

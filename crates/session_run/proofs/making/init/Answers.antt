@@ -3,10 +3,10 @@ use Rattle.std.proofs.Common.{◌≡◌, ◌≤◌, ◌+◌, List, ℕ, ◌++◌
 use Rattle.host_model.specs.declared.side.Side.TheVariants.{Left, Right}
 use Rattle.host_model.specs.Hosts.{NowOf}
 use Rattle.host_model.proofs.Meeting.{started, met_weaker}
-use Rattle.client_core.specs.NewStates.{fresh}
-use Rattle.client_core.specs.Moments.{IsLeftAmong}
-use Rattle.client_core.specs.Places.{making_bytes}
-use Rattle.client_core.proofs.Holding.{kept_said}
+use Rattle.client_store.specs.NewStates.{fresh}
+use Rattle.client_store.specs.Moments.{IsLeftAmong}
+use Rattle.client_store.specs.Places.{making_bytes}
+use Rattle.client_store.proofs.Holding.{kept_said}
 use Rattle.session_run.specs.declared.status.RunStatus.{RunStatus}
 use Rattle.session_run.specs.FaultCauses.{IsStatusOf, HasHostCauses}
 use Rattle.session_run.specs.Finds.{MakingFound}

@@ -2,9 +2,9 @@
 use Rattle.std.proofs.Common.{◌≡◌, inr, List, ℕ, All, Ok, Err, length, map, refl, sym, ap, ◌∙◌, subst, arith}
 use Rattle.host_model.specs.declared.side.Side.TheVariants.{Left, Right}
 use Rattle.client_core.specs.Clients.{state_of, end_of}
-use Rattle.client_core.specs.Moments.{IsLeftAmong}
-use Rattle.client_core.specs.Settings.{setting}
-use Rattle.client_core.specs.Store.{IsStore}
+use Rattle.client_store.specs.Moments.{IsLeftAmong}
+use Rattle.client_steps.specs.Settings.{setting}
+use Rattle.client_store.specs.Store.{IsStore}
 use Rattle.client_words.specs.Commands.{IsWithin, bytes_at, lines_of}
 use Rattle.client_words.proofs.Within.{lines-within, lines_at}
 use Rattle.std.proofs.lemmas.Result.{IfErr-at_err}

@@ -8,7 +8,7 @@ use Rattle.client_words.specs.declared.answer.Answer.TheVariants.{ChangesSpent}
 use Rattle.client_core.specs.declared.client.Client.{Client}
 use Rattle.client_core.specs.Clients.{state_of, session_of}
 use Rattle.client_core.specs.Prepared.{Leads}
-use Rattle.client_core.specs.Steps.{Outcome, Accepted, Refused, done}
+use Rattle.client_steps.specs.Steps.{Outcome, Accepted, Refused, done}
 use Rattle.client_core.proofs.client.Client.changed.Goals as goal
 
 pub returns-in-Ok-clause-step : goal.returns-in-Ok-clause-step

@@ -7,14 +7,14 @@ use Rattle.pair_store.specs.Moments.{StaysBelow}
 use Rattle.pair_store.proofs.Below.{now_below}
 use Rattle.row_store.specs.Store.{place}
 use Rattle.client_state.specs.Sound.{IsSound}
-use Rattle.client_core.specs.declared.prepared.Change.{Change}
+use Rattle.client_store.specs.declared.change.Change.{Change}
 use Rattle.client_core.specs.Clients.{HasGateOn}
-use Rattle.client_core.specs.Moments.{WhileWritten}
-use Rattle.client_core.specs.OpenStore.{AllKept, AllKeptEither, AllStand}
-use Rattle.client_core.specs.Places.{place_after, bytes_for, makes_checkpoint}
-use Rattle.client_core.specs.Prepared.{changed, is_whole_in, IsChange}
+use Rattle.client_store.specs.Moments.{WhileWritten}
+use Rattle.client_store.specs.OpenStore.{AllKept, AllKeptEither, AllStand}
+use Rattle.client_store.specs.Places.{place_after, bytes_for, makes_checkpoint}
+use Rattle.client_store.specs.Changes.{changed, is_whole_in, IsChange}
 use Rattle.client_core.proofs.Holding.{all_kept, all_stand, settled}
-use Rattle.client_core.proofs.Placing.{place_same, bytes_same, no_checkpoint}
+use Rattle.client_store.proofs.Placing.{place_same, bytes_same, no_checkpoint}
 use Rattle.client_core.proofs.client.Client.commit.Goals as goal
 
 -- what follows from a fact at `Ok`

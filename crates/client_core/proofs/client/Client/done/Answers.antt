@@ -1,10 +1,10 @@
 -- What is followed already is done as it is.
 use Rattle.std.proofs.Common.{sym, subst}
 use Rattle.std.specs.Prelude.{IfOk}
-use Rattle.client_core.specs.declared.asked.Asked.{Asked}
-use Rattle.client_core.specs.Asked.{asked_outcome, answer_for, IsAnswerOrRefused}
+use Rattle.client_steps.specs.declared.asked.Asked.{Asked}
+use Rattle.client_steps.specs.Asked.{asked_outcome, answer_for, IsAnswerOrRefused}
 use Rattle.client_core.specs.Prepared.{Leads, answer_in}
-use Rattle.client_core.specs.Steps.{done}
+use Rattle.client_steps.specs.Steps.{done}
 use Rattle.client_core.proofs.client.Client.done.Goals as goal
 
 pub returns-in-Followed-clause-step : goal.returns-in-Followed-clause-step

@@ -1,11 +1,11 @@
 -- The step of what is asked for is that of the command.
 use Rattle.std.proofs.Common.{ap, ◌∙◌, subst}
 use Rattle.client_core.specs.declared.client.Client.{Client}
-use Rattle.client_core.specs.Asked.{asked_outcome}
+use Rattle.client_steps.specs.Asked.{asked_outcome}
 use Rattle.client_core.specs.Prepared.{Leads}
-use Rattle.client_core.specs.Settings.{setting}
-use Rattle.client_core.specs.Steps.{Step, done}
-use Rattle.client_core.proofs.Stepping.{step-of}
+use Rattle.client_steps.specs.Settings.{setting}
+use Rattle.client_steps.specs.Steps.{Step, done}
+use Rattle.client_steps.proofs.Stepping.{step-of}
 use Rattle.client_core.proofs.client.Client.prepare.Goals as goal
 
 pub returns-clause-step : goal.returns-clause-step

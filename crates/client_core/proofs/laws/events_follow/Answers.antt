@@ -1,6 +1,0 @@
--- The law of events.
-use Rattle.client_core.proofs.EventSteps as events
-use Rattle.client_core.proofs.laws.events_follow.Goals as goal
-
-pub returns : goal.returns
-returns c = events.events_follow

@@ -1,6 +1,0 @@
--- The law of the outbox.
-use Rattle.client_core.proofs.OutboxSteps as outbox
-use Rattle.client_core.proofs.laws.outbox_follows.Goals as goal
-
-pub returns : goal.returns
-returns c = outbox.outbox_follows

@@ -1,6 +1,0 @@
--- The law of preferences.
-use Rattle.client_core.proofs.PreferenceSteps as preferences
-use Rattle.client_core.proofs.laws.preferences_follow.Goals as goal
-
-pub returns : goal.returns
-returns c = preferences.preferences_follow

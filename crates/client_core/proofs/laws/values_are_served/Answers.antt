@@ -1,6 +1,0 @@
--- The law of values.
-use Rattle.client_core.proofs.ServedValues as values
-use Rattle.client_core.proofs.laws.values_are_served.Goals as goal
-
-pub returns : goal.returns
-returns c = values.values_are_served

@@ -1,6 +1,0 @@
--- The law of the types of values.
-use Rattle.client_core.proofs.ServedValues as values
-use Rattle.client_core.proofs.laws.values_have_types.Goals as goal
-
-pub returns : goal.returns
-returns c = values.values_have_types

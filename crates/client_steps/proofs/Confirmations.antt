@@ -1,0 +1,26 @@
+-- What a confirmation asks for.
+use Rattle.std.proofs.Common.{◌≡◌, ℕ, ◌<◌, ◌≤◌, Bool, sym, ap, ◌∙◌, subst}
+use Rattle.std.specs.Prelude.{nat_le, if◌then◌else◌}
+use Rattle.std.proofs.lemmas.Bool.{le-leb, lt-leb}
+use Rattle.change_outbox.specs.Contents.{Contents, confirmed}
+use Rattle.client_state.specs.Changes.{of_outbox}
+use Rattle.client_state.specs.declared.client_state.ClientState.{ClientState}
+use Rattle.client_words.specs.declared.answer.Answer.TheVariants.{Okay, NoSuchChange}
+use Rattle.client_steps.specs.declared.session.Session.{Session}
+use Rattle.client_steps.specs.Asked.{changed_outcome}
+use Rattle.client_steps.specs.Steps.{Outcome, Accepted, Refused, confirming}
+
+module _ (s : ClientState) (session : Session) (number : ℕ) where
+  abbrev either : Bool → Outcome
+  either unknown = if unknown then Refused (NoSuchChange s.outbox.next) else Accepted (record s { outbox = confirmed number s.outbox }) session Okay
+
+  confirms : number < s.outbox.next → changed_outcome s session (of_outbox (confirmed number s.outbox)) Okay ≡ confirming s session number
+  confirms below = sym (ap either (lt-leb s.outbox.next number below))
+
+  pub confirms_as : (o next : Contents) → o ≡ s.outbox → next ≡ confirmed number o → number < o.next → changed_outcome s session (of_outbox next) Okay ≡ confirming s session number
+  confirms_as o next same is below =
+      ap (λ (p : Contents). changed_outcome s session (of_outbox p) Okay) (is ∙ ap (confirmed number) same) ∙ confirms (subst (λ (p : Contents). number < p.next) same below)
+
+  pub refuses_as : (o : Contents) (next : ℕ) → o ≡ s.outbox → next ≡ o.next → o.next ≤ number → ◌≡◌ {A = Outcome} (Refused (NoSuchChange next)) (confirming s session number)
+  refuses_as o next same is least =
+      ap (λ n. Refused (NoSuchChange n)) (is ∙ ap (λ (p : Contents). p.next) same) ∙ sym (ap either (le-leb s.outbox.next number (subst (λ (p : Contents). p.next ≤ number) same least)))

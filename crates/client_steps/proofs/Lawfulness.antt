@@ -1,0 +1,212 @@
+-- A step keeps a session lawful, and its texts in UTF-8.
+use Rattle.std.proofs.Common.{◌≡◌, ℕ, Bool, true, false, List, [], length, Option, Some, None, Result, Ok, Err, IsUtf8, refl, subst}
+use Rattle.std.specs.Prelude.{IfOk, nat_lt, nat_le, if◌then◌else◌}
+use Rattle.json_tree.specs.Json as json
+use Rattle.json_tree.specs.Json.{Json, IsSound}
+use Rattle.json_tree.specs.declared.tree.Tree.{Tree}
+use Rattle.recipe_reader.specs.Kinds.{kind_of}
+use Rattle.recipe_reader.specs.Payloads.{payload_of, recipe_with}
+use Rattle.recipe_reader.specs.declared.payload.Payload.{Payload}
+use Rattle.recipe_reader.specs.declared.payload.PayloadFault.{PayloadFault}
+use Rattle.recipe_reader.specs.declared.payload.PayloadFault.TheVariants as payload
+use Rattle.recipe_reader.specs.declared.recipe.Recipe.{Recipe}
+use Rattle.app_context.specs.Contexts.{context_of}
+use Rattle.app_context.specs.declared.context.Context.{Context}
+use Rattle.app_context.specs.declared.key.ContextKey.{ContextKey}
+use Rattle.change_outbox.specs.Contents.{confirmed}
+use Rattle.pref_bindings.specs.Bindings.{AreBindings, bindings_of}
+use Rattle.pref_bindings.specs.declared.bindings.Binding.{Binding}
+use Rattle.pref_bindings.proofs.BindingsRead.{read_are}
+use Rattle.enrol_evolver.specs.Evolution.{version_of}
+use Rattle.enrol_states.specs.Choices.{has_no_room}
+use Rattle.event_counts.specs.Kept.{counted_in}
+use Rattle.event_counts.specs.declared.name_counts.NameCounts.{NameCounts}
+use Rattle.client_state.specs.declared.client_state.ClientState.{ClientState}
+use Rattle.enrol_states.specs.Commands.{after_opt_out}
+use Rattle.enrol_states.specs.Participation.{takes_part}
+use Rattle.enrol_states.specs.Recipes.{has_branch}
+use Rattle.client_state.specs.Sound.{max_size}
+use Rattle.client_state.specs.Spelling.{spelling}
+use Rattle.fml_types.specs.declared.manifest.Manifest.{Manifest}
+use Rattle.fml_value.specs.Typed.{TypedValue}
+use Rattle.feature_serving.specs.Serving.{served}
+use Rattle.client_words.specs.declared.answer.Answer.{Answer}
+use Rattle.client_words.specs.declared.answer.Answer.TheVariants.{Okay, OptedOutLimit, EventLimit, NoSuchChange, NotParticipating, NoSuchBranch}
+use Rattle.client_words.specs.declared.command.Command.{Command}
+use Rattle.client_words.specs.declared.command.Command.TheVariants.{Fetch, Apply, Participate, OptOut, OptIn, Reset, Show, Feature, Event, Confirm, Bind, SetPreference, ClearPreference, WriteManifest}
+use Rattle.client_words.specs.declared.command.Command.TheVariants as commands
+use Rattle.client_steps.specs.declared.session.Session.{Session}
+use Rattle.client_steps.specs.Choosing.{first_taker}
+use Rattle.client_steps.specs.Fetching.{file_tree}
+use Rattle.client_steps.specs.Manifests.{manifest_of}
+use Rattle.client_steps.specs.Sessions.{with_manifest, with_context, with_bindings}
+use Rattle.client_steps.specs.Settings.{Setting}
+use Rattle.client_steps.specs.Soundness.{HasVersion, HasLinked, HasBindings, IsSession, IsLawfulManifest, IsLawfulContext, IsLawfulBindings, IsLawful}
+use Rattle.client_steps.specs.Steps.{OutcomeOver, EnrolmentOutcome, Outcome, Accepted, Refused, Step, whole, seeing, has_no_room_for, preferring, participation, resetting, opting_out, opting_in, taking, offering, choosing, fetched, fetching, context_read, reading_context, bindings_read, reading_bindings, setting_manifest, applying, valued, serving, writing_manifest, outcome, done, step}
+use Rattle.client_steps.proofs.LinkedManifests.{manifest_linked}
+use Rattle.client_steps.proofs.ReadContexts.{context_version}
+use Rattle.client_steps.proofs.ReadFiles.{file_sound}
+use Rattle.client_steps.proofs.Stepping.{whole_either, preferring_either}
+
+either_step : (P : Step → Type 0) (b : Bool) (x y : Step) → P x → P y → P (if b then x else y)
+either_step P true x y here there = here
+either_step P false x y here there = there
+
+-- what each session keeps that has a manifest that links, or the context or the bindings of a sound tree, where it has others than before
+module _ (P : Session → Type 0) (at : Setting) (s : ClientState) (session : Session) (was : P session) (links : (file channel : List ℕ) (manifest : Manifest) → manifest_of at.files file channel ≡ Ok manifest → P (with_manifest session manifest)) (takes : (tree : Json) (context : Context) → IsSound tree → context_of tree ≡ Ok context → P (with_context session context)) (binds : (tree : Json) (bindings : List Binding) → IsSound tree → bindings_of tree ≡ Ok bindings → P (with_bindings session bindings)) where
+  abbrev Carries : {S : Type 0} → OutcomeOver S → Type 0
+  Carries (Accepted t next answer) = P next
+  Carries (Refused answer) = Unit {0}
+
+  whole-carries : (counts : List NameCounts) (asked : EnrolmentOutcome) → Carries asked → Carries (whole s session counts asked)
+  whole-carries counts (Accepted e next answer) carries = whole_either (λ (asked : Outcome). Carries asked) s session counts e next answer tt (λ fits. carries)
+  whole-carries counts (Refused answer) carries = tt
+
+  done-carries : (asked : Outcome) → Carries asked → P (done s session asked).session
+  done-carries (Accepted t next answer) carries = either_step (λ to. P to.session) (nat_lt max_size (length (spelling t))) _ _ was carries
+  done-carries (Refused answer) carries = was
+
+  context-carries : (tree : Json) (read : Result Context ContextKey) → IsSound tree → context_of tree ≡ read → Carries (context_read s session read)
+  context-carries tree (Ok context) sound is = takes tree context sound is
+  context-carries tree (Err key) sound is = tt
+
+  file-carries : (read : Result Json Answer) → IfOk read IsSound → Carries (reading_context s session read)
+  file-carries (Ok tree) sound = context-carries tree (context_of tree) sound refl
+  file-carries (Err refusal) sound = tt
+
+  bindings-carries : (tree : Json) (read : Result (List Binding) (List ℕ)) → IsSound tree → bindings_of tree ≡ read → Carries (bindings_read s session read)
+  bindings-carries tree (Ok bindings) sound is = binds tree bindings sound is
+  bindings-carries tree (Err feature) sound is = tt
+
+  bind-carries : (read : Result Json Answer) → IfOk read IsSound → Carries (reading_bindings s session read)
+  bind-carries (Ok tree) sound = bindings-carries tree (bindings_of tree) sound refl
+  bind-carries (Err refusal) sound = tt
+
+  preferring-carries : (name : List ℕ) (value : Option Tree) → Carries (preferring s session name value)
+  preferring-carries name value = preferring_either (λ (asked : Outcome). Carries asked) s session name value tt (λ free. was) (λ holder held fits. was)
+
+  payload-carries : (read : Result Payload PayloadFault) → Carries (fetched s.enrolment session read)
+  payload-carries (Ok found) = was
+  payload-carries (Err payload.NoData) = tt
+  payload-carries (Err (payload.TooManyRecipes count)) = tt
+  payload-carries (Err payload.OutOfMemory) = tt
+
+  fetch-carries : (read : Result Json Answer) → Carries (fetching s.enrolment session read)
+  fetch-carries (Ok tree) = payload-carries (payload_of tree)
+  fetch-carries (Err refusal) = tt
+
+  manifest-carries : (file channel : List ℕ) (read : Result Manifest Answer) → manifest_of at.files file channel ≡ read → Carries (setting_manifest s session read)
+  manifest-carries file channel (Ok manifest) is = links file channel manifest is
+  manifest-carries file channel (Err refusal) is = tt
+
+  apply-carries : (manifest : Option Manifest) (context : Option Context) → Carries (applying at.now s.enrolment session manifest context)
+  apply-carries None context = tt
+  apply-carries (Some manifest) None = tt
+  apply-carries (Some manifest) (Some context) = was
+
+  value-carries : (found : Option TypedValue) → Carries (valued s session found)
+  value-carries None = tt
+  value-carries (Some value) = was
+
+  feature-carries : (name : List ℕ) (manifest : Option Manifest) → Carries (serving s session name manifest)
+  feature-carries name None = tt
+  feature-carries name (Some manifest) = value-carries (served manifest s.enrolment name)
+
+  written-carries : (manifest : Option Manifest) → Carries (writing_manifest s session manifest)
+  written-carries None = tt
+  written-carries (Some manifest) = was
+
+  out-carries : (slug : List ℕ) (full : Bool) → Carries (if full then Refused OptedOutLimit else Accepted (after_opt_out s.enrolment slug) session Okay)
+  out-carries slug true = tt
+  out-carries slug false = was
+
+  module _ (slug branch : List ℕ) where
+    taking-carries : (taker : Option (List ℕ × List ℕ)) → Carries (taking s.enrolment session slug branch taker)
+    taking-carries None = was
+    taking-carries (Some taker) = tt
+
+    branch-carries : (r : Recipe) (has : Bool) → Carries (if has then taking s.enrolment session slug branch (first_taker s.enrolment r s.enrolment.rows) else Refused NoSuchBranch)
+    branch-carries r true = taking-carries (first_taker s.enrolment r s.enrolment.rows)
+    branch-carries r false = tt
+
+    part-carries : (r : Recipe) (on : Bool) → Carries (if on then offering s.enrolment session slug branch r else Refused NotParticipating)
+    part-carries r true = branch-carries r (has_branch r branch)
+    part-carries r false = tt
+
+    choosing-carries : (found : Option Recipe) → Carries (choosing s.enrolment session slug branch found)
+    choosing-carries None = tt
+    choosing-carries (Some r) = part-carries r (takes_part s.enrolment (kind_of r))
+
+  count-carries : (name : List ℕ) (count : ℕ) (full : Bool) → Carries (if full then Refused EventLimit else Accepted (record s { events = counted_in name count at.now s.events }) session Okay)
+  count-carries name count true = tt
+  count-carries name count false = was
+
+  confirm-carries : (number : ℕ) (unknown : Bool) → Carries (if unknown then Refused (NoSuchChange s.outbox.next) else Accepted (record s { outbox = confirmed number s.outbox }) session Okay)
+  confirm-carries number true = tt
+  confirm-carries number false = was
+
+  outcome-carries : (command : Command) → Carries (outcome at s session command)
+  outcome-carries (commands.Manifest file channel) = manifest-carries file channel (manifest_of at.files file channel) refl
+  outcome-carries (commands.Context file) = file-carries (file_tree file (at.files file)) (file_sound file (at.files file))
+  outcome-carries (Fetch file) = whole-carries s.events (fetching s.enrolment session (file_tree file (at.files file))) (fetch-carries (file_tree file (at.files file)))
+  outcome-carries Apply = whole-carries s.events (applying at.now s.enrolment session session.manifest (seeing at.now s.events session.context)) (apply-carries session.manifest (seeing at.now s.events session.context))
+  outcome-carries (Participate part on) = whole-carries s.events (participation s.enrolment session part on) was
+  outcome-carries (OptOut slug) = whole-carries s.events (opting_out s.enrolment session slug) (out-carries slug (has_no_room s.enrolment.opted_out slug))
+  outcome-carries (OptIn slug branch) = whole-carries s.events (opting_in s.enrolment session slug branch) (choosing-carries slug branch (recipe_with slug s.enrolment.live))
+  outcome-carries (Reset id) = whole-carries [] (resetting s.enrolment session id) was
+  outcome-carries Show = was
+  outcome-carries (Feature name) = feature-carries name session.manifest
+  outcome-carries (Event name count) = count-carries name count (has_no_room_for name s.events)
+  outcome-carries commands.Changes = was
+  outcome-carries (Confirm number) = confirm-carries number (nat_le s.outbox.next number)
+  outcome-carries (Bind file) = bind-carries (file_tree file (at.files file)) (file_sound file (at.files file))
+  outcome-carries (SetPreference name value) = preferring-carries name (Some value)
+  outcome-carries (ClearPreference name) = preferring-carries name None
+  outcome-carries commands.Preferences = was
+  outcome-carries WriteManifest = written-carries session.manifest
+
+  step-carries : (command : Command) → P (step at s session command).session
+  unfolding step
+  step-carries command = done-carries (outcome at s session command) (outcome-carries command)
+
+version_of_tree : (tree : Json) (context : Context) → IsSound tree → context_of tree ≡ Ok context → IsUtf8 (version_of context)
+version_of_tree tree context sound is = subst (λ (read : Result Context ContextKey). IfOk read (λ c. IsUtf8 (version_of c))) is (context_version tree sound)
+
+-- the bindings that a tree is
+bindings_are : (tree : Json) (bindings : List Binding) → bindings_of tree ≡ Ok bindings → AreBindings bindings
+unfolding bindings_of
+bindings_are json.null bindings is = absurd cc
+bindings_are (json.truth b) bindings is = absurd cc
+bindings_are (json.whole n) bindings is = absurd cc
+bindings_are json.odd bindings is = absurd cc
+bindings_are (json.text s) bindings is = absurd cc
+bindings_are (json.list xs) bindings is = absurd cc
+bindings_are (json.object ms) bindings is = read_are bindings ms is
+
+pub step_keeps_texts : (at : Setting) (s : ClientState) (session : Session) (command : Command) → IsSession session → IsSession (step at s session command).session
+step_keeps_texts at s session command was =
+    step-carries IsSession at s session was (λ file channel manifest is. record { manifest = manifest_linked at.files file channel manifest is; context = was.context; bindings = was.bindings })
+    (λ tree context sound is. record { manifest = was.manifest; context = version_of_tree tree context sound is; bindings = was.bindings })
+    (λ tree bindings sound is. record { manifest = was.manifest; context = was.context; bindings = bindings_are tree bindings is }) command
+
+pub step_keeps_lawful : (at : Setting) (s : ClientState) (session : Session) (command : Command) → IsLawful session → IsLawful (step at s session command).session
+step_keeps_lawful at s session command was =
+    step-carries IsLawful at s session was (λ file channel manifest is. record { manifest = record { files = at.files; first = file; channel = channel; links = is }; context = was.context; bindings = was.bindings })
+    (λ tree context sound is. record { manifest = was.manifest; context = (tree, sound, is); bindings = was.bindings })
+    (λ tree bindings sound is. record { manifest = was.manifest; context = was.context; bindings = (tree, sound, is) }) command
+
+has_linked : (manifest : Option Manifest) → IsLawfulManifest manifest → HasLinked manifest
+has_linked None lawful = tt
+has_linked (Some manifest) lawful = manifest_linked lawful.files lawful.first lawful.channel manifest lawful.links
+
+has_version : (context : Option Context) → IsLawfulContext context → HasVersion context
+has_version None lawful = tt
+has_version (Some context) lawful = version_of_tree lawful.0 context lawful.1 lawful.2
+
+has_bindings : (bindings : Option (List Binding)) → IsLawfulBindings bindings → HasBindings bindings
+has_bindings None lawful = tt
+has_bindings (Some bindings) lawful = bindings_are lawful.0 bindings lawful.2
+
+-- what the types of a session's parts keep holds of a lawful one
+pub lawful_texts : (session : Session) → IsLawful session → IsSession session
+lawful_texts session lawful = record { manifest = has_linked session.manifest lawful.manifest; context = has_version session.context lawful.context; bindings = has_bindings session.bindings lawful.bindings }

@@ -1,0 +1,23 @@
+mod Takers
+mod Coenrolling
+mod Payloads
+pub mod Stepping
+mod JoinValues
+pub mod FollowedPreferences
+mod CountedEvents
+mod Outboxes
+mod Confirmations
+pub mod OptOuts
+pub mod EventSteps
+pub mod OutboxSteps
+pub mod PreferenceSteps
+mod ReadFiles
+mod ReadRecords
+mod ReadContexts
+mod KeptRecords
+mod LinkedManifests
+mod Lawfulness
+pub mod Soundness
+pub mod ServedValues
+mod Trees
+mod SoundValues

@@ -1,0 +1,258 @@
+-- A slug that is opted out stays so, until its user brings it back.
+use Rattle.std.proofs.Common.{Ordering, ◌≡◌, ℕ, Bool, true, false, List, [], ◌∷◌, length, Option, Some, None, Result, Ok, Err, Less, Equal, Greater, ◌||◌, refl, sym, ap, ◌∙◌, subst}
+use Rattle.std.specs.Prelude.{not, nat_lt, nat_le, bytes_eq, if◌then◌else◌}
+use Rattle.std.specs.BTreeSet.{insert_key}
+use Rattle.std.specs.Cmp.Lexicographic.{bytes_decides}
+use Rattle.std.specs.Ordering.{match_ordering}
+use Rattle.json_tree.specs.Json.{Json}
+use Rattle.json_tree.specs.declared.tree.Tree.{Tree}
+use Rattle.recipe_reader.specs.Kinds.{kind_of}
+use Rattle.recipe_reader.specs.Payloads.{slug_cmp, payload_of, recipe_with}
+use Rattle.recipe_reader.specs.declared.payload.Payload.{Payload}
+use Rattle.recipe_reader.specs.declared.payload.PayloadFault.{PayloadFault}
+use Rattle.recipe_reader.specs.declared.payload.PayloadFault.TheVariants as payload
+use Rattle.recipe_reader.specs.declared.recipe.Recipe.{Recipe}
+use Rattle.change_outbox.specs.Contents.{confirmed}
+use Rattle.pref_bindings.specs.Bindings.{bindings_of}
+use Rattle.pref_bindings.specs.declared.bindings.Binding.{Binding}
+use Rattle.enrol_states.specs.Choices.{has_no_room}
+use Rattle.event_counts.specs.Kept.{counted_in}
+use Rattle.event_counts.specs.declared.name_counts.NameCounts.{NameCounts}
+use Rattle.client_state.specs.declared.client_state.ClientState.{ClientState}
+use Rattle.enrol_states.specs.Commands.{after_opt_out, after_opt_in, after_reset, without_text}
+use Rattle.enrol_states.specs.Order.{is_in}
+use Rattle.enrol_states.specs.Participation.{takes_part}
+use Rattle.enrol_states.specs.Recipes.{has_branch}
+use Rattle.enrol_states.proofs.OptOuts.{is_in-insert}
+use Rattle.enrol_states.proofs.Ordered.{same_texts}
+use Rattle.client_state.specs.Sound.{max_size}
+use Rattle.client_state.specs.Spelling.{spelling}
+use Rattle.app_context.specs.Contexts.{context_of}
+use Rattle.enrol_evolver.specs.Evolution.{evolution}
+use Rattle.app_context.specs.declared.context.Context.{Context}
+use Rattle.app_context.specs.declared.key.ContextKey.{ContextKey}
+use Rattle.fml_types.specs.declared.manifest.Manifest.{Manifest}
+use Rattle.fml_value.specs.Typed.{TypedValue}
+use Rattle.feature_serving.specs.Serving.{served}
+use Rattle.client_words.specs.declared.answer.Answer.{Answer}
+use Rattle.client_words.specs.declared.answer.Answer.TheVariants.{Okay, OptedOutLimit, EventLimit, NoSuchChange, NotParticipating, NoSuchBranch, StateTooLarge}
+use Rattle.client_words.specs.declared.command.Command.{Command}
+use Rattle.client_words.specs.declared.command.Command.TheVariants.{Fetch, Apply, Participate, OptOut, OptIn, Reset, Show, Feature, Event, Confirm, Bind, SetPreference, ClearPreference, WriteManifest}
+use Rattle.client_words.specs.declared.command.Command.TheVariants as commands
+use Rattle.client_steps.specs.declared.session.Session.{Session}
+use Rattle.client_steps.specs.Choosing.{first_taker}
+use Rattle.client_steps.specs.Fetching.{file_tree}
+use Rattle.client_steps.specs.Manifests.{manifest_of}
+use Rattle.client_steps.specs.OptOuts.{BringsBack, OptOutsHold}
+use Rattle.client_steps.specs.Settings.{Setting}
+use Rattle.client_steps.specs.Steps.{EnrolmentOutcome, Outcome, Accepted, Refused, Step, with_enrolment, whole, enrolling, seeing, has_no_room_for, counting, listing_changes, confirming, preferring, listing_preferences, participation, opting_out, taking, offering, choosing, fetched, fetching, context_read, reading_context, bindings_read, reading_bindings, setting_manifest, applying, valued, serving, writing_manifest, done, step}
+use Rattle.client_steps.proofs.Stepping.{whole_either, preferring_either}
+
+-- ---- one slug more or less
+
+inserted_at : (s t : List ℕ) (ts : List (List ℕ)) (o : Ordering) → slug_cmp s t ≡ o → is_in (insert_key slug_cmp ts s) s ≡ true → is_in (match_ordering o (s ∷ t ∷ ts) (t ∷ ts) (t ∷ insert_key slug_cmp ts s)) s ≡ true
+inserted_at s t ts Less e rest = ap (λ b. b || is_in (t ∷ ts) s) ((bytes_decides s s).1 refl)
+inserted_at s t ts Equal e rest = ap (λ b. b || is_in ts s) ((bytes_decides t s).1 (sym (same_texts s t e)))
+inserted_at s t ts Greater e rest = or_right (bytes_eq t s) (is_in (insert_key slug_cmp ts s) s) rest
+  where
+    or_right : (a b : Bool) → b ≡ true → (a || b) ≡ true
+    or_right true b h = refl
+    or_right false b h = h
+
+is_in-inserted : (s : List ℕ) (ts : List (List ℕ)) → is_in (insert_key slug_cmp ts s) s ≡ true
+is_in-inserted s [] = ap (λ b. b || false) ((bytes_decides s s).1 refl)
+is_in-inserted s (t ∷ ts) = inserted_at s t ts (slug_cmp s t) refl (is_in-inserted s ts)
+
+kept_at : (s u : List ℕ) (ts : List (List ℕ)) (b : Bool) → bytes_eq s u ≡ b → is_in ts u ≡ true → is_in (insert_key slug_cmp ts s) u ≡ true
+kept_at s u ts true e there = subst (λ v. is_in (insert_key slug_cmp ts s) v ≡ true) ((bytes_decides s u).0 e) (is_in-inserted s ts)
+kept_at s u ts false e there = is_in-insert s u ts e ∙ there
+
+kept-insert : (s u : List ℕ) (ts : List (List ℕ)) → is_in ts u ≡ true → is_in (insert_key slug_cmp ts s) u ≡ true
+kept-insert s u ts there = kept_at s u ts (bytes_eq s u) refl there
+
+first_kept : (t s u : List ℕ) (ts : List (List ℕ)) (b : Bool) → bytes_eq t s ≡ b → bytes_eq s u ≡ false → (is_in ts u ≡ true → is_in (without_text s ts) u ≡ true) → is_in (t ∷ ts) u ≡ true → is_in (if not b then t ∷ without_text s ts else without_text s ts) u ≡ true
+first_kept t s u ts true e other rest there = rest (sym (ap (λ c. c || is_in ts u) (ap (λ v. bytes_eq v u) ((bytes_decides t s).0 e) ∙ other)) ∙ there)
+first_kept t s u ts false e other rest there = either (bytes_eq t u) (is_in ts u) (is_in (without_text s ts) u) there rest
+  where
+    either : (a b c : Bool) → (a || b) ≡ true → (b ≡ true → c ≡ true) → (a || c) ≡ true
+    either true b c h f = refl
+    either false b c h f = f h
+
+kept-without : (s u : List ℕ) (ts : List (List ℕ)) → bytes_eq s u ≡ false → is_in ts u ≡ true → is_in (without_text s ts) u ≡ true
+kept-without s u [] other there = there
+kept-without s u (t ∷ ts) other there = first_kept t s u ts (bytes_eq t s) refl other (kept-without s u ts other) there
+
+-- ---- what is done
+
+either_step : (P : Step → Type 0) (b : Bool) (x y : Step) → P x → P y → P (if b then x else y)
+either_step P true x y here there = here
+either_step P false x y here there = there
+
+module _ (at : Setting) (s : ClientState) (session : Session) (slug : List ℕ) (there : is_in s.enrolment.opted_out slug ≡ true) where
+  -- an accepted state has the slug
+  abbrev Keeps : Outcome → Type 0
+  Keeps (Accepted t next answer) = is_in t.enrolment.opted_out slug ≡ true
+  Keeps (Refused answer) = Unit {0}
+
+  -- and so has an accepted enrolment
+  abbrev KeepsEnrolment : EnrolmentOutcome → Type 0
+  KeepsEnrolment (Accepted e next answer) = is_in e.opted_out slug ≡ true
+  KeepsEnrolment (Refused answer) = Unit {0}
+
+  whole-keeps : (counts : List NameCounts) (asked : EnrolmentOutcome) → KeepsEnrolment asked → Keeps (whole s session counts asked)
+  whole-keeps counts (Accepted e next answer) keeps = whole_either Keeps s session counts e next answer tt (λ fits. keeps)
+  whole-keeps counts (Refused answer) keeps = tt
+
+  done-keeps : (asked : Outcome) → Keeps asked → is_in (done s session asked).state.enrolment.opted_out slug ≡ true
+  done-keeps (Accepted t next answer) keeps = either_step (λ to. is_in to.state.enrolment.opted_out slug ≡ true) (nat_lt max_size (length (spelling t))) _ _ there keeps
+  done-keeps (Refused answer) keeps = there
+
+  context-keeps : (read : Result Context ContextKey) → Keeps (context_read s session read)
+  context-keeps (Ok context) = there
+  context-keeps (Err key) = tt
+
+  file-keeps : (read : Result Json Answer) → Keeps (reading_context s session read)
+  file-keeps (Ok tree) = context-keeps (context_of tree)
+  file-keeps (Err refusal) = tt
+
+  bindings-keeps : (read : Result (List Binding) (List ℕ)) → Keeps (bindings_read s session read)
+  bindings-keeps (Ok bindings) = there
+  bindings-keeps (Err feature) = tt
+
+  bind-keeps : (read : Result Json Answer) → Keeps (reading_bindings s session read)
+  bind-keeps (Ok tree) = bindings-keeps (bindings_of tree)
+  bind-keeps (Err refusal) = tt
+
+  payload-keeps : (read : Result Payload PayloadFault) → KeepsEnrolment (fetched s.enrolment session read)
+  payload-keeps (Ok found) = there
+  payload-keeps (Err payload.NoData) = tt
+  payload-keeps (Err (payload.TooManyRecipes count)) = tt
+  payload-keeps (Err payload.OutOfMemory) = tt
+
+  fetch-keeps : (read : Result Json Answer) → KeepsEnrolment (fetching s.enrolment session read)
+  fetch-keeps (Ok tree) = payload-keeps (payload_of tree)
+  fetch-keeps (Err refusal) = tt
+
+  manifest-keeps : (read : Result Manifest Answer) → Keeps (setting_manifest s session read)
+  manifest-keeps (Ok manifest) = there
+  manifest-keeps (Err refusal) = tt
+
+  apply-keeps : (manifest : Option Manifest) (context : Option Context) → KeepsEnrolment (applying at.now s.enrolment session manifest context)
+  unfolding evolution
+  apply-keeps None context = tt
+  apply-keeps (Some manifest) None = tt
+  apply-keeps (Some manifest) (Some context) = there
+
+  value-keeps : (found : Option TypedValue) → Keeps (valued s session found)
+  value-keeps None = tt
+  value-keeps (Some value) = there
+
+  feature-keeps : (name : List ℕ) (manifest : Option Manifest) → Keeps (serving s session name manifest)
+  feature-keeps name None = tt
+  feature-keeps name (Some manifest) = value-keeps (served manifest s.enrolment name)
+
+  written-keeps : (manifest : Option Manifest) → Keeps (writing_manifest s session manifest)
+  written-keeps None = tt
+  written-keeps (Some manifest) = there
+
+  out-keeps : (other : List ℕ) (full : Bool) → KeepsEnrolment (if full then Refused OptedOutLimit else Accepted (after_opt_out s.enrolment other) session Okay)
+  out-keeps other true = tt
+  out-keeps other false = kept-insert other slug s.enrolment.opted_out there
+
+  count-keeps : (name : List ℕ) (count : ℕ) (full : Bool) → Keeps (if full then Refused EventLimit else Accepted (record s { events = counted_in name count at.now s.events }) session Okay)
+  count-keeps name count true = tt
+  count-keeps name count false = there
+
+  confirm-keeps : (number : ℕ) (unknown : Bool) → Keeps (if unknown then Refused (NoSuchChange s.outbox.next) else Accepted (record s { outbox = confirmed number s.outbox }) session Okay)
+  confirm-keeps number true = tt
+  confirm-keeps number false = there
+
+  preferring-keeps : (name : List ℕ) (value : Option Tree) → Keeps (preferring s session name value)
+  preferring-keeps name value = preferring_either Keeps s session name value tt (λ free. there) (λ holder held fits. there)
+
+  -- what is asked of the enrolment, and done, keeps it
+  enrolment-keeps : (asked : EnrolmentOutcome) → KeepsEnrolment asked → is_in (done s session (enrolling s session asked)).state.enrolment.opted_out slug ≡ true
+  enrolment-keeps asked keeps = done-keeps (enrolling s session asked) (whole-keeps s.events asked keeps)
+
+  -- it is kept where the command isn't done
+  abbrev KeepsUnless : Bool → Outcome → Type 0
+  KeepsUnless back asked = (back ≡ true → (done s session asked).answer ≡ Okay → ⊥) → is_in (done s session asked).state.enrolment.opted_out slug ≡ true
+
+  unless_at : (t : ClientState) (next : Session) (back large : Bool) → (back ≡ false → is_in t.enrolment.opted_out slug ≡ true)
+      → let to : Step = if large then record { state = s; session = session; answer = StateTooLarge (length (spelling t)) } else record { state = t; session = next; answer = Okay } in
+      (back ≡ true → to.answer ≡ Okay → ⊥) → is_in to.state.enrolment.opted_out slug ≡ true
+  unless_at t next back true keeps never = there
+  unless_at t next true false keeps never = absurd (never refl refl)
+  unless_at t next false false keeps never = keeps refl
+
+  accepted-unless : (t : ClientState) (next : Session) (back : Bool) → (back ≡ false → is_in t.enrolment.opted_out slug ≡ true) → KeepsUnless back (Accepted t next Okay)
+  accepted-unless t next back keeps = unless_at t next back (nat_lt max_size (length (spelling t))) keeps
+
+  module _ (other branch : List ℕ) where
+    taking-unless : (taker : Option (List ℕ × List ℕ)) → KeepsUnless (bytes_eq other slug) (enrolling s session (taking s.enrolment session other branch taker))
+    taking-unless None =
+        let e = after_opt_in s.enrolment other branch in
+        whole_either (KeepsUnless (bytes_eq other slug)) s session s.events e session Okay (λ never. there)
+        (λ fits. accepted-unless (with_enrolment session s e s.events) session (bytes_eq other slug) (λ apart. kept-without other slug s.enrolment.opted_out apart there))
+    taking-unless (Some taker) = λ never. there
+
+    branch-unless : (r : Recipe) (has : Bool) → KeepsUnless (bytes_eq other slug) (enrolling s session (if has then taking s.enrolment session other branch (first_taker s.enrolment r s.enrolment.rows) else Refused NoSuchBranch))
+    branch-unless r true = taking-unless (first_taker s.enrolment r s.enrolment.rows)
+    branch-unless r false = λ never. there
+
+    part-unless : (r : Recipe) (on : Bool) → KeepsUnless (bytes_eq other slug) (enrolling s session (if on then offering s.enrolment session other branch r else Refused NotParticipating))
+    part-unless r true = branch-unless r (has_branch r branch)
+    part-unless r false = λ never. there
+
+    choosing-unless : (found : Option Recipe) → KeepsUnless (bytes_eq other slug) (enrolling s session (choosing s.enrolment session other branch found))
+    choosing-unless None = λ never. there
+    choosing-unless (Some r) = part-unless r (takes_part s.enrolment (kind_of r))
+
+  kept : (command : Command) → (BringsBack at s session slug command → ⊥) → is_in (step at s session command).state.enrolment.opted_out slug ≡ true
+  unfolding step
+  kept (commands.Manifest file channel) never = done-keeps (setting_manifest s session (manifest_of at.files file channel)) (manifest-keeps (manifest_of at.files file channel))
+  kept (commands.Context file) never = done-keeps (reading_context s session (file_tree file (at.files file))) (file-keeps (file_tree file (at.files file)))
+  kept (Fetch file) never = enrolment-keeps (fetching s.enrolment session (file_tree file (at.files file))) (fetch-keeps (file_tree file (at.files file)))
+  kept Apply never = enrolment-keeps (applying at.now s.enrolment session session.manifest (seeing at.now s.events session.context)) (apply-keeps session.manifest (seeing at.now s.events session.context))
+  kept (Participate part on) never = enrolment-keeps (participation s.enrolment session part on) there
+  kept (OptOut other) never = enrolment-keeps (opting_out s.enrolment session other) (out-keeps other (has_no_room s.enrolment.opted_out other))
+  kept (OptIn other branch) never = choosing-unless other branch (recipe_with other s.enrolment.live) (λ back is_done. never (back, is_done))
+  kept (Reset id) never =
+      let e = after_reset s.enrolment id in
+      whole_either (KeepsUnless true) s session [] e session Okay (λ apart. there) (λ fits. accepted-unless (with_enrolment session s e []) session true (λ apart. absurd cc)) (λ back is_done. never (back, is_done))
+  kept Show never = done-keeps (Accepted s session _) there
+  kept (Feature name) never = done-keeps (serving s session name session.manifest) (feature-keeps name session.manifest)
+  kept (Event name count) never = done-keeps (counting at.now s session name count) (count-keeps name count (has_no_room_for name s.events))
+  kept commands.Changes never = done-keeps (listing_changes s session) there
+  kept (Confirm number) never = done-keeps (confirming s session number) (confirm-keeps number (nat_le s.outbox.next number))
+  kept (Bind file) never = done-keeps (reading_bindings s session (file_tree file (at.files file))) (bind-keeps (file_tree file (at.files file)))
+  kept (SetPreference name value) never = done-keeps (preferring s session name (Some value)) (preferring-keeps name (Some value))
+  kept (ClearPreference name) never = done-keeps (preferring s session name None) (preferring-keeps name None)
+  kept commands.Preferences never = done-keeps (listing_preferences s session) there
+  kept WriteManifest never = done-keeps (writing_manifest s session session.manifest) (written-keeps session.manifest)
+
+-- ---- an opt-out
+
+taken_at : (s t : ClientState) (session next : Session) (slug : List ℕ) (large : Bool) → is_in t.enrolment.opted_out slug ≡ true
+    → let to : Step = if large then record { state = s; session = session; answer = StateTooLarge (length (spelling t)) } else record { state = t; session = next; answer = Okay } in
+    to.answer ≡ Okay → is_in to.state.enrolment.opted_out slug ≡ true
+taken_at s t session next slug true has is_done = absurd cc
+taken_at s t session next slug false has is_done = has
+
+-- the state with the slug opted out
+abbrev out_of : Session → ClientState → List ℕ → ClientState
+out_of session s slug = with_enrolment session s (after_opt_out s.enrolment slug) s.events
+
+room_at : (s : ClientState) (session : Session) (slug : List ℕ) (full : Bool) → (done s session (enrolling s session (if full then Refused OptedOutLimit else Accepted (after_opt_out s.enrolment slug) session Okay))).answer ≡ Okay
+    → is_in (done s session (enrolling s session (if full then Refused OptedOutLimit else Accepted (after_opt_out s.enrolment slug) session Okay))).state.enrolment.opted_out slug ≡ true
+room_at s session slug true is_done = absurd cc
+room_at s session slug false is_done =
+    whole_either (λ asked. (done s session asked).answer ≡ Okay → is_in (done s session asked).state.enrolment.opted_out slug ≡ true) s session s.events (after_opt_out s.enrolment slug) session Okay (λ okay. absurd cc)
+    (λ fits. taken_at s (out_of session s slug) session session slug (nat_lt max_size (length (spelling (out_of session s slug)))) (is_in-inserted slug s.enrolment.opted_out)) is_done
+
+taken : (at : Setting) (s : ClientState) (session : Session) (slug : List ℕ) → (step at s session (OptOut slug)).answer ≡ Okay → is_in (step at s session (OptOut slug)).state.enrolment.opted_out slug ≡ true
+unfolding step
+taken at s session slug is_done = room_at s session slug (has_no_room s.enrolment.opted_out slug) is_done
+
+pub opt_outs_hold : OptOutsHold
+opt_outs_hold = record { taken = taken; kept = λ at s session slug command there never. kept at s session slug there command never }

@@ -1,0 +1,315 @@
+-- A step keeps a state sound and a session lawful, and so do many.
+use Rattle.std.proofs.Common.{◌≡◌, ◌≤◌, ℕ, Bool, true, false, List, [], ◌∷◌, length, Option, Some, None, Result, Ok, Err, IsTrue, refl, sym, subst}
+use Rattle.std.specs.Prelude.{All, nat_lt, nat_le, if◌then◌else◌}
+use Rattle.std.proofs.lemmas.Bool.{leb-false, ltb-false}
+use Rattle.std.proofs.lemmas.List.Elements.{All-head, All-tail}
+use Rattle.json_tree.specs.Json.{Json}
+use Rattle.json_tree.specs.declared.tree.Tree.{Tree}
+use Rattle.plain_text.specs.Names.{is_name}
+use Rattle.recipe_reader.specs.Kinds.{kind_of}
+use Rattle.recipe_reader.specs.Payloads.{payload_of, recipe_with}
+use Rattle.recipe_reader.specs.declared.payload.Payload.{Payload}
+use Rattle.recipe_reader.specs.declared.payload.PayloadFault.{PayloadFault}
+use Rattle.recipe_reader.specs.declared.payload.PayloadFault.TheVariants as payload
+use Rattle.recipe_reader.specs.declared.recipe.Recipe.{Recipe}
+use Rattle.app_context.specs.Contexts.{context_of}
+use Rattle.app_context.specs.declared.context.Context.{Context}
+use Rattle.app_context.specs.declared.key.ContextKey.{ContextKey}
+use Rattle.enrol_evolver.proofs.Consistency.{evolved}
+use Rattle.change_outbox.specs.Contents.{confirmed}
+use Rattle.pref_bindings.specs.Bindings.{bindings_of}
+use Rattle.pref_bindings.specs.Changes.{set_by_user}
+use Rattle.pref_bindings.specs.Preferences as preference_lists
+use Rattle.pref_bindings.specs.declared.bindings.Binding.{Binding}
+use Rattle.pref_bindings.specs.declared.preference.Preference.{Preference}
+use Rattle.enrol_states.specs.Choices.{has_no_room}
+use Rattle.event_counts.specs.Kept.{counted_in}
+use Rattle.event_counts.specs.Sound as counts
+use Rattle.event_counts.specs.declared.name_counts.NameCounts.{NameCounts}
+use Rattle.event_counts.proofs.Soundness.{sound_none}
+use Rattle.client_state.specs.declared.client_state.ClientState.{ClientState}
+use Rattle.enrol_states.specs.Commands.{after_opt_out}
+use Rattle.enrol_states.specs.Consistent as states
+use Rattle.enrol_states.specs.Participation.{takes_part}
+use Rattle.enrol_states.specs.Recipes.{has_branch}
+use Rattle.enrol_states.specs.Statuses.{last_moment, IsSlug}
+use Rattle.enrol_states.proofs.Enrolments as enrolments
+use Rattle.enrol_states.proofs.Fresh.{reset-consistent}
+use Rattle.enrol_states.proofs.OptOuts as opt_outs
+use Rattle.enrol_states.proofs.Participations as participations
+use Rattle.client_state.specs.Following.{changes_from, enrolment_ended, join_values}
+use Rattle.client_state.specs.Sound.{max_size, HaveEnrolledHolders, HaveRecords, IsConsistent, IsSound}
+use Rattle.client_state.specs.Spelling.{spelling}
+use Rattle.client_state.proofs.Ended.{ended_is_consistent}
+use Rattle.client_state.proofs.HoldersAfter.{holders_after, holders_set}
+use Rattle.fml_types.specs.Coenrolling.{coenrolling}
+use Rattle.fml_types.specs.declared.manifest.Manifest.{Manifest}
+use Rattle.fml_value.specs.Typed.{TypedValue}
+use Rattle.feature_serving.specs.Serving.{served}
+use Rattle.client_words.specs.declared.answer.Answer.{Answer}
+use Rattle.client_words.specs.declared.answer.Answer.TheVariants.{Okay, OptedOutLimit, EventLimit, NoSuchChange, NotParticipating, NoSuchBranch, StateTooLarge}
+use Rattle.client_words.specs.declared.command.Command.{Command}
+use Rattle.client_words.specs.declared.command.Command.TheVariants.{Fetch, Apply, Participate, OptOut, OptIn, Reset, Show, Feature, Event, Confirm, Bind, SetPreference, ClearPreference, WriteManifest}
+use Rattle.client_words.specs.declared.command.Command.TheVariants as commands
+use Rattle.client_steps.specs.declared.session.Session.{Session}
+use Rattle.client_steps.specs.Choosing.{first_taker}
+use Rattle.client_steps.specs.EventSteps.{is_okay}
+use Rattle.client_steps.specs.Fetching.{file_tree}
+use Rattle.client_steps.specs.Manifests.{manifest_of}
+use Rattle.client_steps.specs.PreferenceSteps.{set_after}
+use Rattle.client_steps.specs.Settings.{Setting}
+use Rattle.client_steps.specs.Soundness.{HasVersion, HasLinked, IsSession, IsLawful, Line, IsLine, all_after, HasConsistentParts, StepsStaySound}
+use Rattle.client_words.specs.Commands.{IsCommand, IsEvent}
+use Rattle.client_steps.specs.Steps.{EnrolmentOutcome, Outcome, Accepted, Refused, Step, preferences_with, whole, enrolling, seeing, has_no_room_for, counting, listing_changes, listing_preferences, confirming, preferring, participation, opting_out, taking, offering, choosing, opting_in, resetting, showing, fetched, fetching, context_read, reading_context, bindings_read, reading_bindings, setting_manifest, applying, valued, serving, writing_manifest, outcome, done, step}
+use Rattle.client_steps.proofs.Coenrolling.{coenrolling_names, coenrolling_rise}
+use Rattle.client_steps.proofs.CountedEvents.{counted_sound}
+use Rattle.client_steps.proofs.JoinValues.{join_sets}
+use Rattle.client_steps.proofs.KeptRecords.{step_keeps_records}
+use Rattle.client_steps.proofs.Lawfulness.{step_keeps_texts, step_keeps_lawful, lawful_texts}
+use Rattle.client_steps.proofs.Payloads.{payload_kept}
+use Rattle.client_steps.proofs.Outboxes.{appended_is_sound, changes_slugs, confirmed_is_sound}
+use Rattle.client_steps.proofs.PreferenceSteps.{preferences_follow}
+use Rattle.client_steps.proofs.FollowedPreferences.{done_sound, users_sound}
+use Rattle.client_steps.proofs.Stepping.{pending_consistent, preferring_either, whole_either}
+use Rattle.client_steps.proofs.Takers.{free_where}
+
+either_step : (P : Step → Type 0) (b : Bool) (x y : Step) → P x → P y → P (if b then x else y)
+either_step P true x y here there = here
+either_step P false x y here there = there
+
+-- ---- the parts that follow nothing of what recipes hold
+
+module _ (at : Setting) (s : ClientState) (session : Session) (c : HasConsistentParts s) where
+  -- an accepted state has consistent parts
+  abbrev Keeps : Outcome → Type 0
+  Keeps (Accepted t next answer) = HasConsistentParts t
+  Keeps (Refused answer) = Unit {0}
+
+  -- and so is an accepted enrolment
+  abbrev KeepsEnrolment : EnrolmentOutcome → Type 0
+  KeepsEnrolment (Accepted e next answer) = states.IsConsistent e
+  KeepsEnrolment (Refused answer) = Unit {0}
+
+  whole-keeps : (ns : List NameCounts) → counts.IsSound ns → (asked : EnrolmentOutcome) → KeepsEnrolment asked → Keeps (whole s session ns asked)
+  whole-keeps ns sound (Accepted e next answer) keeps =
+      whole_either Keeps s session ns e next answer tt (λ fits. record { enrolment = keeps; events = sound; outbox = appended_is_sound s.enrolment e s.outbox c.enrolment keeps c.outbox fits })
+  whole-keeps ns sound (Refused answer) keeps = tt
+
+  done-keeps : (asked : Outcome) → Keeps asked → HasConsistentParts (done s session asked).state
+  done-keeps (Accepted t next answer) keeps = either_step (λ to. HasConsistentParts to.state) (nat_lt max_size (length (spelling t))) _ _ c keeps
+  done-keeps (Refused answer) keeps = c
+
+  context-keeps : (read : Result Context ContextKey) → Keeps (context_read s session read)
+  context-keeps (Ok context) = c
+  context-keeps (Err key) = tt
+
+  file-keeps : (read : Result Json Answer) → Keeps (reading_context s session read)
+  file-keeps (Ok tree) = context-keeps (context_of tree)
+  file-keeps (Err refusal) = tt
+
+  bindings-keeps : (read : Result (List Binding) (List ℕ)) → Keeps (bindings_read s session read)
+  bindings-keeps (Ok bindings) = c
+  bindings-keeps (Err feature) = tt
+
+  bind-keeps : (read : Result Json Answer) → Keeps (reading_bindings s session read)
+  bind-keeps (Ok tree) = bindings-keeps (bindings_of tree)
+  bind-keeps (Err refusal) = tt
+
+  payload-keeps : (tree : Json) (read : Result Payload PayloadFault) → payload_of tree ≡ read → KeepsEnrolment (fetched s.enrolment session read)
+  payload-keeps tree (Ok found) is = pending_consistent s.enrolment found.recipes c.enrolment (payload_kept tree found is)
+  payload-keeps tree (Err payload.NoData) is = tt
+  payload-keeps tree (Err (payload.TooManyRecipes count)) is = tt
+  payload-keeps tree (Err payload.OutOfMemory) is = tt
+
+  fetch-keeps : (read : Result Json Answer) → KeepsEnrolment (fetching s.enrolment session read)
+  fetch-keeps (Ok tree) = payload-keeps tree (payload_of tree) refl
+  fetch-keeps (Err refusal) = tt
+
+  manifest-keeps : (read : Result Manifest Answer) → Keeps (setting_manifest s session read)
+  manifest-keeps (Ok manifest) = c
+  manifest-keeps (Err refusal) = tt
+
+  apply-keeps : at.now ≤ last_moment → (manifest : Option Manifest) → HasLinked manifest → (context : Option Context) → HasVersion context → KeepsEnrolment (applying at.now s.enrolment session manifest context)
+  apply-keeps moment None linked context text = tt
+  apply-keeps moment (Some manifest) linked None text = tt
+  apply-keeps moment (Some manifest) linked (Some context) text =
+      evolved s.enrolment context (coenrolling manifest.features) at.now c.enrolment (coenrolling_names manifest.features linked.sound.names) (coenrolling_rise manifest.features linked.order) moment text
+
+  seen-version : (context : Option Context) → HasVersion context → HasVersion (seeing at.now s.events context)
+  seen-version None text = tt
+  seen-version (Some context) text = text
+
+  value-keeps : (found : Option TypedValue) → Keeps (valued s session found)
+  value-keeps None = tt
+  value-keeps (Some value) = c
+
+  feature-keeps : (name : List ℕ) (manifest : Option Manifest) → Keeps (serving s session name manifest)
+  feature-keeps name None = tt
+  feature-keeps name (Some manifest) = value-keeps (served manifest s.enrolment name)
+
+  written-keeps : (manifest : Option Manifest) → Keeps (writing_manifest s session manifest)
+  written-keeps None = tt
+  written-keeps (Some manifest) = c
+
+  out-keeps : (slug : List ℕ) → IsSlug slug → (full : Bool) → has_no_room s.enrolment.opted_out slug ≡ full → KeepsEnrolment (if full then Refused OptedOutLimit else Accepted (after_opt_out s.enrolment slug) session Okay)
+  out-keeps slug is_slug true e = tt
+  out-keeps slug is_slug false e = opt_outs.consistent s.enrolment slug is_slug e c.enrolment
+
+  module _ (slug branch : List ℕ) (is_slug : IsSlug slug) (is_branch : IsSlug branch) where
+    module _ (r : Recipe) (found : recipe_with slug s.enrolment.live ≡ Some r) (on : takes_part s.enrolment (kind_of r) ≡ true) where
+      taking-keeps : has_branch r branch ≡ true → (taker : Option (List ℕ × List ℕ)) → first_taker s.enrolment r s.enrolment.rows ≡ taker → KeepsEnrolment (taking s.enrolment session slug branch taker)
+      taking-keeps has None free = enrolments.consistent s.enrolment slug branch r is_slug is_branch (record { recipe = found; participating = on; offered = has }) (free_where s.enrolment r free) c.enrolment
+      taking-keeps has (Some taker) taken = tt
+
+      branch-keeps : (has : Bool) → has_branch r branch ≡ has → KeepsEnrolment (if has then taking s.enrolment session slug branch (first_taker s.enrolment r s.enrolment.rows) else Refused NoSuchBranch)
+      branch-keeps true has = taking-keeps has (first_taker s.enrolment r s.enrolment.rows) refl
+      branch-keeps false has = tt
+
+    part-keeps : (r : Recipe) → recipe_with slug s.enrolment.live ≡ Some r → (on : Bool) → takes_part s.enrolment (kind_of r) ≡ on → KeepsEnrolment (if on then offering s.enrolment session slug branch r else Refused NotParticipating)
+    part-keeps r found true on = branch-keeps r found on (has_branch r branch) refl
+    part-keeps r found false on = tt
+
+    choosing-keeps : (found : Option Recipe) → recipe_with slug s.enrolment.live ≡ found → KeepsEnrolment (choosing s.enrolment session slug branch found)
+    choosing-keeps None e = tt
+    choosing-keeps (Some r) e = part-keeps r e (takes_part s.enrolment (kind_of r)) refl
+
+  count-keeps : (name : List ℕ) (count : ℕ) → IsEvent name count → at.now ≤ last_moment → (full : Bool) → has_no_room_for name s.events ≡ full
+      → Keeps (if full then Refused EventLimit else Accepted (record s { events = counted_in name count at.now s.events }) session Okay)
+  count-keeps name count is moment true e = tt
+  count-keeps name count is moment false e = record { enrolment = c.enrolment; events = counted_sound name count at.now s.events c.events is.name moment e; outbox = c.outbox }
+
+  confirm-keeps : (number : ℕ) (unknown : Bool) → nat_le s.outbox.next number ≡ unknown → Keeps (if unknown then Refused (NoSuchChange s.outbox.next) else Accepted (record s { outbox = confirmed number s.outbox }) session Okay)
+  confirm-keeps number true e = tt
+  confirm-keeps number false e = record { enrolment = c.enrolment; events = c.events; outbox = confirmed_is_sound s.outbox number c.outbox (leb-false s.outbox.next number e) }
+
+  preferring-keeps : (name : List ℕ) (value : Option Tree) → Keeps (preferring s session name value)
+  preferring-keeps name value =
+      preferring_either Keeps s session name value tt (λ free. record { enrolment = c.enrolment; events = c.events; outbox = c.outbox })
+      (λ holder held fits.
+      let ended = ended_is_consistent s.enrolment holder c.enrolment in
+      record { enrolment = ended; events = c.events; outbox = appended_is_sound s.enrolment (enrolment_ended holder s.enrolment) s.outbox c.enrolment ended c.outbox fits })
+
+  enrolment-keeps : (asked : EnrolmentOutcome) → KeepsEnrolment asked → HasConsistentParts (done s session (enrolling s session asked)).state
+  enrolment-keeps asked keeps = done-keeps (enrolling s session asked) (whole-keeps s.events c.events asked keeps)
+
+  parts : (command : Command) → at.now ≤ last_moment → IsCommand command → IsSession session → HasConsistentParts (step at s session command).state
+  unfolding step
+  parts (commands.Manifest file channel) moment is texts = done-keeps (setting_manifest s session (manifest_of at.files file channel)) (manifest-keeps (manifest_of at.files file channel))
+  parts (commands.Context file) moment is texts = done-keeps (reading_context s session (file_tree file (at.files file))) (file-keeps (file_tree file (at.files file)))
+  parts (Fetch file) moment is texts = enrolment-keeps (fetching s.enrolment session (file_tree file (at.files file))) (fetch-keeps (file_tree file (at.files file)))
+  parts Apply moment is texts =
+      let seen = seeing at.now s.events session.context in
+      enrolment-keeps (applying at.now s.enrolment session session.manifest seen) (apply-keeps moment session.manifest texts.manifest seen (seen-version session.context texts.context))
+  parts (Participate part on) moment is texts = enrolment-keeps (participation s.enrolment session part on) (participations.consistent s.enrolment part on c.enrolment)
+  parts (OptOut slug) moment is texts = enrolment-keeps (opting_out s.enrolment session slug) (out-keeps slug is (has_no_room s.enrolment.opted_out slug) refl)
+  parts (OptIn slug branch) moment is texts = enrolment-keeps (opting_in s.enrolment session slug branch) (choosing-keeps slug branch is.0 is.1 (recipe_with slug s.enrolment.live) refl)
+  parts (Reset id) moment is texts =
+      done-keeps (whole s session [] (resetting s.enrolment session id)) (whole-keeps [] (sound_none [] refl) (resetting s.enrolment session id) (reset-consistent s.enrolment id is c.enrolment))
+  parts Show moment is texts = done-keeps (showing s session) c
+  parts (Feature name) moment is texts = done-keeps (serving s session name session.manifest) (feature-keeps name session.manifest)
+  parts (Event name count) moment is texts = done-keeps (counting at.now s session name count) (count-keeps name count is moment (has_no_room_for name s.events) refl)
+  parts commands.Changes moment is texts = done-keeps (listing_changes s session) c
+  parts (Confirm number) moment is texts = done-keeps (confirming s session number) (confirm-keeps number (nat_le s.outbox.next number) refl)
+  parts (Bind file) moment is texts = done-keeps (reading_bindings s session (file_tree file (at.files file))) (bind-keeps (file_tree file (at.files file)))
+  parts (SetPreference name value) moment is texts = done-keeps (preferring s session name (Some value)) (preferring-keeps name (Some value))
+  parts (ClearPreference name) moment is texts = done-keeps (preferring s session name None) (preferring-keeps name None)
+  parts commands.Preferences moment is texts = done-keeps (listing_preferences s session) c
+  parts WriteManifest moment is texts = done-keeps (writing_manifest s session session.manifest) (written-keeps session.manifest)
+
+-- ---- the preferences
+
+-- what preferences keep where the user's value is set or taken away, they keep by a command
+module _ (P : List Preference → Type 0) (ps : List Preference) (was : P ps) (sets : (name : List ℕ) (value : Option Tree) → IsTrue (is_name name) → preference_lists.IsValueOrNone value → P (set_by_user name value ps)) where
+  set_if : (name : List ℕ) (value : Option Tree) (command : Command) (is_done : Bool) → P (set_by_user name value ps) → set_after command true ps ≡ set_by_user name value ps → set_after command false ps ≡ ps → P (set_after command is_done ps)
+  set_if name value command true is set leaves = subst P (sym set) is
+  set_if name value command false is set leaves = subst P (sym leaves) was
+
+  set_keeps : (command : Command) → IsCommand command → (is_done : Bool) → P (set_after command is_done ps)
+  set_keeps (commands.Manifest file channel) is is_done = was
+  set_keeps (commands.Context file) is is_done = was
+  set_keeps (Fetch file) is is_done = was
+  set_keeps Apply is is_done = was
+  set_keeps (Participate part on) is is_done = was
+  set_keeps (OptOut slug) is is_done = was
+  set_keeps (OptIn slug branch) is is_done = was
+  set_keeps (Reset id) is is_done = was
+  set_keeps Show is is_done = was
+  set_keeps (Feature name) is is_done = was
+  set_keeps (Event name count) is is_done = was
+  set_keeps commands.Changes is is_done = was
+  set_keeps (Confirm number) is is_done = was
+  set_keeps (Bind file) is is_done = was
+  set_keeps (SetPreference name value) is is_done = set_if name (Some value) (SetPreference name value) is_done (sets name (Some value) is.0 is.1) refl refl
+  set_keeps (ClearPreference name) is is_done = set_if name None (ClearPreference name) is_done (sets name None is tt) refl refl
+  set_keeps commands.Preferences is is_done = was
+  set_keeps WriteManifest is is_done = was
+
+module _ (at : Setting) (s : ClientState) (session : Session) (c : IsConsistent s) (records : HaveRecords s.enrolment) where
+  consistent : (command : Command) → at.now ≤ last_moment → IsCommand command → IsSession session → IsConsistent (step at s session command).state
+  consistent command moment is texts =
+      let to = step at s session command in
+      let e = to.state.enrolment in
+      let rest : HasConsistentParts to.state = parts at s session (record { enrolment = c.enrolment; events = c.events; outbox = c.outbox }) command moment is texts in
+      let values = join_values session.manifest session.bindings e in
+      let ps = preferences_with session s.enrolment e s.preferences in
+      let sets = join_sets session.manifest session.bindings e texts.bindings (step_keeps_records at s session records command) in
+      let sound : preference_lists.IsSound ps = done_sound values sets (changes_from s.enrolment e) (changes_slugs s.enrolment e c.enrolment rest.enrolment) s.preferences c.preferences in
+      let holders : HaveEnrolledHolders e ps = holders_after s.enrolment e values s.preferences c.holders in
+      let same = preferences_follow.preferences at s session command in
+      record {
+        enrolment = rest.enrolment;
+        events = rest.events;
+        outbox = rest.outbox;
+        preferences = subst preference_lists.IsSound (sym same) (set_keeps preference_lists.IsSound ps sound (λ name value named is_value. users_sound name value ps named is_value sound) command is (is_okay to.answer));
+        holders = subst (λ (qs : List Preference). HaveEnrolledHolders e qs) (sym same)
+            (set_keeps (λ (qs : List Preference). HaveEnrolledHolders e qs) ps holders (λ name value named is_value. holders_set e name value ps holders) command is (is_okay to.answer));
+      }
+
+-- ---- the size
+
+small_at : (s t : ClientState) (session next : Session) (answer : Answer) (large : Bool) → nat_lt max_size (length (spelling t)) ≡ large → length (spelling s) ≤ max_size
+    → let to : Step = if large then record { state = s; session = session; answer = StateTooLarge (length (spelling t)) } else record { state = t; session = next; answer = answer } in
+    length (spelling to.state) ≤ max_size
+small_at s t session next answer true e small = small
+small_at s t session next answer false e small = ltb-false max_size (length (spelling t)) e
+
+small : (s : ClientState) (session : Session) (asked : Outcome) → length (spelling s) ≤ max_size → length (spelling (done s session asked).state) ≤ max_size
+small s session (Accepted t next answer) most = small_at s t session next answer (nat_lt max_size (length (spelling t))) refl most
+small s session (Refused answer) most = most
+
+size : (at : Setting) (s : ClientState) (session : Session) (command : Command) → length (spelling s) ≤ max_size → length (spelling (step at s session command).state) ≤ max_size
+unfolding step
+size at s session command most = small s session (outcome at s session command) most
+
+-- ---- sound states and lawful sessions
+
+one : (at : Setting) (s : ClientState) (session : Session) (command : Command) → at.now ≤ last_moment → IsCommand command → IsLawful session → IsSound s → IsSound (step at s session command).state × IsLawful (step at s session command).session
+one at s session command moment is lawful sound = (
+  record {
+    consistent = consistent at s session sound.consistent sound.records command moment is (lawful_texts session lawful);
+    records = step_keeps_records at s session sound.records command;
+    size = size at s session command sound.size;
+  },
+  step_keeps_lawful at s session command lawful,
+)
+
+all : (s : ClientState) (session : Session) (lines : List Line) → All IsLine lines → IsLawful session → IsSound s → IsSound (all_after (s, session) lines).0 × IsLawful (all_after (s, session) lines).1
+all s session [] are lawful sound = (sound, lawful)
+all s session (line ∷ lines) are lawful sound =
+    let is = All-head IsLine line lines are in
+    let next = one line.0 s session line.1 is.0 is.1 lawful sound in
+    let to = step line.0 s session line.1 in
+    all to.state to.session lines (All-tail IsLine line lines are) next.1 next.0
+
+pub steps_stay_sound : StepsStaySound
+steps_stay_sound = record {
+  one = one;
+  all = all;
+  session = step_keeps_lawful;
+  begun = record { manifest = tt; context = tt; bindings = tt };
+  consistent = λ at s session command moment is texts records c. consistent at s session c records command moment is texts;
+  records = λ at s session command records. step_keeps_records at s session records command;
+  parts = λ at s session command moment is texts c. parts at s session c command moment is texts;
+  texts = step_keeps_texts;
+  size = size;
+}

@@ -1,0 +1,24 @@
+-- The branch is taken, or another recipe holds a feature.
+use Rattle.std.proofs.Common.{◌∙◌, ap, subst, Err}
+use Rattle.enrol_states.specs.Choices.{OptsIn}
+use Rattle.enrol_states.specs.declared.choices.OptInFault.{OptInFault}
+use Rattle.client_steps.specs.Asked.{asked_outcome}
+use Rattle.client_steps.specs.Steps.{enrolling}
+use Rattle.client_steps.proofs.Takers.{taken_in, refused_for}
+use Rattle.client_steps.proofs.opt_in.opting_in.Goals as goal
+
+pub returns-in-Ok-clause-asks : goal.returns-in-Ok-clause-asks
+returns-in-Ok-clause-asks c session =
+    let s = c.args.state.now in
+    let found = c.in-Ok.ensures.answer in
+    ap (asked_outcome s session) c.enrolled.ensures
+    ∙ ap (enrolling s session) (taken_in s.enrolment session c.args.slug.now c.args.branch.now found.0 found.1 c.in-Ok.next found.2 found.3)
+
+pub returns-in-Err-FeatureTaken-clause-asks : goal.returns-in-Err-FeatureTaken-clause-asks
+returns-in-Err-FeatureTaken-clause-asks c session =
+    let s = c.args.state.now in
+    let slug = c.args.slug.now in
+    let branch = c.args.branch.now in
+    let found = subst (λ (fault : OptInFault). OptsIn s.enrolment slug branch (Err fault)) c.in-Err-FeatureTaken.field-0-is c.in-Err-FeatureTaken.ensures.answer in
+    ap (enrolling s session) (refused_for s.enrolment session slug branch found.0 found.1 c.in-Err-FeatureTaken.holder c.in-Err-FeatureTaken.feature
+    c.requires.enrolment.row_order found.2)

@@ -1,0 +1,15 @@
+pub mod Asked
+pub mod Choosing
+pub mod Commands
+pub mod EventSteps
+pub mod Fetching
+pub mod Found
+pub mod Manifests
+pub mod OptOuts
+pub mod OutboxSteps
+pub mod PreferenceSteps
+pub mod ServedValues
+pub mod Sessions
+pub mod Settings
+pub mod Soundness
+pub mod Steps

@@ -1,0 +1,53 @@
+// `bind`: the bindings of preferences of the run are read.
+ghost use Rattle.std.specs.Prelude.{◌≡◌, ◌≤◌, List, ℕ, IfOk, IsErrOf};
+ghost use Rattle.json_tree.specs.Tree.{json_of};
+ghost use Rattle.host_model.specs.Causes.{Rose};
+ghost use Rattle.pref_bindings.specs.Bindings.{bindings_of};
+ghost use Rattle.client_state.specs.declared.client_state.ClientState.{ClientState};
+ghost use Rattle.client_steps.specs.declared.session.Session.{Session};
+ghost use Rattle.client_steps.specs.Asked.{asked_outcome, FollowsFrom};
+ghost use Rattle.client_steps.specs.Fetching.{file_tree};
+ghost use Rattle.client_steps.specs.Steps.{bindings_read, reading_bindings};
+
+use crate::asked::Asked;
+use crate::faults::StepFault;
+use crate::files::read_tree;
+use crate::session::SessionChange;
+use client_words::Answer;
+use host_model::Shelf;
+use json_tree::Tree;
+use pref_bindings::{BindingFault, read_bindings};
+use sequences::Text;
+use std::alloc::{AllocError, Global};
+
+/// What `bind` asks for.
+pub fn reading_bindings<F: Shelf>(
+    alloc: Global,
+    shelf: &mut F,
+    file: &Text,
+) -> Result<Asked, StepFault>
+    ensures asks { F.tells → IfOk result (λ asked. (s : ClientState) (session : Session)
+        → asked_outcome s session asked ≡ reading_bindings s session (file_tree file.now (F.file shelf.old file.now))) }
+    ensures follows { IfOk result (λ asked. (s : ClientState) → FollowsFrom s asked) }
+    ensures files { F.tells → (name : List ℕ) → F.file shelf.new name ≡ F.file shelf.old name }
+    ensures asked { F.asks shelf.old file.now shelf.new }
+    ensures cause { IsErrOf result StepFault.ShelfFault → Rose (F.faults shelf.old) (F.faults shelf.new) }
+    ensures faults { F.faults shelf.old ≤ F.faults shelf.new }
+{
+    match read_tree(alloc, shelf, file)? {
+        Ok(tree) => Ok(bindings_in(alloc, &tree)?),
+        Err(refusal) => Ok(Asked::Refused(refusal)),
+    }
+}
+
+/// What it asks for where its file holds this tree.
+fn bindings_in(alloc: Global, tree: &Tree) -> Result<Asked, AllocError>
+    ensures asks { IfOk result (λ asked. (s : ClientState) (session : Session) → asked_outcome s session asked ≡ bindings_read s session (bindings_of (json_of tree.now))) }
+    ensures follows { IfOk result (λ asked. (s : ClientState) → FollowsFrom s asked) }
+{
+    match read_bindings(alloc, tree) {
+        Ok(bindings) => Ok(Asked::in_session(SessionChange::Bindings(bindings))),
+        Err(BindingFault::BadBinding(feature)) => Ok(Asked::Refused(Answer::BadBinding(feature))),
+        Err(BindingFault::OutOfMemory) => Err(AllocError),
+    }
+}

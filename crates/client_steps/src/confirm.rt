@@ -1,0 +1,30 @@
+// `confirm`: the host application knows the changes up to a number.
+ghost use Rattle.std.specs.Prelude.{◌≡◌, IfOk};
+ghost use Rattle.client_steps.specs.declared.session.Session.{Session};
+ghost use Rattle.client_steps.specs.Asked.{asked_outcome, FollowsFrom};
+ghost use Rattle.client_steps.specs.Steps.{confirming};
+
+use crate::asked::Asked;
+use change_outbox::ConfirmFault;
+use client_state::{ClientState, StateChange};
+use client_words::Answer;
+use std::alloc::AllocError;
+
+/// What `confirm` asks for.
+pub fn confirming(state: &ClientState, number: u64) -> Result<Asked, AllocError>
+    ensures asks { IfOk result (λ asked. (session : Session) → asked_outcome state.now session asked
+        ≡ confirming state.now session number) }
+    ensures follows { IfOk result (λ asked. FollowsFrom state.now asked) }
+{
+    match state.outbox.confirmed(number) {
+        Ok(outbox) => {
+            outbox.next();
+            Ok(Asked::NewState {
+                change: StateChange::of_outbox(outbox),
+                answer: Answer::Okay,
+            })
+        }
+        Err(ConfirmFault::NoSuchChange(next)) => Ok(Asked::Refused(Answer::NoSuchChange(next))),
+        Err(ConfirmFault::OutOfMemory) => Err(AllocError),
+    }
+}

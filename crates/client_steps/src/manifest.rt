@@ -1,0 +1,102 @@
+// The manifest of a run is set.
+ghost use Rattle.std.specs.Prelude.{◌≡◌, ◌≤◌, List, ℕ, IfOk, IsErrOf};
+ghost use Rattle.host_model.specs.Causes.{Rose};
+ghost use Rattle.fml_types.specs.Sound.{IsSoundManifest};
+ghost use Rattle.fml_link.specs.Asked.{IsAskedFrom};
+ghost use Rattle.fml_merge.specs.Faults.{bad_default};
+ghost use Rattle.client_state.specs.declared.client_state.ClientState.{ClientState};
+ghost use Rattle.client_steps.specs.declared.session.Session.{Session};
+ghost use Rattle.client_steps.specs.Asked.{asked_outcome, FollowsFrom};
+ghost use Rattle.client_steps.specs.Manifests.{link_refusal, where_fits, manifest_of};
+ghost use Rattle.client_steps.specs.Steps.{setting_manifest};
+
+use crate::asked::Asked;
+use crate::faults::StepFault;
+use crate::linked_manifest::LinkedManifest;
+use crate::session::SessionChange;
+use client_words::Answer;
+use fml_link::{LinkFault, LinkRefusal, link};
+use fml_merge::{DefaultFault, check_defaults};
+use fml_types::Manifest;
+use host_model::Shelf;
+use sequences::Text;
+use std::alloc::{AllocError, Global};
+
+/// What `manifest` asks for.
+pub fn setting_manifest<F: Shelf>(
+    alloc: Global,
+    shelf: &mut F,
+    file: &Text,
+    channel: &Text,
+) -> Result<Asked, StepFault>
+    ensures asks { F.tells → IfOk result (λ asked. (s : ClientState) (session : Session)
+        → asked_outcome s session asked ≡ setting_manifest s session (manifest_of (F.file shelf.old) file.now channel.now)) }
+    ensures follows { IfOk result (λ asked. (s : ClientState) → FollowsFrom s asked) }
+    ensures files { F.tells → (name : List ℕ) → F.file shelf.new name ≡ F.file shelf.old name }
+    ensures asked { IsAskedFrom F.asks file.now shelf.old shelf.new }
+    ensures cause { IsErrOf result StepFault.ShelfFault → Rose (F.faults shelf.old) (F.faults shelf.new) }
+    ensures faults { F.faults shelf.old ≤ F.faults shelf.new }
+{
+    match read_manifest(alloc, shelf, file, channel)? {
+        Ok(manifest) => Ok(Asked::in_session(SessionChange::Manifest(manifest))),
+        Err(refusal) => Ok(Asked::Refused(refusal)),
+    }
+}
+
+/// The manifest of the files that start with the one of this name, or the refusal of the command.
+#[tactic(auto, unfolding(crate::specs::Manifests::manifest_of))]
+fn read_manifest<F: Shelf>(
+    alloc: Global,
+    shelf: &mut F,
+    name: &Text,
+    channel: &Text,
+) -> Result<Result<LinkedManifest, Answer>, StepFault>
+    ensures found { F.tells → IfOk result (λ found. found ≡ manifest_of (F.file shelf.old) name.now channel.now) }
+    ensures files { F.tells → (other : List ℕ) → F.file shelf.new other ≡ F.file shelf.old other }
+    ensures asked { IsAskedFrom F.asks name.now shelf.old shelf.new }
+    ensures cause { IsErrOf result StepFault.ShelfFault → Rose (F.faults shelf.old) (F.faults shelf.new) }
+    ensures faults { F.faults shelf.old ≤ F.faults shelf.new }
+{
+    match link(alloc, shelf, name.as_str(), channel.as_str()) {
+        Ok(manifest) => Ok(checked(alloc, manifest)?),
+        Err(LinkFault::Refused(refusal)) => Ok(Err(refusal_of(refusal))),
+        Err(LinkFault::ShelfFault) => Err(StepFault::ShelfFault),
+        Err(LinkFault::OutOfMemory) => Err(StepFault::OutOfMemory),
+    }
+}
+
+/// What is answered where the files don't link.
+fn refusal_of(refusal: LinkRefusal) -> Answer
+    ensures { result ≡ link_refusal refusal }
+{
+    match refusal {
+        LinkRefusal::AbsentFile(name) => Answer::AbsentFile(name),
+        LinkRefusal::FileTooLarge(name, length) => Answer::FileTooLarge(name, length),
+        LinkRefusal::NotJson(name) => Answer::NotJson(name),
+        LinkRefusal::BadShape(name, path) => Answer::BadShape(name, path),
+        LinkRefusal::TooManyFiles => Answer::TooManyFiles,
+        LinkRefusal::ImportClash(name) => Answer::ImportClash(name),
+        LinkRefusal::DuplicateName(name) => Answer::DuplicateName(name),
+        LinkRefusal::UnknownType(name) => Answer::UnknownType(name),
+        LinkRefusal::EndlessObject(name) => Answer::EndlessObject(name),
+        LinkRefusal::ObjectTooLarge(name) => Answer::ObjectTooLarge(name),
+        LinkRefusal::UnknownChannel => Answer::UnknownChannel,
+        LinkRefusal::UnknownImport(name) => Answer::UnknownImport(name),
+        LinkRefusal::UnknownOverride(name) => Answer::UnknownOverride(name),
+    }
+}
+
+/// A manifest that is linked, or the refusal of its first default that doesn't fit.
+fn checked(alloc: Global, manifest: Manifest) -> Result<Result<LinkedManifest, Answer>, AllocError>
+    requires { IsSoundManifest manifest }
+    ensures { IfOk result (λ found. found ≡ where_fits manifest (bad_default manifest)) }
+{
+    manifest.features.as_slice();
+    match check_defaults(alloc, &manifest) {
+        Ok(()) => Ok(Ok(LinkedManifest::new(manifest))),
+        Err(DefaultFault::BadDefault { owner, place }) => {
+            Ok(Err(Answer::BadDefault(owner, place)))
+        }
+        Err(DefaultFault::OutOfMemory) => Err(AllocError),
+    }
+}

@@ -1,0 +1,38 @@
+// `opt-in`: the client is enrolled in a branch that its user chose.
+ghost use Rattle.std.specs.Prelude.{◌≡◌, IfOk};
+ghost use Rattle.client_state.specs.Sound.{IsConsistent};
+ghost use Rattle.client_steps.specs.declared.session.Session.{Session};
+ghost use Rattle.client_steps.specs.Asked.{asked_outcome, FollowsFrom};
+ghost use Rattle.client_steps.specs.Steps.{opting_in, enrolling};
+
+use crate::asked::Asked;
+use client_state::ClientState;
+use client_words::Answer;
+use enrol_states::{OptInFault, opt_in};
+use plain_text::Slug;
+use state_codec::RecipeLists;
+use std::alloc::{AllocError, Global};
+
+/// What `opt-in` asks for.
+pub fn opting_in(
+    alloc: Global,
+    state: &ClientState,
+    slug: &Slug,
+    branch: &Slug,
+) -> Result<Asked, AllocError>
+    requires { IsConsistent state.now }
+    ensures asks { IfOk result (λ asked. (session : Session) → asked_outcome state.now session asked
+        ≡ enrolling state.now session (opting_in state.now.enrolment session slug.now branch.now)) }
+    ensures follows { IfOk result (λ asked. FollowsFrom state.now asked) }
+{
+    match opt_in(alloc, &state.enrolment, slug, branch) {
+        Ok(next) => Ok(Asked::enrolled(next, RecipeLists::AsBefore, Answer::Okay)),
+        Err(OptInFault::NoSuchExperiment) => Ok(Asked::Refused(Answer::NoSuchExperiment)),
+        Err(OptInFault::NotParticipating) => Ok(Asked::Refused(Answer::NotParticipating)),
+        Err(OptInFault::NoSuchBranch) => Ok(Asked::Refused(Answer::NoSuchBranch)),
+        Err(OptInFault::FeatureTaken(holder, feature)) => {
+            Ok(Asked::Refused(Answer::FeatureTaken(holder, feature)))
+        }
+        Err(OptInFault::OutOfMemory) => Err(AllocError),
+    }
+}

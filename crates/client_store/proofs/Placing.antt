@@ -1,0 +1,114 @@
+-- What a change of state writes, and where the next record begins then.
+use Rattle.std.proofs.Common.{◌≡◌, ◌≢◌, ℕ, ◌+◌, ◌<◌, ◌≤◌, Bool, true, false, List, length, refl, sym, ap, ◌∙◌, subst}
+use Rattle.std.specs.Prelude.{if◌then◌else◌}
+use Rattle.std.specs.Cmp.Lexicographic.{bytes_decides}
+use Rattle.std.proofs.lemmas.Bool.{le-ltb, lt-ltb}
+use Rattle.pair_store.specs.declared.mark.TheConstants.{MARK}
+use Rattle.row_batches.specs.Batch.{ChangeList, batch_text, applied, whole_of}
+use Rattle.row_batches.specs.declared.store_row.StoreRow.{StoreRow}
+use Rattle.row_batches.proofs.Walks.{applied_between}
+use Rattle.row_store.specs.Ready.{ReadyRows, IsWritten, commit_cost}
+use Rattle.row_store.specs.Ready as rows
+use Rattle.row_store.specs.Store.{place}
+use Rattle.client_state.specs.declared.client_state.ClientState.{ClientState}
+use Rattle.client_state.specs.Sound.{IsSound}
+use Rattle.client_state.specs.Spelling.{rows_of, spelling, state_eq}
+use Rattle.client_state.proofs.KeyOrder.{rows_rise}
+use Rattle.client_state.proofs.OneState.{one_spelling}
+use Rattle.client_store.specs.declared.change.Change.{Change}
+use Rattle.client_store.specs.Places.{row_changes, change_size, passes_mark, makes_checkpoint, bytes_for, place_after}
+use Rattle.client_store.specs.Changes.{IsChangeOf}
+use Rattle.client_store.specs.Stored.{StoredState, IsStored}
+
+test_false : (b : Bool) → (b ≡ true → ⊥) → b ≡ false
+test_false true never = absurd (never refl)
+test_false false never = refl
+
+-- a state has its own spelling
+pub eq_itself : (s : ClientState) → state_eq s s ≡ true
+eq_itself s = (bytes_decides (spelling s) (spelling s)).1 refl
+
+-- sound states that aren't the same have other spellings
+pub eq_apart : (s t : ClientState) → IsSound s → IsSound t → s ≢ t → state_eq s t ≡ false
+eq_apart s t s_sound t_sound other = test_false (state_eq s t) (λ is. other (one_spelling s t s_sound t_sound ((bytes_decides (spelling s) (spelling t)).0 is)))
+
+-- ---- no change
+
+pub place_same : (place : ℕ) (s : ClientState) → place ≡ place_after place s s
+unfolding place_after
+place_same place s = subst (λ (b : Bool). place ≡ (if b then place else (if passes_mark place s s then length (spelling s) + 14 else place + change_size s s + 5))) (sym (eq_itself s)) refl
+
+pub bytes_same : (place : ℕ) (s : ClientState) → 0 ≡ bytes_for place s s
+unfolding bytes_for
+bytes_same place s = subst (λ (b : Bool). 0 ≡ (if b then 0 else (if passes_mark place s s then length (spelling s) + 16 else change_size s s + 6))) (sym (eq_itself s)) refl
+
+pub no_checkpoint : (place : ℕ) (s : ClientState) → false ≡ makes_checkpoint place s s
+no_checkpoint place s = subst (λ (b : Bool). false ≡ (if b then false else passes_mark place s s)) (sym (eq_itself s)) refl
+
+-- ---- a change
+
+whole_size : (t : ClientState) → length (batch_text (whole_of (rows_of t))) ≡ length (spelling t)
+unfolding spelling
+whole_size t = refl
+
+-- the changed rows make the new state's rows of those of the old one
+pub changes_give : (s t : ClientState) (batch : ChangeList) → IsSound s → IsSound t → batch ≡ row_changes s t → applied batch (rows_of s) ≡ rows_of t
+changes_give s t batch s_sound t_sound same = applied_between (rows_of s) (rows_of t) batch (rows_rise s s_sound.consistent) (rows_rise t t_sound.consistent) same
+
+module _ (stored : StoredState) (t : ClientState) (batch : ChangeList) (payload : List ℕ) (s_sound : IsSound stored.state) (t_sound : IsSound t) (other : stored.state ≢ t) (same : batch ≡ row_changes stored.state t) (gives : applied batch stored.rows.rows ≡ rows_of t) where
+  abbrev s : ClientState
+  s = stored.state
+
+  abbrev at : ℕ
+  at = place stored.rows
+
+  apart : state_eq s t ≡ false
+  apart = eq_apart s t s_sound t_sound other
+
+  passes : IsWritten true stored.rows batch payload → passes_mark at s t ≡ true
+  passes written = lt-ltb MARK (at + change_size s t + 6) (subst (λ (b : ChangeList). MARK < at + length (batch_text b) + 6) same written.1)
+
+  within : IsWritten false stored.rows batch payload → passes_mark at s t ≡ false
+  within written = le-ltb MARK (at + change_size s t + 6) (subst (λ (b : ChangeList). at + length (batch_text b) + 6 ≤ MARK) same written.1)
+
+  whole_length : IsWritten true stored.rows batch payload → length payload ≡ length (spelling t)
+  whole_length written = ap length (written.0 ∙ ap (λ (rs : List StoreRow). batch_text (whole_of rs)) gives) ∙ whole_size t
+
+  part_length : IsWritten false stored.rows batch payload → length payload ≡ change_size s t
+  part_length written = ap length (written.0 ∙ ap batch_text same)
+
+  pub checkpoint_is : (is_whole : Bool) → IsWritten is_whole stored.rows batch payload → is_whole ≡ makes_checkpoint at s t
+  checkpoint_is true written = subst (λ (b : Bool). true ≡ (if b then false else passes_mark at s t)) (sym apart) (sym (passes written))
+  checkpoint_is false written = subst (λ (b : Bool). false ≡ (if b then false else passes_mark at s t)) (sym apart) (sym (within written))
+
+  pub bytes_are : (is_whole : Bool) → IsWritten is_whole stored.rows batch payload → length payload + (if is_whole then 16 else 6) ≡ bytes_for at s t
+  unfolding bytes_for
+  bytes_are true written =
+      subst (λ (b : Bool). length payload + 16 ≡ (if b then 0 else (if passes_mark at s t then length (spelling t) + 16 else change_size s t + 6))) (sym apart)
+      (subst (λ (b : Bool). length payload + 16 ≡ (if b then length (spelling t) + 16 else change_size s t + 6)) (sym (passes written)) (ap (λ (n : ℕ). n + 16) (whole_length written)))
+  bytes_are false written =
+      subst (λ (b : Bool). length payload + 6 ≡ (if b then 0 else (if passes_mark at s t then length (spelling t) + 16 else change_size s t + 6))) (sym apart)
+      (subst (λ (b : Bool). length payload + 6 ≡ (if b then length (spelling t) + 16 else change_size s t + 6)) (sym (within written)) (ap (λ (n : ℕ). n + 6) (part_length written)))
+
+  pub place_is : (is_whole : Bool) → IsWritten is_whole stored.rows batch payload → (if is_whole then length payload + 14 else at + length payload + 5) ≡ place_after at s t
+  unfolding place_after
+  place_is true written =
+      subst (λ (b : Bool). length payload + 14 ≡ (if b then at else (if passes_mark at s t then length (spelling t) + 14 else at + change_size s t + 5))) (sym apart)
+      (subst (λ (b : Bool). length payload + 14 ≡ (if b then length (spelling t) + 14 else at + change_size s t + 5)) (sym (passes written)) (ap (λ (n : ℕ). n + 14) (whole_length written)))
+  place_is false written =
+      subst (λ (b : Bool). at + length payload + 5 ≡ (if b then at else (if passes_mark at s t then length (spelling t) + 14 else at + change_size s t + 5))) (sym apart)
+      (subst (λ (b : Bool). at + length payload + 5 ≡ (if b then length (spelling t) + 14 else at + change_size s t + 5)) (sym (within written)) (ap (λ (n : ℕ). at + n + 5) (part_length written)))
+
+module _ (stored : StoredState) (change : Change) (is_stored : IsStored stored) (is : IsChangeOf stored change) where
+  -- the rows with the batch are those of the new state
+  pub change_gives : applied change.ready.batch stored.rows.rows ≡ rows_of change.state
+  change_gives = ap (applied change.ready.batch) is_stored.same ∙ changes_give stored.state change.state change.ready.batch is_stored.sound is.sound is.batch
+
+  pub change_checkpoint : change.ready.is_whole ≡ makes_checkpoint (place stored.rows) stored.state change.state
+  change_checkpoint = checkpoint_is stored change.state change.ready.batch change.ready.payload is_stored.sound is.sound is.other is.batch change_gives change.ready.is_whole is.ready.written
+
+  pub change_bytes : commit_cost change.ready ≡ bytes_for (place stored.rows) stored.state change.state
+  change_bytes = bytes_are stored change.state change.ready.batch change.ready.payload is_stored.sound is.sound is.other is.batch change_gives change.ready.is_whole is.ready.written
+
+  pub change_place : rows.place_after change.ready (place stored.rows) ≡ place_after (place stored.rows) stored.state change.state
+  change_place = place_is stored change.state change.ready.batch change.ready.payload is_stored.sound is.sound is.other is.batch change_gives change.ready.is_whole is.ready.written

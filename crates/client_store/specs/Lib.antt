@@ -1,0 +1,13 @@
+pub mod Changes
+pub mod Faults
+pub mod Finds
+pub mod Migrations
+pub mod Moments
+pub mod NewStates
+pub mod OpenStore
+pub mod Openings
+pub mod Places
+pub mod Sized
+pub mod Store
+pub mod Stored
+pub mod WholeStates

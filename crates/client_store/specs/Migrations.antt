@@ -1,0 +1,36 @@
+-- What the opening of a store writes, and where the next record begins then. Where its rows are the old form of a state, a migration puts the row of participation anew.
+use Rattle.std.specs.Prelude.{◌≡◌, ℕ, Bool, nat_lt, ◌+◌, List, length, if◌then◌else◌}
+use Rattle.pair_store.specs.declared.mark.TheConstants.{MARK}
+use Rattle.pair_store.specs.Repair.{repair_cost}
+use Rattle.row_store.specs.Rows.{HasPlace}
+use Rattle.client_state.specs.declared.client_state.ClientState.{ClientState}
+use Rattle.client_state.specs.Forms.{needs_migration}
+use Rattle.client_state.specs.Spelling.{spelling}
+use Rattle.client_store.specs.Store.{StandsFor}
+
+-- the record of a migration, of 9 bytes, would end at this place, with the gate behind it, past the mark: byte 33,554,432. Then the whole state is written, on the other side
+abbrev pub passes_mark : ℕ → Bool
+passes_mark place = nat_lt MARK (place + 15)
+
+-- how many bytes the migration to this state writes, where the next record begins at this place
+unfoldable pub migration_bytes : ℕ → ClientState → ℕ
+migration_bytes place s = if passes_mark place then length (spelling s) + 16 else 15
+
+-- where the next record begins then
+unfoldable pub place_migrated : ℕ → ClientState → ℕ
+place_migrated place s = if passes_mark place then length (spelling s) + 14 else place + 14
+
+-- the same of an opening, where a migration is needed or not
+abbrev pub opening_bytes : Bool → ℕ → ClientState → ℕ
+opening_bytes migrates place s = if migrates then migration_bytes place s else 0
+
+abbrev pub place_opened : Bool → ℕ → ClientState → ℕ
+place_opened migrates place s = if migrates then place_migrated place s else place
+
+-- a pair of sides stands for s. Once it is open its next record begins at this place, and the opening has written so many bytes: that of a repair, and those of a migration
+pub record OpensWith (l r : List ℕ) (s : ClientState) (place written : ℕ) : Type 0 where
+  pub stands : StandsFor l r s
+  pub before : ℕ
+  pub began : HasPlace l r before
+  pub place_is : place ≡ place_opened (needs_migration stands.stored) before s
+  pub written_is : written ≡ repair_cost l r + opening_bytes (needs_migration stands.stored) before s

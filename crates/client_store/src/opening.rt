@@ -1,0 +1,51 @@
+// The store is opened.
+ghost use Rattle.std.specs.Prelude.{◌≡◌, ◌≤◌, List, IfOk, IsErrOf};
+ghost use Rattle.host_model.specs.declared.side.Side.TheVariants.{Left, Right};
+ghost use Rattle.host_model.specs.Causes.{Rose};
+ghost use Rattle.host_model.specs.Hosts.{MeetsAll};
+ghost use Rattle.pair_store.specs.Moments.{StaysBelow};
+ghost use Rattle.client_state.specs.declared.client_state.ClientState.{ClientState};
+ghost use Rattle.client_state.specs.Sound.{IsSound};
+ghost use Rattle.client_store.specs.Moments.{IsLeftAmong};
+ghost use Rattle.client_store.specs.OpenStore.{AllKeptAmong};
+
+use crate::faults::ClientFault;
+use crate::found_store::FoundStore;
+use crate::state_store::StateStore;
+use host_model::Host;
+use std::alloc::Global;
+
+impl StateStore {
+    ghost use Rattle.client_store.specs.Openings.{OpensInPhases, OpenEnds, OpenJudges};
+
+    /// Opens the store: both sides are synced and read. Nothing is said.
+    ///
+    /// Where a checkpoint was cut short, one byte is written then. Where the rows are the old form of a state, the row of
+    /// participation is written anew, last, as by a commit. So the store is in one form from then on.
+    pub fn open<H: Host>(alloc: Global, host: &mut H) -> Result<StateStore, ClientFault>
+        // What stands at the end, by the answer, and which answer each pair has.
+        ensures ends { H.tells → OpenEnds H.Host host.old host.new result }
+        ensures judges { H.tells → OpenJudges (H.reads host.old Left) (H.reads host.old Right) result }
+        ensures sound { IfOk result (λ store. IsSound store.state) }
+
+        // What each image is at each moment: until both sides are synced, and from then on. So each is kept for one of the
+        // states for which each was kept.
+        ensures phases { H.tells → OpensInPhases H.Host host.old host.new result }
+        ensures left { H.tells → (states : List ClientState) → AllKeptAmong H.Host host.old states
+            → MeetsAll H.Host host.old host.new (IsLeftAmong (H.said host.old) states) }
+        ensures below { H.tells → MeetsAll H.Host host.old host.new (StaysBelow H.Host host.old) }
+        ensures text { H.tells → H.said host.new ≡ H.said host.old }
+
+        ensures cause { IsErrOf result ClientFault.DiskFault → Rose (H.disk_faults host.old) (H.disk_faults host.new) }
+        ensures disk_faults { H.disk_faults host.old ≤ H.disk_faults host.new }
+        ensures say_faults { H.say_faults host.new ≡ H.say_faults host.old }
+    {
+        match FoundStore::open(alloc, host) {
+            Ok(found) => match found.migrated(alloc, host) {
+                Ok(store) => Ok(store),
+                Err(fault) => Err(fault),
+            },
+            Err(fault) => Err(fault),
+        }
+    }
+}

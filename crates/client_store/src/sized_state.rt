@@ -1,0 +1,119 @@
+// A state that may be stored, with the size of its spelling.
+ghost use Rattle.std.specs.Prelude.{◌≡◌, ◌≤◌, ◌+◌, false, IfOk, IsErrOf, IsTrue, length, option_map};
+ghost use Rattle.row_batches.specs.Batch.{applied, batch_text, whole_of};
+ghost use Rattle.client_state.specs.Changes.{state_after, HasHoldersOfBefore, IsChangeOf, IsWholeChangeOf};
+ghost use Rattle.client_state.specs.Following.{followed, spends};
+ghost use Rattle.client_state.specs.Sound.{IsSound};
+ghost use Rattle.client_state.specs.Spelling.{rows_of, spelling};
+ghost use Rattle.client_store.specs.Places.{row_changes};
+
+use change_outbox::AppendChangesFault;
+use client_state::{
+    ClientSizes, ClientState, StateChange, changes_to, follow, sizes_after, sizes_of,
+};
+use fml_types::Manifest;
+use pref_bindings::Bindings;
+use row_batches::Batch;
+use std::alloc::{AllocError, Global};
+use std::marker::Model;
+
+/// The most bytes of a state's spelling.
+const MAX_STATE_BYTES: u128 = 16_777_216;
+
+/// A state that may be stored, and how many bytes its spelling has. Contracts see it as the state.
+///
+/// The next state's sizes are made of these: only the parts that change are counted, and of recipes those that are gone, new
+/// or differ.
+#[derive(Drop)]
+pub struct SizedState {
+    state: ClientState,
+    sizes: ClientSizes,
+}
+
+impl Model for SizedState {
+    ghost use Rattle.std.specs.Coded.{codes};
+    ghost use Rattle.json_tree.specs.Json.{json_code};
+    ghost use Rattle.client_state.specs.declared.client_state.ClientState.{ClientState};
+    ghost use Rattle.client_state.specs.Sizes.{IsSizeOf};
+    ghost use Rattle.client_state.specs.Sound.{IsSound};
+
+    ghost Value = { ClientState };
+
+    ghost coded = { Prim.hlevel (codes, json_code) };
+
+    ghost view = { λ sized. sized.state };
+
+    ghost invariant = { λ sized. IsSound sized.state × IsSizeOf sized.state sized.sizes };
+}
+
+impl SizedState {
+    ghost use Rattle.client_store.specs.Sized.{IsSized};
+
+    /// A sound state, whose spelling is counted.
+    pub(crate) fn new(state: ClientState) -> SizedState
+        requires { IsSound state }
+        ensures { result ≡ state }
+    {
+        let sizes = sizes_of(&state);
+        SizedState { state, sizes }
+    }
+
+    /// The state. It takes no memory.
+    pub(crate) fn state(&self) -> &ClientState
+        ensures state { result.now ≡ self.now }
+        ensures sound { IsSound self.now }
+    {
+        &self.state
+    }
+
+    /// The change with what follows it. The state is lent to that, and stays the same.
+    pub(crate) fn follow(
+        &mut self,
+        alloc: Global,
+        change: StateChange,
+        manifest: Option<&Manifest>,
+        bindings: Option<&Bindings>,
+    ) -> Result<StateChange, AppendChangesFault>
+        requires change { IsChangeOf self.old change }
+        requires holders { HasHoldersOfBefore self.old change }
+        ensures same { self.new ≡ self.old }
+        ensures followed { IfOk result (λ next. state_after next self.old ≡ followed (option_map (λ m. m.now) manifest.entry) (option_map (λ b. b.now) bindings.entry) change self.old) }
+        ensures change { IfOk result (IsWholeChangeOf self.old) }
+        ensures not_spent { IfOk result (λ _. spends change self.old ≡ false) }
+        ensures spent { IsErrOf result AppendChangesFault.ChangesSpent → IsTrue (spends change self.old) }
+    {
+        follow(alloc, &mut self.state, change, manifest, bindings)
+    }
+
+    /// The state after a change, or else how many bytes its spelling has, which are too many.
+    pub(crate) fn next(&self, change: &StateChange) -> Result<Result<SizedState, u128>, AllocError>
+        requires { IsWholeChangeOf self.now change.now }
+        ensures { IfOk result (λ next. IsSized (state_after change.now self.now) next) }
+    {
+        let sizes = sizes_after(self.sizes, &self.state, change);
+        if sizes.total > MAX_STATE_BYTES {
+            return Ok(Err(sizes.total));
+        }
+        let state = self.state.with(change)?;
+        Ok(Ok(SizedState { state, sizes }))
+    }
+
+    /// The rows that change from this state to the next.
+    pub(crate) fn changes_to(
+        &self,
+        alloc: Global,
+        next: &SizedState,
+        change: &StateChange,
+    ) -> Result<Batch, AllocError>
+        requires change { IsWholeChangeOf self.now change.now }
+        requires next { next.now ≡ state_after change.now self.now }
+        ensures sound { IsSound self.now × IsSound next.now }
+        ensures changes { IfOk result (λ batch. batch ≡ row_changes self.now next.now) }
+        ensures gives { IfOk result (λ batch. applied batch (rows_of self.now) ≡ rows_of next.now) }
+        ensures whole { IfOk result (λ batch. batch_text (whole_of (applied batch (rows_of self.now))) ≡ spelling next.now) }
+        ensures size { IfOk result (λ batch. length (batch_text batch) ≤ length (spelling self.now) + length (spelling next.now)) }
+    {
+        next.state();
+        changes_to(alloc, &self.state, change)
+    }
+}

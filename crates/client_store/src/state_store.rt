@@ -1,0 +1,145 @@
+// A state and the store that holds it.
+ghost use Rattle.std.specs.Prelude.{◌≡◌, false, IfOk, IsErrOf, IsTrue, OnOk, OnErr, option_map};
+ghost use Rattle.gate_journal.specs.Costs.{HasCost};
+ghost use Rattle.host_model.specs.Causes.{HasCause};
+ghost use Rattle.host_model.specs.Hosts.{MeetsAll};
+ghost use Rattle.pair_store.specs.Moments.{StaysBelow};
+ghost use Rattle.row_store.specs.Moments.{KeepsEitherRows};
+ghost use Rattle.row_store.specs.Ready.{commit_cost, place_after};
+ghost use Rattle.row_store.specs.Store.{RowsStand, RowsStandWithGate, place};
+ghost use Rattle.client_state.specs.Changes as changes;
+ghost use Rattle.client_state.specs.Changes.{state_after, HasHoldersOfBefore, IsWholeChangeOf};
+ghost use Rattle.client_state.specs.Following.{followed, spends};
+ghost use Rattle.client_state.specs.Spelling.{rows_of};
+ghost use Rattle.client_store.specs.Sized.{IsSized};
+
+use crate::change::Change;
+use crate::sized_state::SizedState;
+use change_outbox::AppendChangesFault;
+use client_state::{ClientState, StateChange};
+use fml_types::Manifest;
+use host_model::{DiskFailed, Host};
+use pref_bindings::Bindings;
+use row_store::RowStore;
+use std::alloc::{AllocError, Global};
+use std::marker::Model;
+
+/// A sound state, and the store whose rows are the state's.
+#[derive(Drop)]
+pub struct StateStore {
+    rows: RowStore,
+    state: SizedState,
+}
+
+impl Model for StateStore {
+    ghost use Rattle.std.specs.Coded.{codes};
+    ghost use Rattle.json_tree.specs.Json.{json_code};
+    ghost use Rattle.client_store.specs.Stored.{StoredState, IsStored};
+
+    ghost Value = { StoredState };
+
+    ghost coded = { Prim.hlevel (codes, json_code) };
+
+    ghost view = { λ s. record { rows = s.rows; state = s.state } };
+
+    ghost invariant = { λ s. IsStored (record { rows = s.rows; state = s.state }) };
+}
+
+impl StateStore {
+    ghost use Rattle.client_store.specs.Changes.{changed, IsChange, IsChangeOf};
+    ghost use Rattle.client_store.specs.Stored.{IsStored, IsSameStored};
+
+    /// A sound state with the store of its rows.
+    pub(crate) fn new(rows: RowStore, state: SizedState) -> StateStore
+        requires { rows.rows ≡ rows_of state }
+        ensures rows { result.rows ≡ rows }
+        ensures state { result.state ≡ state }
+        ensures stored { IsStored result }
+    {
+        state.state();
+        StateStore { rows, state }
+    }
+
+    /// The state. It takes no memory.
+    pub fn state(&self) -> &ClientState
+        ensures state { result.now ≡ self.now.state }
+        ensures stored { IsStored self.now }
+    {
+        self.state.state()
+    }
+
+    /// The change with what follows it. The state is lent to that, and stays the same.
+    pub fn follow(
+        &mut self,
+        alloc: Global,
+        change: StateChange,
+        manifest: Option<&Manifest>,
+        bindings: Option<&Bindings>,
+    ) -> Result<StateChange, AppendChangesFault>
+        requires change { changes.IsChangeOf self.old.state change }
+        requires holders { HasHoldersOfBefore self.old.state change }
+        ensures same { self.new ≡ self.old }
+        ensures followed { IfOk result (λ next. state_after next self.old.state ≡ followed (option_map (λ m. m.now) manifest.entry) (option_map (λ b. b.now) bindings.entry) change self.old.state) }
+        ensures change { IfOk result (IsWholeChangeOf self.old.state) }
+        ensures not_spent { IfOk result (λ _. spends change self.old.state ≡ false) }
+        ensures spent { IsErrOf result AppendChangesFault.ChangesSpent → IsTrue (spends change self.old.state) }
+    {
+        self.state.follow(alloc, change, manifest, bindings)
+    }
+
+    /// The state after a change, or else how many bytes its spelling has, which are too many.
+    pub fn sized(&self, change: &StateChange) -> Result<Result<SizedState, u128>, AllocError>
+        requires { IsWholeChangeOf self.now.state change.now }
+        ensures { IfOk result (λ next. IsSized (state_after change.now self.now.state) next) }
+    {
+        self.state.next(change)
+    }
+
+    /// Makes the change to a state ready to be committed, where it is another one, and reserves the room for it. Neither the
+    /// state nor its rows are changed.
+    pub fn change_to(
+        &mut self,
+        alloc: Global,
+        next: SizedState,
+        change: &StateChange,
+    ) -> Result<Option<Change>, AllocError>
+        requires change { IsWholeChangeOf self.old.state change.now }
+        requires next { next ≡ state_after change.now self.old.state }
+        ensures same { IsSameStored self.old self.new }
+        ensures change { IfOk result (λ change. IsChange self.new change) }
+        ensures next { IfOk result (λ change. changed self.old.state change ≡ next) }
+    {
+        let batch = self.state.changes_to(alloc, &next, change)?;
+        if batch.changes().is_empty() {
+            return Ok(None);
+        }
+        let ready = self.rows.prepare(alloc, batch)?;
+        Ok(Some(Change { state: next, ready }))
+    }
+
+    /// Writes a change, and takes its state.
+    pub fn commit<H: Host>(&mut self, host: &mut H, change: Change) -> Result<(), DiskFailed>
+        requires change { IsChangeOf self.old change }
+        requires stands { H.tells → RowsStand H.Host self.old.rows host.old }
+
+        ensures acknowledged { H.tells → OnOk result (RowsStandWithGate H.Host self.new.rows host.new) }
+        ensures state { OnOk result (self.new.state ≡ change.state) }
+        ensures same { OnErr result (self.new ≡ self.old) }
+        ensures was { IsStored self.old }
+        ensures stored { IsStored self.new }
+
+        ensures any_moment { H.tells → RowsStandWithGate H.Host self.old.rows host.old
+            → MeetsAll H.Host host.old host.new (KeepsEitherRows H.Host host.old (rows_of self.old.state) (rows_of change.state)) }
+        ensures below { H.tells → MeetsAll H.Host host.old host.new (StaysBelow H.Host host.old) }
+
+        ensures place { OnOk result (place self.new.rows ≡ place_after change.ready (place self.old.rows)) }
+        ensures cost { H.tells → HasCost (commit_cost change.ready) (H.written host.old) (H.written host.new) result }
+        ensures cause { HasCause (H.disk_faults host.old) (H.disk_faults host.new) result }
+        ensures say_faults { H.say_faults host.new ≡ H.say_faults host.old }
+    {
+        let Change { state, ready } = change;
+        self.rows.commit(host, ready)?;
+        self.state = state;
+        Ok(())
+    }
+}
