@@ -1,5 +1,5 @@
 // A step is prepared: its new state, the changed rows and its answer are built before the first write.
-ghost use Rattle.std.specs.Prelude.{◌≡◌, ◌≤◌, List, ℕ, None, IfOk, IsErrOf, IsTrue, false, length};
+ghost use Rattle.std.specs.Prelude.{◌≡◌, ◌≤◌, List, ℕ, Option, None, IfOk, IsErrOf, IsTrue, false, length};
 ghost use Rattle.host_model.specs.Causes.{Rose};
 ghost use Rattle.enrol_states.specs.State.{last_moment};
 ghost use Rattle.jexl_transforms.specs.Table.{HasStandardNames};
@@ -100,28 +100,48 @@ impl Client {
             Command::Manifest { file, channel } => setting_manifest(alloc, shelf, file, channel),
             Command::Context { file } => reading_context(alloc, shelf, file),
             Command::Fetch { file } => fetching(alloc, self.state(), shelf, file),
-            Command::Apply => Ok(applying(alloc, self.state(), &self.session, table, now)?),
-            Command::Participate { part, on } => Ok(participating(
-                alloc,
-                self.state(),
-                *part,
-                *on,
-            )?),
-            Command::OptOut { slug } => Ok(opting_out(alloc, self.state(), slug)?),
-            Command::OptIn { slug, branch } => Ok(opting_in(alloc, self.state(), slug, branch)?),
-            Command::Reset { id } => Ok(resetting(alloc, self.state(), *id)?),
-            Command::Show => Ok(showing(self.state())?),
-            Command::Feature { name } => Ok(serving(alloc, self.state(), &self.session, name)?),
-            Command::WriteManifest => Ok(writing_manifest(alloc, &self.session)?),
-            Command::Event { name, count } => Ok(counting(alloc, self.state(), name, *count, now)?),
-            Command::Changes => Ok(listing_changes(alloc, self.state())?),
-            Command::Confirm { number } => Ok(confirming(self.state(), *number)?),
             Command::Bind { file } => reading_bindings(alloc, shelf, file),
-            Command::SetPreference { name, value } => {
-                Ok(self.preferring(alloc, name, Some(value))?)
-            }
-            Command::ClearPreference { name } => Ok(self.preferring(alloc, name, None)?),
-            Command::Preferences => Ok(listing_preferences(self.state())?),
+            _ => Ok(self.asked_of_state(alloc, command, now, table)?),
+        }
+    }
+
+    // What a command asks for that names no file.
+    fn asked_of_state(
+        &mut self,
+        alloc: Global,
+        command: &Command,
+        now: u64,
+        table: &TransformTable,
+    ) -> Result<Asked, AllocError>
+        requires files { names_file command.now ≡ false }
+        requires command { IsCommand command.now }
+        requires moment { now ≤ last_moment }
+        requires table { HasStandardNames table.now }
+        ensures same { self.new ≡ self.old }
+        ensures outcome { IfOk result (λ asked. (files : List ℕ → Option (List ℕ)) → asked_outcome (state_of self.old) (session_of self.old) asked
+            ≡ outcome (record { files = files; now = now }) (state_of self.old) (session_of self.old) command.now) }
+        ensures follows { IfOk result (λ asked. FollowsFrom (state_of self.old) asked) }
+        ensures typed { IfOk result (λ asked. IsTyped (state_of self.old) (session_of self.old) command.now (answer_for asked)) }
+    {
+        match command {
+            Command::Apply => applying(alloc, self.state(), &self.session, table, now),
+            Command::Participate { part, on } => participating(alloc, self.state(), *part, *on),
+            Command::OptOut { slug } => opting_out(alloc, self.state(), slug),
+            Command::OptIn { slug, branch } => opting_in(alloc, self.state(), slug, branch),
+            Command::Reset { id } => resetting(alloc, self.state(), *id),
+            Command::Show => showing(self.state()),
+            Command::Feature { name } => serving(alloc, self.state(), &self.session, name),
+            Command::WriteManifest => writing_manifest(alloc, &self.session),
+            Command::Event { name, count } => counting(alloc, self.state(), name, *count, now),
+            Command::Changes => listing_changes(alloc, self.state()),
+            Command::Confirm { number } => confirming(self.state(), *number),
+            Command::SetPreference { name, value } => self.preferring(alloc, name, Some(value)),
+            Command::ClearPreference { name } => self.preferring(alloc, name, None),
+            Command::Preferences => listing_preferences(self.state()),
+            Command::Manifest { .. } => unreachable!(),
+            Command::Context { .. } => unreachable!(),
+            Command::Fetch { .. } => unreachable!(),
+            Command::Bind { .. } => unreachable!(),
         }
     }
 
