@@ -1,10 +1,14 @@
 // A client over its store.
 ghost use Rattle.std.specs.Prelude.{◌≡◌, ◌≢◌, ◌↔◌, OnOk, OnErr, IsOk, IsTrue};
 ghost use Rattle.gate_journal.specs.Costs.{HasCost};
+ghost use Rattle.host_model.specs.declared.side.Side.TheVariants.{Left, Right};
 ghost use Rattle.host_model.specs.Causes.{HasCause};
 ghost use Rattle.host_model.specs.Hosts.{MeetsAll};
 ghost use Rattle.pair_store.specs.Moments.{StaysBelow};
+ghost use Rattle.row_store.specs.Moments.{KeepsEitherRows};
+ghost use Rattle.row_store.specs.Rows.{HasRows};
 ghost use Rattle.client_state.specs.Sound.{IsConsistent, IsSound};
+ghost use Rattle.client_state.specs.Spelling.{rows_of};
 ghost use Rattle.client_store.specs.Moments.{WhileWritten};
 ghost use Rattle.client_store.specs.OpenStore.{IsSettled, AllKept, AllKeptEither, AllStand};
 ghost use Rattle.client_store.specs.Places.{place_after, bytes_for, makes_checkpoint};
@@ -88,6 +92,11 @@ impl Client {
             → AllKeptEither H.Host host.new (state_of self.old) (next_state self.old prepared) }
         ensures text { H.tells → H.said host.new ≡ H.said host.old }
 
+        // Each has the rows of the old or of the new state, none that are an old form. After `Ok` it has those of the new one.
+        ensures any_rows { H.tells → HasGateOn H.Host self.old host.old
+            → MeetsAll H.Host host.old host.new (KeepsEitherRows H.Host host.old (rows_of (state_of self.old)) (rows_of (next_state self.old prepared))) }
+        ensures rows { OnOk result (H.tells → HasRows (H.reads host.new Left) (H.reads host.new Right) (rows_of (next_state self.old prepared))) }
+
         // After `Ok` each image is what reads give, and stands for the new state. It is kept for it where each was kept,
         // or where the state changed.
         ensures holds { OnOk result (H.tells → IsOpenOn H.Host self.new host.new) }
@@ -144,6 +153,10 @@ impl Client {
             → MeetsAll H.Host host.old host.new (WhileWritten (H.said host.old) (state_of self.old) change.state) }
         ensures kept_either { H.tells → HasGateOn H.Host self.old host.old → AllKeptEither H.Host host.new (state_of self.old) change.state }
         ensures text { H.tells → H.said host.new ≡ H.said host.old }
+
+        ensures any_rows { H.tells → HasGateOn H.Host self.old host.old
+            → MeetsAll H.Host host.old host.new (KeepsEitherRows H.Host host.old (rows_of (state_of self.old)) (rows_of change.state)) }
+        ensures rows { OnOk result (H.tells → HasRows (H.reads host.new Left) (H.reads host.new Right) (rows_of change.state)) }
 
         ensures holds { OnOk result (H.tells → IsOpenOn H.Host self.new host.new) }
         ensures settled { OnOk result (H.tells → IsSettled H.Host host.new) }

@@ -1,16 +1,19 @@
 // A store is made.
 ghost use Rattle.std.specs.Prelude.{◌≡◌, ◌⊎◌, ◌≤◌, ◌+◌, List, ◌∷◌, drop, OnOk, IsOk, IsErrOf};
 ghost use Rattle.gate_journal.specs.Costs.{HasCost};
+ghost use Rattle.gate_journal.specs.Records.{made_on};
 ghost use Rattle.host_model.specs.declared.side.Side.TheVariants.{Left, Right};
 ghost use Rattle.host_model.specs.Causes.{Rose};
 ghost use Rattle.host_model.specs.Hosts.{MeetsAll};
-ghost use Rattle.pair_store.specs.Moments.{IsOpening, StaysBelow};
+ghost use Rattle.pair_store.specs.Moments.{IsOpening, IsOnlyRead, StaysBelow};
+ghost use Rattle.pair_store.specs.Pair.{HasNoList};
 ghost use Rattle.pair_store.specs.Repair.{repair_cost, IsLeftByOpening};
 ghost use Rattle.client_state.specs.declared.client_state.ClientState.{ClientState};
 ghost use Rattle.enrol_states.specs.State.{last_moment};
 ghost use Rattle.row_store.specs.Rows.{HasRows};
-ghost use Rattle.client_state.specs.Spelling.{rows_of};
+ghost use Rattle.client_state.specs.Spelling.{rows_of, spelling};
 ghost use Rattle.client_store.specs.Finds.{MakeFinds, MakeFailed};
+ghost use Rattle.client_store.specs.Makings.{MakePhases};
 ghost use Rattle.client_store.specs.Moments.{IsQuiet, IsLeftAmong};
 ghost use Rattle.client_store.specs.NewStates.{fresh};
 ghost use Rattle.client_store.specs.OpenStore.{AllKept, AllKeptAmong, IsSettled};
@@ -32,6 +35,7 @@ impl Client {
         ensures made { OnOk result (H.tells → AllKept H.Host host.new (fresh id now)) }
         ensures settled { OnOk result (H.tells → IsSettled H.Host host.new) }
         ensures spelled { OnOk result (H.tells → HasRows (H.reads host.new Left) (H.reads host.new Right) (rows_of (fresh id now))) }
+        ensures journal { OnOk result (H.tells → H.reads host.new Left ≡ made_on 0 (spelling (fresh id now)) (H.reads host.old Left)) }
         ensures right { OnOk result (H.tells → H.reads host.new Right ≡ 0 ∷ drop 1 (H.reads host.old Right)) }
 
         // What the pair was that it read, by its answer, and which answer each such pair has.
@@ -43,12 +47,17 @@ impl Client {
         // A pair that is a store, or a damaged one, is left as reads gave it, but for the byte that an opening writes.
         ensures left_as_read { H.tells → IsErrOf result MakeFault.AlreadyStore ⊎ IsErrOf result MakeFault.BadStore → IsLeftByOpening H.Host host.old host.new }
 
+        // What each image is at each moment: until both sides are synced, and from then on.
+        ensures phases { H.tells → MakePhases H.Host (fresh id now) host.old host.new result }
+
         // Where a side was open, and where memory was wanting, it does no more than open the store: at each moment the images
         // are those of the start, or what reads gave but for the one byte that an opening writes. So each is kept where each
         // was.
         ensures opening { H.tells → (IsAbsent (H.reads host.old Left) (H.reads host.old Right) → ⊥) → MeetsAll H.Host host.old host.new (IsOpening H.Host host.old) }
         ensures quiet { H.tells → (IsAbsent (H.reads host.old Left) (H.reads host.old Right) → ⊥)
             → H.written host.new ≤ H.written host.old + repair_cost (H.reads host.old Left) (H.reads host.old Right) }
+        ensures only_read { H.tells → (IsAbsent (H.reads host.old Left) (H.reads host.old Right) → ⊥) → HasNoList (H.reads host.old Left) (H.reads host.old Right)
+            → IsOnlyRead H.Host host.old host.new }
         ensures memory { IsErrOf result MakeFault.OutOfMemory → H.tells → MeetsAll H.Host host.old host.new (IsOpening H.Host host.old) }
         ensures memory_cost { IsErrOf result MakeFault.OutOfMemory → H.tells
             → H.written host.new ≤ H.written host.old + repair_cost (H.reads host.old Left) (H.reads host.old Right) }

@@ -17,6 +17,7 @@ use Rattle.pair_store.proofs.Standing.{each_has_list, each_has_kept_list}
 use Rattle.pair_store.proofs.Unique.{not_both_count}
 use Rattle.row_store.specs.Folding.{Fold}
 use Rattle.row_store.specs.Moments.{KeepsEitherRows}
+use Rattle.row_store.specs.Rows.{HasRows, HasKeptRows}
 use Rattle.row_store.specs.Store.{StoredRows, RowsStand, RowsStandWithGate}
 use Rattle.client_state.specs.declared.client_state.ClientState.{ClientState}
 use Rattle.client_state.specs.Forms.{IsForm}
@@ -39,13 +40,19 @@ module _ {H : Type 0} (h : Ghosts H) (store : StoredRows) (host : H) where
   pub ungated : RowsStandWithGate h store host → RowsStand h store host
   ungated gated = record { payloads = gated.payloads; pair = gated.pair.stands; made = gated.made }
 
+  pub rows_read : RowsStand h store host → (l r : List ℕ) → h.images host Left l → h.images host Right r → HasRows l r store.rows
+  rows_read stands l r left right = (stands.payloads, each_has_list h store.records host stands.payloads l r left right stands.pair, stands.made)
+
+  pub rows_kept_read : RowsStandWithGate h store host → (l r : List ℕ) → h.images host Left l → h.images host Right r → HasKeptRows l r store.rows
+  rows_kept_read gated l r left right = (gated.payloads, each_has_kept_list h store.records host gated.payloads l r left right gated.pair, gated.made)
+
   module _ (s : ClientState) (sound : IsSound s) (form : IsForm s store.rows) where
     pub rows_stand : RowsStand h store host → AllStand h host s
     rows_stand stands l r left right = record {
       sound = sound;
       stored = store.rows;
       form = form;
-      rows = (stands.payloads, each_has_list h store.records host stands.payloads l r left right stands.pair, stands.made);
+      rows = rows_read stands l r left right;
     }
 
     pub rows_kept : RowsStandWithGate h store host → AllKept h host s
@@ -53,7 +60,7 @@ module _ {H : Type 0} (h : Ghosts H) (store : StoredRows) (host : H) where
       sound = sound;
       stored = store.rows;
       form = form;
-      rows = (gated.payloads, each_has_kept_list h store.records host gated.payloads l r left right gated.pair, gated.made);
+      rows = rows_kept_read gated l r left right;
     }
 
   -- the same rows at the same place stand too
@@ -117,6 +124,13 @@ module _ {H : Type 0} (h : Ghosts H) (store : StoredState) (host : H) (open_on :
 
   pub settled : IsSettled h host
   settled = rows_settled h store.rows host open_on.stands
+
+  -- each image has the rows of the state
+  pub has_rows : (l r : List ℕ) → h.images host Left l → h.images host Right r → HasRows l r (rows_of store.state)
+  has_rows l r left right = subst (HasRows l r) open_on.stored.same (rows_read h store.rows host open_on.stands l r left right)
+
+  pub has_kept_rows : HasGateOn h store host → (l r : List ℕ) → h.images host Left l → h.images host Right r → HasKeptRows l r (rows_of store.state)
+  has_kept_rows gated l r left right = subst (HasKeptRows l r) open_on.stored.same (rows_kept_read h store.rows host gated l r left right)
 
 -- and one with the same rows
 module _ (old new : StoredState) (same : IsSameStored old new) where

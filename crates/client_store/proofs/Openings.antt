@@ -8,8 +8,10 @@ use Rattle.host_model.specs.declared.side.Side.TheVariants.{Left, Right}
 use Rattle.host_model.specs.Hosts.{NowOf, MeetsAll}
 use Rattle.host_model.specs.Sides.{on}
 use Rattle.host_model.proofs.Meeting.{then_met, met_weaker}
-use Rattle.pair_store.specs.Moments.{StaysBelow, IsOpening, IsReadOrRepaired}
-use Rattle.pair_store.specs.Repair.{repair_cost, IsUnwritten, IsLeftByOpening}
+use Rattle.pair_store.specs.Moments.{StaysBelow, IsOpening, IsReadOrRepaired, EndsUnsynced}
+use Rattle.pair_store.specs.Moments as sides
+use Rattle.pair_store.specs.Repair.{repair_cost, IsUnwritten, IsRepaired, IsLeftByOpening}
+use Rattle.pair_store.proofs.Beside.{both_sides}
 use Rattle.row_batches.specs.declared.store_row.StoreRow.{StoreRow}
 use Rattle.row_store.specs.Rows.{HasRows, HasPlace}
 use Rattle.row_store.specs.Store.{StoredRows, RowsStand, RowsStandWithGate, place}
@@ -22,7 +24,7 @@ use Rattle.client_store.specs.Finds.{OpenFinds}
 use Rattle.client_store.specs.Migrations.{opening_bytes, place_opened, OpensWith}
 use Rattle.client_store.specs.Moments.{IsLeftAs, IsLeftAmong}
 use Rattle.client_store.specs.OpenStore.{AllKeptAmong}
-use Rattle.client_store.specs.Openings.{IsMigrating, IsReadOrMigrating, OpensInPhases, ReadsInPhases, IsOpened, IsOnlyRepaired, OpenLeaves, IsUnopened}
+use Rattle.client_store.specs.Openings.{IsMigrating, IsReadOrMigrating, IsLeftOrMigrating, OpensInPhases, OpensInThreePhases, OpensInTwoPhases, ReadsInPhases, IsOpened, IsOnlyRepaired, OpenLeaves, IsUnopened}
 use Rattle.client_store.specs.Store.{StandsFor, KeptFor, KeptAmong}
 use Rattle.client_store.specs.Stored.{StoredState, IsStored, IsFound}
 use Rattle.client_store.proofs.Holding.{stands_of_kept, rows_settled}
@@ -69,6 +71,41 @@ module _ {H : Type 0} (h : Ghosts H) (start : H) where
   phase_text l r u (inl met) = met.1
   phase_text l r u (inr migrating) = migrating.text
 
+  -- ---- the last two phases, seen as one
+
+  repaired_is : (repaired : H) (l r : List ℕ) → ((side : Side) → on side l r ≡ h.reads repaired side) → IsRepaired h start (h.reads repaired Left) (h.reads repaired Right) → IsRepaired h start l r
+  repaired_is repaired l r same is = subst (λ (c : List ℕ). IsRepaired h start l c) (sym (same Right)) (subst (λ (c : List ℕ). IsRepaired h start c (h.reads repaired Right)) (sym (same Left)) is)
+
+  seen_as_read : (repaired : H) → IsLeftByOpening h start repaired → (l r u : List ℕ) → IsLeftOrMigrating h start repaired l r u → IsReadOrMigrating h start l r u
+  seen_as_read repaired left l r u (inl (same, text)) = elim left.bytes [
+    | inl unchanged ↦ inl (inl (λ side. same side ∙ unchanged side), text)
+    | inr closed ↦ inl (inr (repaired_is repaired l r same closed.repaired), text)
+  ]
+  seen_as_read repaired left l r u (inr migrating) = inr migrating
+
+  two_of_three : (new : H) → OpensInThreePhases h start new → OpensInTwoPhases h start new
+  two_of_three new three = record {
+    synced = three.synced;
+    first = three.first;
+    unwritten = three.unwritten;
+    second = then_met h.moment h.might three.synced three.repaired new (IsReadOrRepaired h start) (IsLeftOrMigrating h start three.repaired) (IsReadOrMigrating h start) three.second three.third (λ l r u met. inl met)
+        (seen_as_read three.repaired three.left);
+  }
+
+  two_of_sides : (new : H) → sides.OpensInTwoPhases h start new → OpensInTwoPhases h start new
+  two_of_sides new both = record {
+    synced = both.synced;
+    first = both.first;
+    unwritten = both.unwritten;
+    second = met_weaker h.moment h.might both.synced new (IsReadOrRepaired h start) (IsReadOrMigrating h start) both.second (λ l r u met. inl met);
+  }
+
+  -- the disk has failed in the first phase, or there are two
+  pub in_two_phases : {T : Type 0} (new : H) (result : Result T ClientFault) → OpensInPhases h start new result → (IsErrOf result DiskFault × EndsUnsynced h start new) ⊎ OpensInTwoPhases h start new
+  in_two_phases new result (inl (failed, inl unsynced)) = inl (failed, unsynced)
+  in_two_phases new result (inl (failed, inr both)) = inr (two_of_sides new both)
+  in_two_phases new result (inr three) = inr (two_of_three new three)
+
   module _ (read_left : h.images start Left (h.reads start Left)) (read_right : h.images start Right (h.reads start Right)) (new : H) (states : List ClientState) (all : AllKeptAmong h start states) where
     now_among : (l r u : List ℕ) → NowOf h start l r u → IsLeftAmong (h.said start) states l r u
     now_among l r u now = (all l r now.0 now.1, now.2)
@@ -76,11 +113,16 @@ module _ {H : Type 0} (h : Ghosts H) (start : H) where
     phase_among : (l r u : List ℕ) → IsReadOrMigrating h start l r u → IsLeftAmong (h.said start) states l r u
     phase_among l r u met = (among states l r u (all (h.reads start Left) (h.reads start Right) read_left read_right) met, phase_text l r u met)
 
+    two_left : OpensInTwoPhases h start new → MeetsAll h start new (IsLeftAmong (h.said start) states)
+    two_left both =
+        then_met h.moment h.might start both.synced new (NowOf h start) (IsReadOrMigrating h start) (IsLeftAmong (h.said start) states) both.first both.second now_among phase_among
+
     -- each is kept for one of the states for which each was kept
     pub phases_left : {T : Type 0} (result : Result T ClientFault) → OpensInPhases h start new result → MeetsAll h start new (IsLeftAmong (h.said start) states)
-    phases_left result (inl failed) = met_weaker h.moment h.might start new (NowOf h start) (IsLeftAmong (h.said start) states) failed.1 now_among
-    phases_left result (inr both) =
-        then_met h.moment h.might start both.synced new (NowOf h start) (IsReadOrMigrating h start) (IsLeftAmong (h.said start) states) both.first both.second now_among phase_among
+    phases_left result moments = elim (in_two_phases new result moments) [
+      | inl failed ↦ met_weaker h.moment h.might start new (NowOf h start) (IsLeftAmong (h.said start) states) failed.1.moments now_among
+      | inr both ↦ two_left both
+    ]
 
   -- ---- nothing was opened
 
@@ -105,15 +147,24 @@ module _ {H : Type 0} (h : Ghosts H) (start : H) where
   error_is : {T : Type 0} (fault other : ClientFault) → IsErrOf {T = T} (Err fault) other → fault ≡ other
   error_is fault other is = cc
 
+  -- the three phases, behind a reading that didn't fail
+  pub three : (mid new : H) → sides.OpensInTwoPhases h start mid → IsLeftByOpening h start mid → MeetsAll h mid new (IsLeftOrMigrating h start mid) → OpensInThreePhases h start new
+  three mid new both left third = record { synced = both.synced; first = both.first; unwritten = both.unwritten; repaired = mid; second = both.second; left = left; third = third }
+
+  -- each image is what reads give, and stays so
+  pub left_still : (mid : H) → h.said mid ≡ h.said start → IsLeftByOpening h start mid → MeetsAll h mid mid (NowOf h mid) → MeetsAll h mid mid (IsLeftOrMigrating h start mid)
+  left_still mid text left still =
+      met_weaker h.moment h.might mid mid (NowOf h mid) (IsLeftOrMigrating h start mid) still
+      (λ l r u now. inl (both_sides (λ (side : Side). on side l r ≡ h.reads mid side) Left (left.durable Left l now.0) (left.durable Right r now.1), now.2 ∙ text))
+
   -- nothing was migrated
-  pub reading_phases : {T U : Type 0} (new : H) (fault : ClientFault) → ReadsInPhases {T = T} h start new (Err fault) → OpensInPhases {T = U} h start new (Err fault)
-  reading_phases {T} new fault (inl failed) = inl (ap Err (error_is {T = T} fault DiskFault failed.0), failed.1)
-  reading_phases new fault (inr both) = inr (record {
-    synced = both.synced;
-    first = both.first;
-    unwritten = both.unwritten;
-    second = met_weaker h.moment h.might both.synced new (IsReadOrRepaired h start) (IsReadOrMigrating h start) both.second (λ l r u met. inl met);
-  })
+  pub reading_phases : {T U : Type 0} (new : H) (fault : ClientFault) → ReadsInPhases {T = T} h start new (Err fault) → ((fault ≡ DiskFault → ⊥) → IsLeftByOpening h start new) → (IsLeftByOpening h start new → MeetsAll h new new (IsLeftOrMigrating h start new))
+      → OpensInPhases {T = U} h start new (Err fault)
+  reading_phases {T} new fault (inl failed) left still = inl (ap Err (error_is {T = T} fault DiskFault failed.0), inl failed.1)
+  reading_phases new NoStore (inr both) left still = let is = left (λ is. absurd cc) in inr (three new new both is (still is))
+  reading_phases new BadStore (inr both) left still = let is = left (λ is. absurd cc) in inr (three new new both is (still is))
+  reading_phases new DiskFault (inr both) left still = inl (refl, inr both)
+  reading_phases new OutOfMemory (inr both) left still = let is = left (λ is. absurd cc) in inr (three new new both is (still is))
 
   -- ---- what was found
 
@@ -154,7 +205,7 @@ module _ {H : Type 0} (h : Ghosts H) (start : H) where
       -- ---- and migrated
 
       module _ (mid new : H) (text : h.said mid ≡ h.said start) (reading : ReadsInPhases {T = StoredState} h start mid (Ok found)) (stands : RowsStand h found.rows mid) (gate : (s : ClientState) → Kept s → RowsStandWithGate h found.rows mid) (unneeded : (IsTrue migrates → ⊥) → new ≡ mid)
-          (moments : RowsStandWithGate h found.rows mid → MeetsAll h mid new (IsLeftAs (h.said mid) found.state)) (below : MeetsAll h mid new (StaysBelow h mid)) where
+          (moments : RowsStandWithGate h found.rows mid → MeetsAll h mid new (IsLeftAs (h.said mid) found.state)) (below : MeetsAll h mid new (StaysBelow h mid)) (left : IsLeftByOpening h start mid) (still : MeetsAll h mid mid (NowOf h mid)) where
         migrating : IsTrue migrates → MeetsAll h mid new (IsMigrating h start)
         unfolding found_stands
         migrating old =
@@ -167,19 +218,16 @@ module _ {H : Type 0} (h : Ghosts H) (start : H) where
                   (λ l r u met. record { state = found.state; stands = found_stands; old = old; kept = λ kept. absurd (none (gate found.state kept)); text = met.1 ∙ text })
             ]
 
-        second : (synced : H) → MeetsAll h synced mid (IsReadOrRepaired h start) → (needed : Bool) → migrates ≡ needed → MeetsAll h synced new (IsReadOrMigrating h start)
-        second synced read true needed =
-            then_met h.moment h.might synced mid new (IsReadOrRepaired h start) (IsMigrating h start) (IsReadOrMigrating h start) read (migrating needed) (λ l r u met. inl met) (λ l r u met. inr met)
-        second synced read false needed =
-            subst (λ (host : H). MeetsAll h synced host (IsReadOrMigrating h start)) (sym (unneeded (λ is_needed. absurd cc)))
-            (met_weaker h.moment h.might synced mid (IsReadOrRepaired h start) (IsReadOrMigrating h start) read (λ l r u met. inl met))
+        third : (needed : Bool) → migrates ≡ needed → MeetsAll h mid new (IsLeftOrMigrating h start mid)
+        third true needed = met_weaker h.moment h.might mid new (IsMigrating h start) (IsLeftOrMigrating h start mid) (migrating needed) (λ l r u met. inr met)
+        third false needed = subst (λ (host : H). MeetsAll h mid host (IsLeftOrMigrating h start mid)) (sym (unneeded (λ is_needed. absurd cc))) (left_still mid text left still)
 
-        -- both phases were gone through
+        -- all phases were gone through
         pub phases : {T : Type 0} (result : Result T ClientFault) → OpensInPhases h start new result
         phases result =
             elim reading [
               | inl failed ↦ absurd (not_failed found failed.0)
-              | inr both ↦ inr (record { synced = both.synced; first = both.first; unwritten = both.unwritten; second = second both.synced both.second migrates refl })
+              | inr both ↦ inr (three mid new both left (third migrates refl))
             ]
 
       module _ (mid new : H) (read : h.written mid ≡ h.written start + repair) where

@@ -1,6 +1,7 @@
 pub mod Changes
 pub mod Faults
 pub mod Finds
+pub mod Makings
 pub mod Migrations
 pub mod Moments
 pub mod NewStates

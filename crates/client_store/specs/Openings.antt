@@ -3,7 +3,9 @@ use Rattle.std.specs.Prelude.{◌≡◌, ◌⊎◌, ◌≤◌, ◌+◌, ℕ, Lis
 use Rattle.host_model.specs.declared.side.Side.TheVariants.{Left, Right}
 use Rattle.host_model.specs.declared.host.Host.{Ghosts}
 use Rattle.host_model.specs.Hosts.{NowOf, MeetsAll}
-use Rattle.pair_store.specs.Moments.{IsOpening, IsReadOrRepaired}
+use Rattle.host_model.specs.Sides.{on}
+use Rattle.host_model.specs.declared.side.Side.{Side}
+use Rattle.pair_store.specs.Moments.{IsOpening, IsReadOrRepaired, EndsUnsynced}
 use Rattle.pair_store.specs.Moments as sides
 use Rattle.pair_store.specs.Repair.{repair_cost, IsUnwritten, IsLeftByOpening}
 use Rattle.client_state.specs.declared.client_state.ClientState.{ClientState}
@@ -30,20 +32,34 @@ pub record IsMigrating {H : Type 0} (h : Ghosts H) (start : H) (l r u : List ℕ
 abbrev pub IsReadOrMigrating : {H : Type 0} → Ghosts H → H → List ℕ → List ℕ → List ℕ → Type 0
 IsReadOrMigrating h start l r u = IsReadOrRepaired h start l r u ⊎ IsMigrating h start l r u
 
--- The two phases of an opening, with a host between them. Until both sides are synced nothing is written, and each image is one of the start. From then on each is what reads gave, repaired and migrated
+-- what reads give once the repair is done, or what a migration makes of it
+abbrev pub IsLeftOrMigrating : {H : Type 0} → Ghosts H → H → H → List ℕ → List ℕ → List ℕ → Type 0
+IsLeftOrMigrating h start repaired l r u = (((side : Side) → on side l r ≡ h.reads repaired side) × (u ≡ h.said start)) ⊎ IsMigrating h start l r u
+
+-- The three phases of an opening, with a host behind each of the first two. Until both sides are synced nothing is written, and each image is one of the start. Then, until the earlier of two open sides is closed, each is what reads gave, but for that side's first byte. Last come the images of a migration, where the rows are an old form: it begins when the repair is on the disk
+pub record OpensInThreePhases {H : Type 0} (h : Ghosts H) (start new : H) : Type 0 where
+  pub synced : H
+  pub first : MeetsAll h start synced (NowOf h start)
+  pub unwritten : IsUnwritten h start synced
+  pub repaired : H
+  pub second : MeetsAll h synced repaired (IsReadOrRepaired h start)
+  pub left : IsLeftByOpening h start repaired
+  pub third : MeetsAll h repaired new (IsLeftOrMigrating h start repaired)
+
+-- all three; or the first one alone, or the first two, where the disk has failed in the last of them
+abbrev pub OpensInPhases : {H T : Type 0} → Ghosts H → H → H → Result T ClientFault → Type 0
+OpensInPhases h start new result = (IsErrOf result DiskFault × (EndsUnsynced h start new ⊎ sides.OpensInTwoPhases h start new)) ⊎ OpensInThreePhases h start new
+
+-- the same of its reading, where nothing is migrated yet
+abbrev pub ReadsInPhases : {H T : Type 0} → Ghosts H → H → H → Result T ClientFault → Type 0
+ReadsInPhases h start new result = (IsErrOf result DiskFault × EndsUnsynced h start new) ⊎ sides.OpensInTwoPhases h start new
+
+-- the last two phases seen as one: from the syncs on each image is what reads gave, repaired and migrated
 pub record OpensInTwoPhases {H : Type 0} (h : Ghosts H) (start new : H) : Type 0 where
   pub synced : H
   pub first : MeetsAll h start synced (NowOf h start)
   pub unwritten : IsUnwritten h start synced
   pub second : MeetsAll h synced new (IsReadOrMigrating h start)
-
--- the first one alone, where the disk has failed in it, or both
-abbrev pub OpensInPhases : {H T : Type 0} → Ghosts H → H → H → Result T ClientFault → Type 0
-OpensInPhases h start new result = (IsErrOf result DiskFault × MeetsAll h start new (NowOf h start)) ⊎ OpensInTwoPhases h start new
-
--- the same of its reading, where nothing is migrated yet
-abbrev pub ReadsInPhases : {H T : Type 0} → Ghosts H → H → H → Result T ClientFault → Type 0
-ReadsInPhases h start new result = (IsErrOf result DiskFault × MeetsAll h start new (NowOf h start)) ⊎ sides.OpensInTwoPhases h start new
 
 -- ---- its end
 

@@ -4,7 +4,8 @@ ghost use Rattle.gate_journal.specs.Costs.{HasCost};
 ghost use Rattle.host_model.specs.declared.side.Side.TheVariants.{Left, Right};
 ghost use Rattle.host_model.specs.Causes.{Rose, HasCause};
 ghost use Rattle.host_model.specs.Hosts.{MeetsAll};
-ghost use Rattle.pair_store.specs.Moments.{IsOpening, StaysBelow};
+ghost use Rattle.pair_store.specs.Moments.{IsOpening, IsOnlyRead, StaysBelow};
+ghost use Rattle.pair_store.specs.Pair.{HasNoList};
 ghost use Rattle.pair_store.specs.Repair.{repair_cost, IsUnwritten, IsLeftByOpening};
 ghost use Rattle.pair_store.specs.Store.{IsClosedOn};
 ghost use Rattle.row_store.specs.Rows.{HasRows, HasPlace};
@@ -62,6 +63,7 @@ impl FoundStore {
         ensures none_open { H.tells → IsErrOf result ClientFault.NoStore → IsClosedOn H.Host host.new }
         ensures none_written { H.tells → IsErrOf result ClientFault.NoStore → IsUnwritten H.Host host.old host.new }
         ensures bad_store { H.tells → IsErrOf result ClientFault.BadStore → IsBad (H.reads host.old Left) (H.reads host.old Right) }
+        ensures only_read { H.tells → HasNoList (H.reads host.old Left) (H.reads host.old Right) → IsOnlyRead H.Host host.old host.new }
 
         ensures phases { H.tells → ReadsInPhases H.Host host.old host.new result }
         ensures left { H.tells → ¬ IsErrOf result ClientFault.DiskFault → IsLeftByOpening H.Host host.old host.new }
@@ -151,7 +153,7 @@ fn migrate<H: Host>(
     ensures say_faults { H.say_faults host.new ≡ H.say_faults host.old }
 {
     let batch = migration(alloc, state.state())?;
-    let ready = rows.prepare(alloc, batch)?;
+    let ready = rows.prepare(alloc, &batch)?;
     rows.commit(host, ready)?;
     Ok(())
 }

@@ -3,7 +3,8 @@ ghost use Rattle.std.specs.Prelude.{◌≡◌, ◌≤◌, List, IfOk, IsErrOf};
 ghost use Rattle.host_model.specs.declared.side.Side.TheVariants.{Left, Right};
 ghost use Rattle.host_model.specs.Causes.{Rose};
 ghost use Rattle.host_model.specs.Hosts.{MeetsAll};
-ghost use Rattle.pair_store.specs.Moments.{StaysBelow};
+ghost use Rattle.pair_store.specs.Moments.{IsOnlyRead, StaysBelow};
+ghost use Rattle.pair_store.specs.Pair.{HasNoList};
 ghost use Rattle.client_state.specs.declared.client_state.ClientState.{ClientState};
 ghost use Rattle.client_state.specs.Sound.{IsSound};
 ghost use Rattle.client_store.specs.Moments.{IsLeftAmong};
@@ -28,13 +29,16 @@ impl StateStore {
         ensures judges { H.tells → OpenJudges (H.reads host.old Left) (H.reads host.old Right) result }
         ensures sound { IfOk result (λ store. IsSound store.state) }
 
-        // What each image is at each moment: until both sides are synced, and from then on. So each is kept for one of the
-        // states for which each was kept.
+        // What each image is at each moment: until both sides are synced, until the repair is done, and from then on. So each
+        // is kept for one of the states for which each was kept.
         ensures phases { H.tells → OpensInPhases H.Host host.old host.new result }
         ensures left { H.tells → (states : List ClientState) → AllKeptAmong H.Host host.old states
             → MeetsAll H.Host host.old host.new (IsLeftAmong (H.said host.old) states) }
         ensures below { H.tells → MeetsAll H.Host host.old host.new (StaysBelow H.Host host.old) }
         ensures text { H.tells → H.said host.new ≡ H.said host.old }
+
+        // Where the pair that was read has no list of payloads, nothing is written, whatever the answer.
+        ensures only_read { H.tells → HasNoList (H.reads host.old Left) (H.reads host.old Right) → IsOnlyRead H.Host host.old host.new }
 
         ensures cause { IsErrOf result ClientFault.DiskFault → Rose (H.disk_faults host.old) (H.disk_faults host.new) }
         ensures disk_faults { H.disk_faults host.old ≤ H.disk_faults host.new }

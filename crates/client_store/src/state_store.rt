@@ -113,7 +113,7 @@ impl StateStore {
         if batch.changes().is_empty() {
             return Ok(None);
         }
-        let ready = self.rows.prepare(alloc, batch)?;
+        let ready = self.rows.prepare(alloc, &batch)?;
         Ok(Some(Change { state: next, ready }))
     }
 

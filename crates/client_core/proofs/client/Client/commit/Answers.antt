@@ -1,18 +1,23 @@
 -- A change is written, or there is none.
 use Rattle.std.proofs.Common.{◌≡◌, Option, sym, ap, subst, inl, arith, Result, Ok, Err, OnOk}
 use Rattle.host_model.specs.Hosts.{MeetsAll}
+use Rattle.host_model.specs.declared.side.Side.TheVariants.{Left, Right}
 use Rattle.host_model.proofs.Meeting.{started}
 use Rattle.gate_journal.specs.Costs.{HasCost}
 use Rattle.pair_store.specs.Moments.{StaysBelow}
 use Rattle.pair_store.proofs.Below.{now_below}
+use Rattle.row_store.specs.Moments.{KeepsEitherRows}
+use Rattle.row_store.specs.Rows.{HasRows}
 use Rattle.row_store.specs.Store.{place}
 use Rattle.client_state.specs.Sound.{IsSound}
+use Rattle.client_state.specs.Spelling.{rows_of}
 use Rattle.client_store.specs.declared.change.Change.{Change}
 use Rattle.client_core.specs.Clients.{HasGateOn}
 use Rattle.client_store.specs.Moments.{WhileWritten}
 use Rattle.client_store.specs.OpenStore.{AllKept, AllKeptEither, AllStand}
 use Rattle.client_store.specs.Places.{place_after, bytes_for, makes_checkpoint}
 use Rattle.client_store.specs.Changes.{changed, is_whole_in, IsChange}
+use Rattle.client_store.proofs.Holding.{has_rows, has_kept_rows}
 use Rattle.client_core.proofs.Holding.{all_kept, all_stand, settled}
 use Rattle.client_store.proofs.Placing.{place_same, bytes_same, no_checkpoint}
 use Rattle.client_core.proofs.client.Client.commit.Goals as goal
@@ -35,6 +40,18 @@ pub returns-in-Some-clause-kept_either : goal.returns-in-Some-clause-kept_either
 returns-in-Some-clause-kept_either g c tells gate =
     let s = c.args.self.now.store.state in
     subst (λ (o : Option Change). AllKeptEither g.H.Host c.write.new.host s (changed s o)) (sym c.in-Some.is) (c.write.ensures.kept_either tells gate)
+
+pub returns-in-Some-clause-any_rows : goal.returns-in-Some-clause-any_rows
+returns-in-Some-clause-any_rows g c tells gate =
+    let h = g.H.Host in
+    let s = c.args.self.now.store.state in
+    subst (λ (o : Option Change). MeetsAll h c.args.host.now c.write.new.host (KeepsEitherRows h c.args.host.now (rows_of s) (rows_of (changed s o)))) (sym c.in-Some.is) (c.write.ensures.any_rows tells gate)
+
+pub returns-in-Some-clause-rows : goal.returns-in-Some-clause-rows
+returns-in-Some-clause-rows g c =
+    let h = g.H.Host in
+    let s = c.args.self.now.store.state in
+    subst (λ (o : Option Change). OnOk c.write.result (h.tells → HasRows (h.reads c.write.new.host Left) (h.reads c.write.new.host Right) (rows_of (changed s o)))) (sym c.in-Some.is) c.write.ensures.rows
 
 pub returns-in-Some-clause-stands : goal.returns-in-Some-clause-stands
 returns-in-Some-clause-stands g c =
@@ -102,6 +119,24 @@ returns-clause-any_moment g c tells gate =
 
 pub returns-clause-kept_either : goal.returns-clause-kept_either
 returns-clause-kept_either g c tells gate l r left right = inl (all_kept g.H.Host c.args.self.now c.args.host.now (c.requires.holds tells) gate l r left right)
+
+pub returns-clause-any_rows : goal.returns-clause-any_rows
+returns-clause-any_rows g c tells gate =
+    let h = g.H.Host in
+    let old = c.args.self.now in
+    let start = c.args.host.now in
+    subst (λ (o : Option Change). MeetsAll h start start (KeepsEitherRows h start (rows_of old.store.state) (rows_of (changed old.store.state o)))) (sym c.in-None.is)
+    (started h.moment h.might start (KeepsEitherRows h start (rows_of old.store.state) (rows_of old.store.state)) (λ l r u met.
+    let now = g.met.H.Host.only_now start l r u tells met in
+    (inl (has_kept_rows h old.store start (c.requires.holds tells) gate l r now.0 now.1), now.2)))
+
+pub returns-clause-rows : goal.returns-clause-rows
+returns-clause-rows g c tells =
+    let h = g.H.Host in
+    let old = c.args.self.now in
+    let host = c.args.host.now in
+    subst (λ (o : Option Change). HasRows (h.reads host Left) (h.reads host Right) (rows_of (changed old.store.state o))) (sym c.in-None.is)
+    (has_rows h old.store host (c.requires.holds tells) (h.reads host Left) (h.reads host Right) (g.met.H.Host.read_is_image host Left tells) (g.met.H.Host.read_is_image host Right tells))
 
 pub returns-clause-stands : goal.returns-clause-stands
 returns-clause-stands g c tells =

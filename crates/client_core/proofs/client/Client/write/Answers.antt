@@ -1,9 +1,10 @@
 -- A change is written.
-use Rattle.std.proofs.Common.{◌∙◌, inl, refl, ap, arith}
+use Rattle.std.proofs.Common.{◌∙◌, inl, refl, ap, subst, arith}
 use Rattle.std.proofs.lemmas.Result.{err_from_is_err_and}
 use Rattle.host_model.specs.declared.side.Side.TheVariants.{Left, Right}
+use Rattle.row_store.specs.Rows.{HasRows}
 use Rattle.client_state.specs.Spelling.{rows_of}
-use Rattle.client_store.proofs.Holding.{rows_settled, rows_stand, rows_kept, ungated, while_written}
+use Rattle.client_store.proofs.Holding.{rows_settled, rows_read, rows_stand, rows_kept, ungated, while_written}
 use Rattle.client_store.proofs.Placing.{change_bytes, change_place, change_checkpoint}
 use Rattle.client_core.proofs.client.Client.write.Goals as goal
 
@@ -53,6 +54,14 @@ pub returns-clause-stands : goal.returns-clause-stands
 returns-clause-stands g c tells =
     rows_stand g.H.Host c.commit.new.self.rows c.commit.new.host c.args.change.state c.requires.change.sound (inl (c.commit.ensures.stored.same ∙ ap rows_of c.in_ok-commit.ensures.state))
     (ungated g.H.Host c.commit.new.self.rows c.commit.new.host (c.in_ok-commit.ensures.acknowledged tells))
+
+pub returns-clause-rows : goal.returns-clause-rows
+returns-clause-rows g c tells =
+    let h = g.H.Host in
+    let new = c.commit.new.host in
+    let rows = c.commit.new.self.rows in
+    subst (HasRows (h.reads new Left) (h.reads new Right)) (c.commit.ensures.stored.same ∙ ap rows_of c.in_ok-commit.ensures.state)
+    (rows_read h rows new (ungated h rows new (c.in_ok-commit.ensures.acknowledged tells)) (h.reads new Left) (h.reads new Right) (g.met.H.Host.read_is_image new Left tells) (g.met.H.Host.read_is_image new Right tells))
 
 pub returns-clause-kept : goal.returns-clause-kept
 returns-clause-kept g c tells =

@@ -1,13 +1,15 @@
 -- A store is made where there is none.
-use Rattle.std.proofs.Common.{Err, ap, refl, subst}
+use Rattle.std.proofs.Common.{Err, ap, refl, subst, inl}
 use Rattle.host_model.specs.declared.side.Side.TheVariants.{Left, Right}
+use Rattle.host_model.specs.Hosts.{NowOf}
 use Rattle.host_model.proofs.Meeting.{started}
 use Rattle.pair_store.specs.Moments.{StaysBelow}
 use Rattle.pair_store.proofs.Below.{now_below}
 use Rattle.row_store.specs.Rows.{HasRows}
 use Rattle.client_store.specs.declared.faults.MakeFault.TheVariants.{BadStore}
+use Rattle.client_store.specs.NewStates.{fresh}
 use Rattle.client_store.proofs.Judging.{already_store_where, bad_making_where}
-use Rattle.client_store.proofs.NewStores.{kept_not_absent, below_twice, below_quiet}
+use Rattle.client_store.proofs.NewStores.{kept_not_absent, below_twice, below_quiet, opening_phases, making_phases}
 use Rattle.client_store.proofs.Openings.{found_stands}
 use Rattle.client_store.proofs.Repairing.{opening_left, opening_quiet}
 use Rattle.client_store.proofs.state_store.StateStore.make.Goals as goal
@@ -162,3 +164,48 @@ returns-in-Ok-clause-bad_store_where g c tells bad = bad_making_where (g.H.Host.
 pub returns-in-Err-BadStore-clause-already_store_where : goal.returns-in-Err-BadStore-clause-already_store_where
 returns-in-Err-BadStore-clause-already_store_where g c tells store =
     already_store_where (g.H.Host.reads c.args.host.now Left) (g.H.Host.reads c.args.host.now Right) (Err BadStore) (c.in-Err-BadStore.ensures.bad_store tells (ap Err c.in-Err-BadStore.field-0-is)) store
+
+-- ---- its phases
+
+pub returns-in-Ok-clause-phases : goal.returns-in-Ok-clause-phases
+returns-in-Ok-clause-phases g c tells = opening_phases g.H.Host (fresh c.args.id c.args.now) c.args.host.now c.open.new.host _ _ (c.in-Ok.ensures.phases tells) (λ is. absurd cc)
+
+pub returns-in_err-make-in-Err-NoStore-clause-phases : goal.returns-in_err-make-in-Err-NoStore-clause-phases
+returns-in_err-make-in-Err-NoStore-clause-phases g c tells =
+    let absent = c.in-Err-NoStore.ensures.no_store tells (ap Err c.in-Err-NoStore.field-0-is) in
+    let unwritten = c.in-Err-NoStore.ensures.none_written tells (ap Err c.in-Err-NoStore.field-0-is) in
+    inl (making_phases g.H.Host (fresh c.args.id c.args.now) c.args.host.now c.open.new.host c.make.new.host _ c.in_ok-first.ensures.text absent (c.open.ensures.only_read tells) unwritten (c.make.ensures.any_moment tells))
+
+pub returns-in-Err-NoStore-clause-phases : goal.returns-in-Err-NoStore-clause-phases
+returns-in-Err-NoStore-clause-phases g c tells =
+    let absent = c.in-Err-NoStore.ensures.no_store tells (ap Err c.in-Err-NoStore.field-0-is) in
+    let unwritten = c.in-Err-NoStore.ensures.none_written tells (ap Err c.in-Err-NoStore.field-0-is) in
+    inl (making_phases g.H.Host (fresh c.args.id c.args.now) c.args.host.now c.open.new.host c.make.new.host _ c.in_ok-first.ensures.text absent (c.open.ensures.only_read tells) unwritten (c.make.ensures.any_moment tells))
+
+pub returns-in-Err-BadStore-clause-phases : goal.returns-in-Err-BadStore-clause-phases
+returns-in-Err-BadStore-clause-phases g c tells =
+    opening_phases g.H.Host (fresh c.args.id c.args.now) c.args.host.now c.open.new.host _ _ (c.in-Err-BadStore.ensures.phases tells) (λ is. let other = c.in-Err-BadStore.field-0-is in absurd cc)
+
+pub returns-in-Err-DiskFault-clause-phases : goal.returns-in-Err-DiskFault-clause-phases
+returns-in-Err-DiskFault-clause-phases g c tells = opening_phases g.H.Host (fresh c.args.id c.args.now) c.args.host.now c.open.new.host _ _ (c.in-Err-DiskFault.ensures.phases tells) (λ is. refl)
+
+pub returns-clause-phases : goal.returns-clause-phases
+returns-clause-phases g c tells =
+    opening_phases g.H.Host (fresh c.args.id c.args.now) c.args.host.now c.open.new.host _ _ (c.in-Err-OutOfMemory.ensures.phases tells) (λ is. let other = c.in-Err-OutOfMemory.field-0-is in absurd cc)
+
+-- ---- nothing is written where the pair has no list
+
+pub returns-in_err-first-clause-only_read : goal.returns-in_err-first-clause-only_read
+returns-in_err-first-clause-only_read g c tells there none =
+    let h = g.H.Host in
+    let host = c.args.host.now in
+    record { moments = started h.moment h.might host (NowOf h host) (λ l r u met. g.met.H.Host.only_now host l r u tells met); cost = refl }
+
+pub returns-in-Ok-clause-only_read : goal.returns-in-Ok-clause-only_read
+returns-in-Ok-clause-only_read g c tells there none = let rows = c.in-Ok.ensures.rows tells in absurd (none rows.0 rows.1)
+
+pub returns-in_err-make-in-Err-NoStore-clause-only_read : goal.returns-in_err-make-in-Err-NoStore-clause-only_read
+returns-in_err-make-in-Err-NoStore-clause-only_read g c tells there none = absurd (there (c.in-Err-NoStore.ensures.no_store tells (ap Err c.in-Err-NoStore.field-0-is)))
+
+pub returns-in-Err-NoStore-clause-only_read : goal.returns-in-Err-NoStore-clause-only_read
+returns-in-Err-NoStore-clause-only_read g c tells there none = absurd (there (c.in-Err-NoStore.ensures.no_store tells (ap Err c.in-Err-NoStore.field-0-is)))

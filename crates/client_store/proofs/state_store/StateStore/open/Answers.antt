@@ -1,9 +1,11 @@
 -- A store is opened: what stands at its end and at each moment.
 use Rattle.std.proofs.Common.{Err, refl, ap}
 use Rattle.host_model.specs.declared.side.Side.TheVariants.{Left, Right}
+use Rattle.host_model.specs.Hosts.{NowOf}
+use Rattle.host_model.proofs.Meeting.{started}
 use Rattle.client_store.proofs.Judging.{opened_judges, unopened_judges, open_finds}
 use Rattle.client_store.proofs.NewStores.{below_twice}
-use Rattle.client_store.proofs.Openings.{phases, phases_left, reading_phases, opened, unopened, unmigrated}
+use Rattle.client_store.proofs.Openings.{phases, phases_left, left_still, reading_phases, opened, unopened, unmigrated}
 use Rattle.client_store.proofs.state_store.StateStore.open.Goals as goal
 
 -- ---- it is open
@@ -28,7 +30,8 @@ returns-in-Ok-migrated-clause-phases g c tells =
     let right = g.met.H.Host.read_is_image mid Right tells in
     let text = (first.each (h.reads mid Left) (h.reads mid Right) (h.said mid) (g.met.H.Host.counts_now mid (h.moment start) (h.reads mid Left) (h.reads mid Right) (h.said mid) tells first.later (left, right, refl))).1 in
     phases h start found c.migrated.ensures.found (opening.rows tells) (opening.place tells) mid c.migrated.new.host text (opening.phases tells) (opening.opened tells) (opening.gate tells) c.migrated.ensures.unneeded
-    (c.migrated.ensures.any_moment tells) (c.migrated.ensures.below tells) _
+    (c.migrated.ensures.any_moment tells) (c.migrated.ensures.below tells) (opening.left tells (λ is. absurd cc))
+    (started h.moment h.might mid (NowOf h mid) (λ l r u met. g.met.H.Host.only_now mid l r u tells met)) _
 
 pub returns-in-Ok-migrated-clause-ends : goal.returns-in-Ok-migrated-clause-ends
 returns-in-Ok-migrated-clause-ends g c tells =
@@ -61,6 +64,9 @@ returns-in-Ok-migrated-clause-text g c tells =
     let run = returns-in-Ok-migrated-clause-below g c tells in
     (run.each l r (h.said new) (g.met.H.Host.counts_now new (h.moment start) l r (h.said new) tells run.later (g.met.H.Host.read_is_image new Left tells, g.met.H.Host.read_is_image new Right tells, refl))).1
 
+pub returns-in-Ok-migrated-clause-only_read : goal.returns-in-Ok-migrated-clause-only_read
+returns-in-Ok-migrated-clause-only_read g c tells none = let rows = c.in-Ok.ensures.rows tells in absurd (none rows.0 rows.1)
+
 -- ---- it is not migrated
 
 pub returns-in-Err-migrated-clause-below : goal.returns-in-Err-migrated-clause-below
@@ -83,7 +89,8 @@ returns-in-Err-migrated-clause-phases g c tells =
     let right = g.met.H.Host.read_is_image mid Right tells in
     let text = (first.each (h.reads mid Left) (h.reads mid Right) (h.said mid) (g.met.H.Host.counts_now mid (h.moment start) (h.reads mid Left) (h.reads mid Right) (h.said mid) tells first.later (left, right, refl))).1 in
     phases h start found c.migrated.ensures.found (opening.rows tells) (opening.place tells) mid c.migrated.new.host text (opening.phases tells) (opening.opened tells) (opening.gate tells) c.migrated.ensures.unneeded
-    (c.migrated.ensures.any_moment tells) (c.migrated.ensures.below tells) _
+    (c.migrated.ensures.any_moment tells) (c.migrated.ensures.below tells) (opening.left tells (λ is. absurd cc))
+    (started h.moment h.might mid (NowOf h mid) (λ l r u met. g.met.H.Host.only_now mid l r u tells met)) _
 
 pub returns-in-Err-migrated-clause-ends : goal.returns-in-Err-migrated-clause-ends
 returns-in-Err-migrated-clause-ends g c tells =
@@ -116,10 +123,22 @@ returns-in-Err-migrated-clause-text g c tells =
     let run = returns-in-Err-migrated-clause-below g c tells in
     (run.each l r (h.said new) (g.met.H.Host.counts_now new (h.moment start) l r (h.said new) tells run.later (g.met.H.Host.read_is_image new Left tells, g.met.H.Host.read_is_image new Right tells, refl))).1
 
+pub returns-in-Err-migrated-clause-only_read : goal.returns-in-Err-migrated-clause-only_read
+returns-in-Err-migrated-clause-only_read g c tells none = let rows = c.in-Ok.ensures.rows tells in absurd (none rows.0 rows.1)
+
 -- ---- nothing is found
 
 pub returns-in-Err-clause-phases : goal.returns-in-Err-clause-phases
-returns-in-Err-clause-phases g c tells = reading_phases g.H.Host c.args.host.now c.open.new.host c.in-Err.fault (c.in-Err.ensures.phases tells)
+returns-in-Err-clause-phases g c tells =
+    let h = g.H.Host in
+    let start = c.args.host.now in
+    let mid = c.open.new.host in
+    let first = c.open.ensures.below tells in
+    let left = g.met.H.Host.read_is_image mid Left tells in
+    let right = g.met.H.Host.read_is_image mid Right tells in
+    let text = (first.each (h.reads mid Left) (h.reads mid Right) (h.said mid) (g.met.H.Host.counts_now mid (h.moment start) (h.reads mid Left) (h.reads mid Right) (h.said mid) tells first.later (left, right, refl))).1 in
+    reading_phases h start mid c.in-Err.fault (c.in-Err.ensures.phases tells) (λ sound. c.in-Err.ensures.left tells (λ is. sound (let same = is in cc)))
+    (λ is. left_still h start mid text is (started h.moment h.might mid (NowOf h mid) (λ l r u met. g.met.H.Host.only_now mid l r u tells met)))
 
 pub returns-in-Err-clause-below : goal.returns-in-Err-clause-below
 returns-in-Err-clause-below g c tells = c.open.ensures.below tells
