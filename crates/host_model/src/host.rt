@@ -123,6 +123,7 @@ pub trait Host {
             → IsSaying (images self.new) (said self.old) bytes.now l r u → might self.new t l r u) }
         ensures cost { tells → written self.new ≡ written self.old }
         ensures cause { HasCause (say_faults self.old) (say_faults self.new) result }
+        ensures quiet { OnOk result (say_faults self.new ≡ say_faults self.old) }
         ensures fits { say_faults self.new < 2 ^ 64 }
         ensures disk_faults { disk_faults self.new ≡ disk_faults self.old };
 

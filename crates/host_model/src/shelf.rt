@@ -44,6 +44,7 @@ pub trait Shelf {
         ensures later { faults self.old ≤ faults self.new }
         ensures fits { faults self.new < 2 ^ 64 }
         ensures failed { result ≡ ShelfAnswer.Failed → Rose (faults self.old) (faults self.new) }
+        ensures quiet { ¬ (result ≡ ShelfAnswer.Failed) → faults self.new ≡ faults self.old }
         ensures asked { asks self.old name.now self.new };
 }
 

@@ -32,6 +32,7 @@ pub trait Source {
         ensures end { tells → IfOk result (λ n. 0 < length into.old → (n ≡ 0) ↔ (left self.old ≡ [])) }
         ensures kept { tells → OnErr result (left self.new ≡ left self.old) }
         ensures cause { HasCause (faults self.old) (faults self.new) result }
+        ensures quiet { OnOk result (faults self.new ≡ faults self.old) }
         ensures fits { faults self.new < 2 ^ 64 };
 }
 

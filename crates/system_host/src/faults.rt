@@ -94,6 +94,7 @@ impl Faults {
         ensures ok { IfOk result (λ value. answer ≡ Ok value) }
         ensures err { OnErr result (IsErr answer) }
         ensures same { OnOk result (self.new ≡ self.old) }
+        ensures quiet { OnOk result (self.new.count ≡ self.old.count) }
         ensures counted { OnErr result (self.new.count ≡ min (self.old.count + 1) (2 ^ 64 - 1)) }
         ensures kept { IfErr answer (λ error. self.new.cause ≡ Some (record { place = place; error = error })) }
         ensures cause { HasCause self.old.count self.new.count result }

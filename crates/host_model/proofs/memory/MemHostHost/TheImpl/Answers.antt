@@ -95,6 +95,7 @@ say-tells c =
           (call.say_parts old.log bytes);
       cost = λ tells. call.after_either c.result new past fault (λ (h : MemHost). bytes_written h.log.past ≡ bytes_written old.log.past) ok err (call.say_cost old.log bytes) refl;
       cause = record { later = c.ensures.later; failed = call.after_err c.result new fault (λ (h : MemHost). Rose old.say_faults h.say_faults) err (omega arith) };
+      quiet = call.after_ok c.result new past (λ (h : MemHost). h.say_faults ≡ old.say_faults) ok refl;
       fits = c.ensures.fits;
       disk_faults = call.after_either c.result new past fault (λ (h : MemHost). h.disk_faults ≡ old.disk_faults) ok err refl refl;
     }

@@ -16,5 +16,6 @@ read-tells c =
       end = λ tells. c.ensures.end;
       kept = λ tells. on_err_weaker c.result (λ is. ap (λ (s : MemSource). s.left) is.0) c.ensures.err;
       cause = record { later = c.ensures.later; failed = on_err_weaker c.result (λ is. omega (arith, ap (λ (s : MemSource). s.faults) is.0)) c.ensures.err };
+      quiet = IfOk-weaker c.result _ (λ (n : ℕ). new.faults ≡ old.faults) (λ n is. ap (λ (s : MemSource). s.faults) is) c.ensures.ok;
       fits = c.ensures.fits;
     }
