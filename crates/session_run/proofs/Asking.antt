@@ -1,5 +1,5 @@
 -- Which files lines ask for, line by line.
-use Rattle.std.proofs.Common.{◌≡◌, inl, inr, ℕ, ◌+◌, List, [], ◌∷◌, ◌++◌, take, refl, sym, ◌∙◌, ap, subst, append_assoc, Ok}
+use Rattle.std.proofs.Common.{◌≡◌, inl, inr, ℕ, zero, suc, ◌+◌, List, [], ◌∷◌, ◌++◌, take, refl, sym, ◌∙◌, ap, subst, append_assoc, Ok}
 use Rattle.std.proofs.lemmas.List.{append-nil}
 use Rattle.host_model.specs.ShelfLaws.{reached_then}
 use Rattle.host_model.specs.declared.shelf.Shelf.{Ghosts}
@@ -14,6 +14,16 @@ module _ (line : List ℕ) (last : List (List ℕ)) (asks : LineAsksFor line las
   asks_more (first ∷ lines) names (here, rest, first_asks, rest_asks, both) =
       (here, rest ++ last, first_asks, asks_more lines rest rest_asks, ap (λ (n : List (List ℕ)). n ++ last) both ∙ append_assoc here rest last)
 
+asks_none : (lines : List (List ℕ)) → LinesAskFor lines []
+asks_none [] = refl
+asks_none (line ∷ lines) = ([], [], inl refl, asks_none lines, refl)
+
+-- what the first lines ask for, all of them do
+asks_all : (n : ℕ) (lines names : List (List ℕ)) → LinesAskFor (take n lines) names → LinesAskFor lines names
+asks_all zero lines names none = subst (LinesAskFor lines) (sym none) (asks_none lines)
+asks_all (suc n) [] names none = none
+asks_all (suc n) (line ∷ lines) names (first, rest, here, later, both) = (first, rest, here, asks_all n lines rest later, both)
+
 module _ {F : Type 0} (f : Ghosts F) where
   -- a line of which no command is done
   pub line_unasked : (line : List ℕ) (shelf : F) → LineAsked f line shelf shelf
@@ -25,6 +35,12 @@ module _ {F : Type 0} (f : Ghosts F) where
 
   pub none_asked : (shelf : F) → LinesAsked f shelf shelf []
   none_asked shelf = record { names = []; for_lines = refl; reached = refl }
+
+  pub lines_unasked : (lines : List (List ℕ)) (shelf : F) → LinesAsked f shelf shelf lines
+  lines_unasked lines shelf = record { names = []; for_lines = asks_none lines; reached = refl }
+
+  pub asked_all : (old new : F) (n : ℕ) (lines : List (List ℕ)) → LinesAsked f old new (take n lines) → LinesAsked f old new lines
+  asked_all old new n lines asked = record { names = asked.names; for_lines = asks_all n lines asked.names asked.for_lines; reached = asked.reached }
 
   -- a line more
   pub asked_more : (old mid new : F) (lines : List (List ℕ)) (i : ℕ) (line : List ℕ) → take (i + 1) lines ≡ take i lines ++ line ∷ [] → LinesAsked f old mid (take i lines) → LineAsked f line mid new → LinesAsked f old new (take (i + 1) lines)

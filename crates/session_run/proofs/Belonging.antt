@@ -14,7 +14,7 @@ use Rattle.session_run.specs.declared.script.ScriptFault.{ScriptFault}
 use Rattle.session_run.specs.declared.script.ScriptFault.TheVariants as script
 use Rattle.session_run.specs.declared.status.RunStatus.{RunStatus}
 use Rattle.session_run.specs.declared.status.RunStatus.TheVariants as status
-use Rattle.session_run.specs.Causes.{BelongsTo, IsUnreached}
+use Rattle.session_run.specs.Causes.{BelongsTo, IsUnreached, OpensNone}
 use Rattle.session_run.specs.Finds.{RunFinds, MakingFinds, RunLeaves, MakingLeaves}
 use Rattle.session_run.specs.Making.{MakingEnds}
 use Rattle.session_run.specs.Statuses.{of_script, of_store, of_making, of_run, of_drill, IsOfLines, IsOfRun, IsOfMaking}
@@ -25,6 +25,13 @@ lines_are_of run.ShelfFault = tt
 lines_are_of run.DiskFault = tt
 lines_are_of run.SayFault = tt
 lines_are_of run.OutOfMemory = tt
+
+-- they are done over an open store
+pub lines_open : (fault : RunFault) → OpensNone (of_run fault) → ⊥
+lines_open run.ShelfFault none = none
+lines_open run.DiskFault none = none
+lines_open run.SayFault none = none
+lines_open run.OutOfMemory none = none
 
 pub store_is_of : (fault : ClientFault) → IsOfLines (of_store fault)
 store_is_of client.NoStore = tt

@@ -56,21 +56,21 @@ module _ {H : Type 0} (h : Ghosts H) (start count now : ℕ) (at : Setting) (lin
         lines_end h there (drill_summary start count now) old asked mid status (subst (λ (s : Start). RunEnds h asked (drill_fresh now ∷ []) s mid status) here_is ends) not_done short source shelf
 
     -- all lines are done and answered, and the summary of their last state is said
-    module _ (mid new : H) (last : ClientState) (last_is : last ≡ last_state here) (all : EndsWhole h here mid) where
+    module _ (asked : List (List ℕ) → Type 0) (mid new : H) (last : ClientState) (last_is : last ≡ last_state here) (all : EndsWhole h asked here mid) where
       pub summary_is : counts.summary start count last.enrolment ≡ drill_summary start count now
       summary_is = ap (λ (s : ClientState). counts.summary start count s.enrolment) (last_is ∙ ap last_state here_is)
 
-      pub whole : EndsWhole h there mid
-      whole = subst (λ (s : Start). EndsWhole h s mid) here_is all
+      pub whole : EndsWhole h asked there mid
+      whole = subst (λ (s : Start). EndsWhole h asked s mid) here_is all
 
       pub said_ends : ((side : Side) → KeepsSide h.reads h.images side mid new) → h.written new ≡ h.written mid → (status : RunStatus) → SummaryEnds (h.said mid) (counts.summary start count last.enrolment) (h.said new) status → ScriptEnds h there (drill_summary start count now) new status
       said_ends still count_same status ends =
-          summary_ends h there (drill_summary start count now) old mid new whole still count_same status
+          summary_ends h there (drill_summary start count now) old asked mid new whole still count_same status
           (subst (λ (text : List ℕ). SummaryEnds (h.said mid) text (h.said new) status) summary_is ends)
 
       pub said_met : MeetsAll h old mid (AfterPrefix here) → MeetsAll h mid new (IsSaying (h.images mid) (h.said mid) (counts.summary start count last.enrolment)) → MeetsAll h old new (AfterReady there (drill_summary start count now))
       said_met run second =
-          summary_met h there (drill_summary start count now) old mid new whole (subst (λ (s : Start). MeetsAll h old mid (AfterPrefix s)) here_is run)
+          summary_met h there (drill_summary start count now) old asked mid new whole (subst (λ (s : Start). MeetsAll h old mid (AfterPrefix s)) here_is run)
           (subst (λ (text : List ℕ). MeetsAll h mid new (IsSaying (h.images mid) (h.said mid) text)) summary_is second)
 
     -- not all lines are

@@ -1,11 +1,12 @@
 -- The script of a drill is run, and then the summary is said.
-use Rattle.std.proofs.Common.{◌≡◌, inl, inr, ℕ, ◌≤◌, ◌+◌, List, [], ◌∷◌, ◌++◌, take, refl, ◌∙◌, ap, subst}
+use Rattle.std.proofs.Common.{◌≡◌, inl, inr, ℕ, ◌≤◌, ◌+◌, List, [], ◌∷◌, ◌++◌, take, refl, ◌∙◌, ap, subst, arith}
 use Rattle.host_model.specs.declared.side.Side.{Side}
 use Rattle.host_model.specs.declared.side.Side.TheVariants.{Left, Right}
 use Rattle.host_model.specs.declared.host.Host.{Ghosts}
 use Rattle.host_model.specs.Hosts.{MeetsAll, NowOf}
 use Rattle.host_model.specs.Moments.{IsSaying, KeepsSide}
 use Rattle.host_model.proofs.Meeting.{then_met, met_weaker}
+use Rattle.pair_store.specs.Moments.{IsOpening}
 use Rattle.pair_store.specs.Repair.{repair_cost}
 use Rattle.enrol_states.specs.Statuses.{last_moment}
 use Rattle.enrol_states.proofs.Fresh.{fresh-consistent}
@@ -20,10 +21,10 @@ use Rattle.client_store.proofs.Holding.{kept_said}
 use Rattle.session_run.specs.declared.status.RunStatus.{RunStatus}
 use Rattle.session_run.specs.declared.status.RunStatus.TheVariants.{Done, Usage, ScriptTooLong, NoStore, AlreadyStore, BadStore, SourceFault, ShelfFault, DiskFault, SayFault, OutOfMemory}
 use Rattle.session_run.specs.Drills.{drill_bytes, drill_fresh, drill_ready, drill_setting, drill_start, drill_summary, AfterReady, DuringDrill}
-use Rattle.session_run.specs.DrillEnds.{SummaryEnds, ScriptEnds, ReadyEnds, DrillEnds, Drilled}
+use Rattle.session_run.specs.DrillEnds.{SummaryEnds, ScriptEnds, ReadyEnds, Drilled}
 use Rattle.session_run.specs.Ends.{EndsWhole, RunEnds}
 use Rattle.session_run.specs.Finds.{MakingFinds, MakingLeaves, MakingFound}
-use Rattle.session_run.specs.Making.{DuringMaking, MakingEnds, Made}
+use Rattle.session_run.specs.Making.{DuringMaking, Made}
 use Rattle.session_run.specs.Moments.{AfterPrefix}
 use Rattle.session_run.specs.Runs.{ServesValues}
 use Rattle.session_run.specs.Starts.{Start, last_state}
@@ -50,10 +51,13 @@ module _ {H : Type 0} (h : Ghosts H) (start : Start) (summary : List ℕ) (old :
   -- a run that did not do all ends a drill
   pub lines_end : (asked : List (List ℕ) → Type 0) (new : H) (status : RunStatus) → RunEnds h asked (start.state ∷ []) start new status → (status ≡ Done → ⊥) → (status ≡ ScriptTooLong → ⊥) → (status ≡ SourceFault → ⊥) → (status ≡ ShelfFault → ⊥) → ScriptEnds h start summary new status
   lines_end asked new Done ends not_done short source shelf = absurd (not_done refl)
-  lines_end asked new OutOfMemory (inl ends) not_done short source shelf = inl ends
-  lines_end asked new OutOfMemory (inr stays) not_done short source shelf = inr (inl stays)
-  lines_end asked new DiskFault ends not_done short source shelf = ends
-  lines_end asked new SayFault ends not_done short source shelf = inl ends
+  lines_end asked new OutOfMemory (inl ends) not_done short source shelf = inl (record { k = ends.k; within = ends.within; kept = ends.kept; text = ends.text; most = ends.most; asks = tt })
+  lines_end asked new OutOfMemory (inr stays) not_done short source shelf = inr (inl (record { kept = stays.kept; text = stays.text; most = stays.most; asks = tt }))
+  lines_end asked new DiskFault (inl ends) not_done short source shelf =
+      inl (record { k = ends.k; within = ends.within; changes = ends.changes; kept = ends.kept; text = ends.text; most = ends.most; asks = tt })
+  lines_end asked new DiskFault (inr stays) not_done short source shelf = inr (record { kept = stays.kept; text = stays.text; most = stays.most; asks = tt })
+  lines_end asked new SayFault ends not_done short source shelf =
+      inl (record { k = ends.k; within = ends.within; kept = ends.kept; part = ends.part; rest = ends.rest; both = ends.both; some = ends.some; text = ends.text; most = ends.most; asks = tt })
   lines_end asked new ShelfFault ends not_done short source shelf = absurd (shelf refl)
   lines_end asked new ScriptTooLong ends not_done short source shelf = absurd (short refl)
   lines_end asked new SourceFault ends not_done short source shelf = absurd (source refl)
@@ -62,7 +66,7 @@ module _ {H : Type 0} (h : Ghosts H) (start : Start) (summary : List ℕ) (old :
   lines_end asked new AlreadyStore ends not_done short source shelf = absurd ends
   lines_end asked new BadStore ends not_done short source shelf = absurd ends
 
-  module _ (mid new : H) (whole : EndsWhole h start mid) where
+  module _ (asked : List (List ℕ) → Type 0) (mid new : H) (whole : EndsWhole h asked start mid) where
     -- all lines are done, and then the summary is said
     pub summary_met : MeetsAll h old mid (AfterPrefix start) → MeetsAll h mid new (IsSaying (h.images mid) (h.said mid) summary) → MeetsAll h old new (AfterReady start summary)
     summary_met first second =
@@ -82,7 +86,7 @@ module _ {H : Type 0} (h : Ghosts H) (start : Start) (summary : List ℕ) (old :
       text = ends ∙ ap (λ (d : List ℕ). d ++ take n summary) whole.text;
       cost = written ∙ whole.cost;
     })
-    summary_ends still written OutOfMemory ends = inr (inr (record { kept = kept_said h mid new still (last_state start) whole.kept; text = ends ∙ whole.text; cost = written ∙ whole.cost }))
+    summary_ends still written OutOfMemory ends = inr (inr (record { kept = kept_said h mid new still (last_state start) whole.kept; text = ends ∙ whole.text; cost = written ∙ whole.cost; asks = tt }))
     summary_ends still written DiskFault ends = absurd ends
     summary_ends still written ShelfFault ends = absurd ends
     summary_ends still written ScriptTooLong ends = absurd ends
@@ -93,19 +97,6 @@ module _ {H : Type 0} (h : Ghosts H) (start : Start) (summary : List ℕ) (old :
     summary_ends still written BadStore ends = absurd ends
 
 module _ {H : Type 0} (h : Ghosts H) (start count now : ℕ) where
-  ready_ends : (old new : H) (status : RunStatus) → ReadyEnds h start count now old new status → DrillEnds h start count now old new status
-  ready_ends old new Done ends = ends
-  ready_ends old new OutOfMemory ends = inr ends
-  ready_ends old new DiskFault ends = inr ends
-  ready_ends old new SayFault ends = inr ends
-  ready_ends old new ShelfFault ends = absurd ends.ends
-  ready_ends old new ScriptTooLong ends = absurd ends.ends
-  ready_ends old new SourceFault ends = absurd ends.ends
-  ready_ends old new Usage ends = absurd ends.ends
-  ready_ends old new NoStore ends = absurd ends.ends
-  ready_ends old new AlreadyStore ends = absurd ends.ends
-  ready_ends old new BadStore ends = absurd ends.ends
-
   ready_finds : (old new : H) (l r : List ℕ) (status : RunStatus) → ReadyEnds h start count now old new status → IsAbsent l r → MakingFinds l r status
   ready_finds old new l r Done ends absent = absent
   ready_finds old new l r OutOfMemory ends absent = tt
@@ -151,7 +142,7 @@ module _ {H : Type 0} (h : Ghosts H) (start count now : ℕ) where
         record {
           moments = then_met h.moment h.might old mid new (DuringMaking (h.said old) (drill_fresh now) drill_ready) (after_ready (h.said old ++ drill_ready)) (DuringDrill start count now (h.said old)) made.moments
               (subst (λ (u : List ℕ). MeetsAll h mid new (after_ready u)) made.ends.1 during) (λ l r u met. inl met) (λ l r u met. inr met);
-          ends = ready_ends old new status there;
+          ends = inr there;
           left = λ states all. absurd (among_not_absent (h.reads old Left) (h.reads old Right) states (all (h.reads old Left) (h.reads old Right) left right) absent);
           values = drill_values start count now (h.said old ++ drill_ready) moment;
           below = below_then h old mid new mid_left mid_right made.below now_below below;
@@ -159,23 +150,10 @@ module _ {H : Type 0} (h : Ghosts H) (start count now : ℕ) where
 
   -- the store is not made, or it is not said to be ready
   module _ (old new : H) where
-    unmade_ends : (status : RunStatus) → MakingEnds h (drill_fresh now) drill_ready (h.said old) new status → (status ≡ Done → ⊥) → DrillEnds h start count now old new status
-    unmade_ends Done ends not_done = absurd (not_done refl)
-    unmade_ends SayFault ends not_done = inl ends
-    unmade_ends AlreadyStore ends not_done = ends
-    unmade_ends BadStore ends not_done = ends
-    unmade_ends DiskFault ends not_done = inl ends
-    unmade_ends OutOfMemory ends not_done = inl ends
-    unmade_ends Usage ends not_done = absurd ends
-    unmade_ends ScriptTooLong ends not_done = absurd ends
-    unmade_ends NoStore ends not_done = absurd ends
-    unmade_ends SourceFault ends not_done = absurd ends
-    unmade_ends ShelfFault ends not_done = absurd ends
-
     pub drilled_unmade : now ≤ last_moment → (status : RunStatus) → Made h drill_bytes now old new status → (status ≡ Done → ⊥) → Drilled h start count now old new status
     drilled_unmade moment status made not_done = record {
       moments = met_weaker h.moment h.might old new _ (DuringDrill start count now (h.said old)) made.moments (λ l r u met. inl met);
-      ends = unmade_ends status made.ends not_done;
+      ends = inl (not_done, made);
       left = made.left;
       values = drill_values start count now (h.said old ++ drill_ready) moment;
       below = made.below;
@@ -185,7 +163,19 @@ module _ {H : Type 0} (h : Ghosts H) (start count now : ℕ) where
   pub drilled_unbegun : (old : H) → now ≤ last_moment → MeetsAll h old old (NowOf h old) → Drilled h start count now old old OutOfMemory
   drilled_unbegun old moment run = record {
     moments = met_weaker h.moment h.might old old _ (DuringDrill start count now (h.said old)) run (λ l r u met. inl (inl met.2));
-    ends = inl refl;
+    ends = inl (
+      λ is. absurd cc,
+      record {
+        moments = met_weaker h.moment h.might old old _ (DuringMaking (h.said old) (drill_fresh now) drill_ready) run (λ l r u met. inl met.2);
+        ends = refl;
+        left = λ states all. met_weaker h.moment h.might old old _ (IsLeftAmong (h.said old) states) run (λ l r u met. (all l r met.0 met.1, met.2));
+        memory = λ is. record { moments = met_weaker h.moment h.might old old _ (IsOpening h old) run (λ l r u met. inl met); text = refl; most = omega arith };
+        spelled = λ is. absurd cc;
+        cost = λ is. absurd cc;
+        most = λ absent. omega arith;
+        below = met_weaker h.moment h.might old old _ (IsBelowMark h old) run (λ l r u met. at_each h old old l r met.0 met.1);
+      },
+    );
     left = λ states all. met_weaker h.moment h.might old old _ (IsLeftAmong (h.said old) states) run (λ l r u met. (all l r met.0 met.1, met.2));
     values = drill_values start count now (h.said old ++ drill_ready) moment;
     below = met_weaker h.moment h.might old old _ (IsBelowMark h old) run (λ l r u met. at_each h old old l r met.0 met.1);

@@ -1,5 +1,6 @@
 -- What stands when a line, the lines of a run or a run has ended.
-use Rattle.std.proofs.Common.{◌≡◌, inl, inr, ℕ, ◌<◌, ◌≤◌, ◌+◌, List, [], ◌∷◌, ◌++◌, length, take, drop, refl, sym, ◌∙◌, ap, subst, Some, Result, Ok, Err, IsErrAnd}
+use Rattle.std.proofs.Common.{◌≡◌, ◌≢◌, inl, inr, ℕ, ◌<◌, ◌≤◌, ◌+◌, List, [], ◌∷◌, ◌++◌, length, take, drop, refl, sym, ◌∙◌, ap, subst, Some, Result, Ok, Err, IsErrAnd}
+use Rattle.std.proofs.lemmas.List.{take-append-drop}
 use Rattle.std.specs.Prelude.{slice_get}
 use Rattle.host_model.specs.declared.host.Host.{Ghosts}
 use Rattle.client_state.specs.declared.client_state.ClientState.{ClientState}
@@ -28,12 +29,12 @@ err_is (Err f) fault and = ap Err and
 
 module _ {H : Type 0} (h : Ghosts H) (start new : H) (s t : ClientState) (text : List ℕ) where
   -- the write has failed
-  pub written_ends : (result : Result (Unit {0}) RunFault) → IsErrAnd result (λ f. f ≡ run.DiskFault) → AllKeptEither h new s t → h.said new ≡ h.said start → LineEnds h s t text (h.said start) new result
-  written_ends result and either said = subst (λ (r : Result (Unit {0}) RunFault). LineEnds h s t text (h.said start) new r) (sym (err_is result run.DiskFault and)) (either, said)
+  pub written_ends : (result : Result (Unit {0}) RunFault) → IsErrAnd result (λ f. f ≡ run.DiskFault) → s ≢ t → AllKeptEither h new s t → h.said new ≡ h.said start → LineEnds h s t text (h.said start) new result
+  written_ends result and changed either said = subst (λ (r : Result (Unit {0}) RunFault). LineEnds h s t text (h.said start) new r) (sym (err_is result run.DiskFault and)) (changed, either, said)
 
   -- the output has failed
-  pub said_ends : (result : Result (Unit {0}) RunFault) → IsErrAnd result (λ f. f ≡ run.SayFault) → AllKept h new t → (n : ℕ) × (h.said new ≡ h.said start ++ take n text) → LineEnds h s t text (h.said start) new result
-  said_ends result and kept part_said = subst (λ (r : Result (Unit {0}) RunFault). LineEnds h s t text (h.said start) new r) (sym (err_is result run.SayFault and)) (kept, part_said)
+  pub said_ends : (result : Result (Unit {0}) RunFault) → IsErrAnd result (λ f. f ≡ run.SayFault) → text ≢ [] → AllKept h new t → (n : ℕ) × (h.said new ≡ h.said start ++ take n text) → LineEnds h s t text (h.said start) new result
+  said_ends result and some kept part_said = subst (λ (r : Result (Unit {0}) RunFault). LineEnds h s t text (h.said start) new r) (sym (err_is result run.SayFault and)) (some, kept, part_said)
 
 module _ {H : Type 0} (h : Ghosts H) (at : Setting) (s : ClientState) (lines : List (List ℕ)) (i : ℕ) (line : List ℕ) (within : i < length lines) (more : take (i + 1) lines ≡ take i lines ++ line ∷ [])
     (start mid new : H) (now : RunState) (is : now ≡ run_at at s lines i) (said : h.said mid ≡ h.said start ++ out at s lines i) where
@@ -43,30 +44,34 @@ module _ {H : Type 0} (h : Ghosts H) (at : Setting) (s : ClientState) (lines : L
   next_is : (run_after at now line).state ≡ after at s lines (i + 1)
   next_is = ap (λ (run : RunState). (run_after at run line).state) is ∙ sym (after-more at s lines i line within more)
 
-  abbrev before : (place written : ℕ) → h.written new ≤ written + all_bytes at place (begun s) (take (i + 1) lines) → AllKept h new now.state → h.said new ≡ h.said mid → EndsBefore h (begin at s place lines (h.said start) written) new
-  before place written most kept text = record { k = i; within = within; kept = subst (AllKept h new) now_is kept; text = text ∙ said; most = most }
+  abbrev before : (asked : List (List ℕ) → Type 0) (place written : ℕ) → asked (take (i + 1) lines) → h.written new ≤ written + all_bytes at place (begun s) (take (i + 1) lines) → AllKept h new now.state → h.said new ≡ h.said mid → EndsBefore h asked (begin at s place lines (h.said start) written) new
+  before asked place written asks most kept text = record { k = i; within = within; kept = subst (AllKept h new) now_is kept; text = text ∙ said; most = most; asks = asks }
 
   -- a line that isn't done and answered ends the run
   pub line_ends : (asked : List (List ℕ) → Type 0) (place written : ℕ) (fault : RunFault) → asked (take (i + 1) lines) → h.written new ≤ written + all_bytes at place (begun s) (take (i + 1) lines) → slice_get lines i ≡ Some line → (fault ≡ run.ShelfFault → NamesFile line)
       → LineEnds {T = Unit {0}} h now.state (run_after at now line).state (answer at now line) (h.said mid) new (Err fault) → LinesEnd {T = Unit {0}} h asked (begin at s place lines (h.said start) written) new (Err fault)
-  line_ends asked place written run.ShelfFault none_after most there named ends = record { before = before place written most ends.0 ends.1; line = line; is_next = there; names = named refl; none_after = none_after }
-  line_ends asked place written run.OutOfMemory none_after most there named ends = before place written most ends.0 ends.1
-  line_ends asked place written run.DiskFault none_after most there named ends = record {
+  line_ends asked place written run.ShelfFault asks most there named ends = record { before = before asked place written asks most ends.0 ends.1; line = line; is_next = there; names = named refl }
+  line_ends asked place written run.OutOfMemory asks most there named ends = before asked place written asks most ends.0 ends.1
+  line_ends asked place written run.DiskFault asks most there named (changed, either, text) = record {
     k = i;
     within = within;
-    kept = subst (λ (x : ClientState). AllKeptEither h new x (after at s lines (i + 1))) now_is (subst (λ (x : ClientState). AllKeptEither h new now.state x) next_is ends.0);
-    text = ends.1 ∙ said;
+    changes = λ same. changed (now_is ∙ same ∙ sym next_is);
+    kept = subst (λ (x : ClientState). AllKeptEither h new x (after at s lines (i + 1))) now_is (subst (λ (x : ClientState). AllKeptEither h new now.state x) next_is either);
+    text = text ∙ said;
     most = most;
+    asks = asks;
   }
-  line_ends asked place written run.SayFault none_after most there named (kept, (n, text)) = record {
+  line_ends asked place written run.SayFault asks most there named (some, kept, (n, text)) = record {
     k = i;
     within = within;
     kept = subst (AllKept h new) next_is kept;
     part = take n (answer at (run_at at s lines i) line);
     rest = drop n (answer at (run_at at s lines i) line);
     both = part at s lines i line within more n;
+    some = λ none. some (ap (λ (x : RunState). answer at x line) is ∙ sym (take-append-drop n (answer at (run_at at s lines i) line)) ∙ none);
     text = text ∙ ap (λ (u : List ℕ). u ++ take n (answer at now line)) said ∙ ap (λ (x : RunState). h.said start ++ out at s lines i ++ take n (answer at x line)) is;
     most = most;
+    asks = asks;
   }
 
 -- lines that end a run
@@ -77,7 +82,7 @@ run_ends h asked states start new run.DiskFault ends = inl ends
 run_ends h asked states start new run.SayFault ends = ends
 
 -- a run that ended before the pair was judged
-pub unbegun_ends : {H : Type 0} (h : Ghosts H) (asked : List (List ℕ) → Type 0) (states : List ClientState) (start : Start) (new : H) (status : RunStatus) → EndedBefore status → StaysAmong h states start new → RunEnds h asked states start new status
+pub unbegun_ends : {H : Type 0} (h : Ghosts H) (asked : List (List ℕ) → Type 0) (states : List ClientState) (start : Start) (new : H) (status : RunStatus) → EndedBefore status → StaysAmong h asked states start new → RunEnds h asked states start new status
 unbegun_ends h asked states start new status (inl is) stays = subst (RunEnds h asked states start new) (sym is) stays
 unbegun_ends h asked states start new status (inr (inl is)) stays = subst (RunEnds h asked states start new) (sym is) stays
 unbegun_ends h asked states start new status (inr (inr (inl is))) stays = subst (RunEnds h asked states start new) (sym is) (inr stays)

@@ -1,17 +1,23 @@
 -- What a run leaves is a link of a chain, and the premise of the next run.
-use Rattle.std.proofs.Common.{◌≡◌, ◌∙◌, inl, inr, ⊎_elim, ℕ, ◌+◌, List, [], ◌∷◌, refl}
+use Rattle.std.proofs.Common.{◌≡◌, ◌∙◌, inl, inr, ⊎_elim, ℕ, List, [], ◌∷◌, refl, sym, subst, Result, Ok, Err}
+use Rattle.std.specs.Prelude.{IsErrOf}
 use Rattle.host_model.specs.declared.side.Side.TheVariants.{Left, Right}
 use Rattle.host_model.specs.declared.host.Host.{Ghosts}
 use Rattle.host_model.specs.Hosts.{NowOf}
 use Rattle.client_state.specs.declared.client_state.ClientState.{ClientState}
+use Rattle.client_core.specs.declared.client.Client.{Client}
+use Rattle.client_core.specs.Clients.{state_of, HasGateOn}
 use Rattle.client_store.specs.OpenStore.{AllKept, AllKeptAmong}
 use Rattle.client_store.specs.Store.{KeptFor, KeptAmong}
+use Rattle.session_run.specs.declared.faults.RunFault.{RunFault}
+use Rattle.session_run.specs.declared.faults.RunFault.TheVariants as run
 use Rattle.session_run.specs.declared.status.RunStatus.{RunStatus}
-use Rattle.session_run.specs.declared.status.RunStatus.TheVariants.{Done, Usage, ScriptTooLong, NoStore, AlreadyStore, BadStore, SourceFault, ShelfFault, DiskFault, SayFault, OutOfMemory}
+use Rattle.session_run.specs.declared.status.RunStatus.TheVariants.{DiskFault}
 use Rattle.session_run.specs.Chains.{IsLinked, MomentsAreLinks}
-use Rattle.session_run.specs.Ends.{RunEnds}
+use Rattle.session_run.specs.Ends.{LineEnds}
+use Rattle.session_run.specs.Later.{RanSomehow, KeepsSome, MayGoOn}
 use Rattle.session_run.specs.Moments.{AfterPrefix}
-use Rattle.session_run.specs.Starts.{Start, state_at, last_state}
+use Rattle.session_run.specs.Starts.{Start}
 use Rattle.session_run.proofs.Running.{some_at_start}
 
 pub moments_are_links : MomentsAreLinks
@@ -54,35 +60,33 @@ module _ {H : Type 0} (h : Ghosts H) where
 
   -- ---- the next run
 
-  module _ (asked : List (List ℕ) → Type 0) (states : List ClientState) (start : Start) (host : H) where
-    pub next_of : (status : RunStatus) → RunEnds h asked states start host status → (later : List ClientState) × AllKeptAmong h host later
-    next_of Done ends = (last_state start ∷ [], among_one host (last_state start) ends.kept)
-    next_of ShelfFault ends = (state_at start ends.before.k ∷ [], among_one host (state_at start ends.before.k) ends.before.kept)
-    next_of OutOfMemory (inl ends) = (state_at start ends.k ∷ [], among_one host (state_at start ends.k) ends.kept)
-    next_of OutOfMemory (inr stays) = (states, stays.0)
-    next_of DiskFault (inl ends) = (
-      state_at start ends.k ∷ state_at start (ends.k + 1) ∷ [],
-      λ l r left right. ⊎_elim (λ kept. inl kept) (λ kept. inr (inl kept)) (ends.kept l r left right),
-    )
-    next_of DiskFault (inr stays) = (states, stays.0)
-    next_of SayFault ends = (state_at start (ends.k + 1) ∷ [], among_one host (state_at start (ends.k + 1)) ends.kept)
-    next_of ScriptTooLong stays = (states, stays.0)
-    next_of SourceFault stays = (states, stays.0)
-    next_of Usage ends = absurd ends
-    next_of NoStore ends = absurd ends
-    next_of AlreadyStore ends = absurd ends
-    next_of BadStore ends = absurd ends
+  line_keeps : (s t : ClientState) (text said : List ℕ) (host : H) (result : Result (Unit {0}) RunFault) → LineEnds h s t text said host result → KeepsSome h (IsErrOf result run.DiskFault) host
+  line_keeps s t text said host (Ok done) ends = record { some = (t ∷ [], among_one host t ends.0); one = λ not. (t, ends.0) }
+  line_keeps s t text said host (Err run.ShelfFault) ends = record { some = (s ∷ [], among_one host s ends.0); one = λ not. (s, ends.0) }
+  line_keeps s t text said host (Err run.OutOfMemory) ends = record { some = (s ∷ [], among_one host s ends.0); one = λ not. (s, ends.0) }
+  line_keeps s t text said host (Err run.DiskFault) (changed, either, same) = record {
+    some = (s ∷ t ∷ [], λ l r left right. ⊎_elim (λ kept. inl kept) (λ kept. inr (inl kept)) (either l r left right));
+    one = λ not. absurd (not refl);
+  }
+  line_keeps s t text said host (Err run.SayFault) (some, kept, part) = record { some = (t ∷ [], among_one host t kept); one = λ not. (t, kept) }
 
-  pub next_one_of : (asked : List (List ℕ) → Type 0) (s : ClientState) (start : Start) (host : H) (status : RunStatus) → RunEnds h asked (s ∷ []) start host status → ¬ (status ≡ DiskFault) → (t : ClientState) × AllKept h host t
-  next_one_of asked s start host Done ends other = (last_state start, ends.kept)
-  next_one_of asked s start host ShelfFault ends other = (state_at start ends.before.k, ends.before.kept)
-  next_one_of asked s start host OutOfMemory (inl ends) other = (state_at start ends.k, ends.kept)
-  next_one_of asked s start host OutOfMemory (inr stays) other = (s, one_among host s stays.0)
-  next_one_of asked s start host DiskFault ends other = absurd (other refl)
-  next_one_of asked s start host SayFault ends other = (state_at start (ends.k + 1), ends.kept)
-  next_one_of asked s start host ScriptTooLong stays other = (s, one_among host s stays.0)
-  next_one_of asked s start host SourceFault stays other = (s, one_among host s stays.0)
-  next_one_of asked s start host Usage ends other = absurd ends
-  next_one_of asked s start host NoStore ends other = absurd ends
-  next_one_of asked s start host AlreadyStore ends other = absurd ends
-  next_one_of asked s start host BadStore ends other = absurd ends
+  -- a line that isn't done ends the run
+  pub keeps_ended : (client : Client) (old new : H) (fault : RunFault) → HasGateOn h client old → RanSomehow {T = Unit {0}} h client old new (Err fault) → (result : Result (Unit {0}) RunFault) → result ≡ Err fault → KeepsSome h (IsErrOf result run.DiskFault) new
+  keeps_ended client old new fault gate (t, (text, ran)) result is =
+      subst (λ (r : Result (Unit {0}) RunFault). KeepsSome h (IsErrOf r run.DiskFault) new) (sym is) (line_keeps (state_of client) t text (h.said old) new (Err fault) (ran.ends gate))
+
+  -- all lines are done
+  pub keeps_done : (host : H) (failed : Type 0) (s : ClientState) → AllKept h host s → KeepsSome h failed host
+  keeps_done host failed s all = record { some = (s ∷ [], among_one host s all); one = λ not. (s, all) }
+
+  module _ (old new : H) (status : RunStatus) where
+    -- lines were done from what reads gave
+    pub goes_on_from : h.images old Left (h.reads old Left) → h.images old Right (h.reads old Right) → (failed : Type 0) → (failed → status ≡ DiskFault) → ((s : ClientState) → KeptFor (h.reads old Left) (h.reads old Right) s → KeepsSome h failed new) → MayGoOn h old new status
+    goes_on_from left right failed is keeps = record {
+      next = λ states all. let one = the_one (h.reads old Left) (h.reads old Right) states (all (h.reads old Left) (h.reads old Right) left right) in (keeps one.0 one.1).some;
+      next_one = λ s all other. (keeps s (all (h.reads old Left) (h.reads old Right) left right)).one (λ fault. other (is fault));
+    }
+
+    -- no line was done
+    pub goes_on_as : ((states : List ClientState) → AllKeptAmong h old states → AllKeptAmong h new states) → MayGoOn h old new status
+    goes_on_as stays = record { next = λ states all. (states, stays states all); next_one = λ s all other. (s, one_among new s (stays (s ∷ []) (among_one old s all))) }

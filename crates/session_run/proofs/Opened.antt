@@ -37,13 +37,11 @@ use Rattle.session_run.specs.Moments.{AfterPrefix, IsAmong, InPhases}
 use Rattle.session_run.specs.Runs.{LinesRan, StandsAfter, Ran}
 use Rattle.session_run.specs.Starts.{Start, start_on, opened_on}
 use Rattle.session_run.specs.Statuses.{of_store, of_run}
-use Rattle.session_run.specs.Writes.{IsBelowMark}
 use Rattle.session_run.proofs.Ending.{run_ends, unbegun_ends, never_done}
-use Rattle.session_run.proofs.Linking.{the_one, among_one, linked_now, linked_from, next_of, next_one_of}
+use Rattle.session_run.proofs.Linking.{linked_now, linked_from}
 use Rattle.session_run.proofs.Running.{some_at_start, elsewhere}
 use Rattle.session_run.proofs.Starting.{same_start}
 use Rattle.session_run.proofs.Values.{serves_values}
-use Rattle.session_run.proofs.Writing.{below_then, below_unwritten}
 
 -- ---- the store was not opened
 
@@ -200,22 +198,14 @@ module _ {F H : Type 0} (f : shelves.Ghosts F) (h : Ghosts H) (asked : List (Lis
   Did new answered = answered ≡ status.Done → (s : ClientState) → Stood s → (place bytes : ℕ) × OpensWith (h.reads old Left) (h.reads old Right) s place bytes × StandsAfter h (from s place bytes) old new
 
   module _ (new : H) (answered : RunStatus) where
-    ran : ((s : ClientState) (place bytes : ℕ) → WasKept s → Goes s place bytes new answered) → Ends new answered → Did new answered → MeetsAll h old new (IsBelowMark h old) → Ran h asked from old new answered
-    ran goes ends done below = record {
-      crash = λ s place bytes all. crash_in s place bytes new answered (goes s place bytes (all (h.reads old Left) (h.reads old Right) old_left old_right)) all;
-      phases = λ states s place bytes all kept. phases_in s place bytes new states all answered (goes s place bytes kept) kept;
+    ran : ((s : ClientState) (place bytes : ℕ) → WasKept s → Goes s place bytes new answered) → Ends new answered → Did new answered → Ran h asked from old new answered
+    ran goes ends done = record {
+      crash = λ s all. crash_in s 0 0 new answered (goes s 0 0 (all (h.reads old Left) (h.reads old Right) old_left old_right)) all;
+      phases = λ states s all kept. phases_in s 0 0 new states all answered (goes s 0 0 kept) kept;
       ends = ends;
-      links = λ states s place bytes all kept. links_in s place bytes new states all answered (goes s place bytes kept) kept;
-      next = λ states all.
-          let one = the_one (h.reads old Left) (h.reads old Right) states (all (h.reads old Left) (h.reads old Right) old_left old_right) in
-          let ended = ends states one.0 all one.1 in
-          next_of h asked states (from one.0 ended.0 ended.1) new answered ended.3;
-      next_one = λ s all other.
-          let ended = ends (s ∷ []) s (among_one h old s all) (all (h.reads old Left) (h.reads old Right) old_left old_right) in
-          next_one_of h asked s (from s ended.0 ended.1) new answered ended.3 other;
+      links = λ states s all kept. links_in s 0 0 new states all answered (goes s 0 0 kept) kept;
       done = done;
-      values = λ s place bytes stands. serves_values (from s place bytes) moment stands.sound;
-      below = below;
+      values = λ s stands. serves_values (from s 0 0) moment stands.sound;
     }
 
   -- no line was done
@@ -231,22 +221,21 @@ module _ {F H : Type 0} (f : shelves.Ghosts F) (h : Ghosts H) (asked : List (Lis
       })
     ]
 
-    pub ran_unbegun : ((states : List ClientState) → AllKeptAmong h old states → AllKeptAmong h new states) → h.said new ≡ h.said old
+    pub ran_unbegun : asked [] → ((states : List ClientState) → AllKeptAmong h old states → AllKeptAmong h new states) → h.said new ≡ h.said old
         → ((s : ClientState) (place bytes : ℕ) → OpensWith (h.reads old Left) (h.reads old Right) s place bytes → h.written new ≤ h.written old + bytes)
-        → MeetsAll h old new (IsBelowMark h old) → (answered ≡ status.Done → ⊥) → Ran h asked from old new answered
-    ran_unbegun stays text most below not_done =
+        → (answered ≡ status.Done → ⊥) → Ran h asked from old new answered
+    ran_unbegun asks stays text most not_done =
         ran new answered unbegun_goes
         (λ states s all kept.
         let opened = opens_somehow (h.reads old Left) (h.reads old Right) s (stood s kept) in
-        (opened.0, opened.1, opened.2, unbegun_ends h asked states (from s opened.0 opened.1) new answered (before s (stood s kept)) (stays states all, text, most s opened.0 opened.1 opened.2)))
-        (λ is. absurd (not_done is)) below
+        (opened.0, opened.1, opened.2, unbegun_ends h asked states (from s opened.0 opened.1) new answered (before s (stood s kept)) (record { kept = stays states all; text = text; most = most s opened.0 opened.1 opened.2; asks = asks })))
+        (λ is. absurd (not_done is))
 
   -- the store was not reached
-  pub ran_unreached : (answered : RunStatus) → ((l r u : List ℕ) → h.might old (h.moment old) l r u → NowOf h old l r u) → EndedBefore answered → (answered ≡ status.Done → ⊥) → Ran h asked from old old answered
-  ran_unreached answered only early not_done =
+  pub ran_unreached : asked [] → (answered : RunStatus) → ((l r u : List ℕ) → h.might old (h.moment old) l r u → NowOf h old l r u) → EndedBefore answered → (answered ≡ status.Done → ⊥) → Ran h asked from old old answered
+  ran_unreached asks answered only early not_done =
       let none = started h.moment h.might old (NowOf h old) only in
-      ran_unbegun old answered (inl (early, none)) (λ s stands. early) (λ states all. all) refl (λ s place bytes opens. omega arith)
-      (below_unwritten h old only) not_done
+      ran_unbegun old answered (inl (early, none)) (λ s stands. early) asks (λ states all. all) refl (λ s place bytes opens. omega arith) not_done
 
   -- the store was opened, and lines were done from its client's state
   module _ (mid new : H) (client : Client) (phases : OpensInPhases {T = Client} h old mid (Ok client)) (opened : IsOpened h client old mid) (text : h.said mid ≡ h.said old)
@@ -297,10 +286,8 @@ module _ {F H : Type 0} (f : shelves.Ghosts F) (h : Ghosts H) (asked : List (Lis
     }
     stands_after (Err fault) is new_left new_right s line_facts = absurd (never_done fault is)
 
-    pub ran_opened : h.images new Left (h.reads new Left) → h.images new Right (h.reads new Right) → MeetsAll h old mid (IsBelowMark h old) → ((l r : List ℕ) → h.images mid Left l → h.images mid Right r → IsBelowMark h old l r (h.said mid))
-        → h.images mid Left (h.reads mid Left) → h.images mid Right (h.reads mid Right) → Ran h asked from old new (of_lines result)
-    ran_opened new_left new_right below now_below mid_left mid_right =
+    pub ran_opened : h.images new Left (h.reads new Left) → h.images new Right (h.reads new Right) → Ran h asked from old new (of_lines result)
+    ran_opened new_left new_right =
         ran new (of_lines result) opened_goes
         (λ states s all kept. (place, bytes, opens_for s (stood s kept), lines_end h asked states (from s place bytes) new result ((ran_from s (stood s kept)).ends (opened.gate s kept))))
         (λ is s stands. (place, bytes, opens_for s stands, stands_after result is new_left new_right s (ran_from s stands)))
-        (below_then h old mid new mid_left mid_right below now_below lines_ran.below)

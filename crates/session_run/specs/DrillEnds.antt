@@ -10,10 +10,10 @@ use Rattle.row_store.specs.Rows.{HasPlace}
 use Rattle.client_store.specs.OpenStore.{AllKept, AllKeptAmong}
 use Rattle.client_store.specs.Places.{making_bytes}
 use Rattle.session_run.specs.declared.status.RunStatus.{RunStatus}
-use Rattle.session_run.specs.declared.status.RunStatus.TheVariants.{Done, Usage, ScriptTooLong, NoStore, AlreadyStore, BadStore, SourceFault, ShelfFault, DiskFault, SayFault, OutOfMemory}
-use Rattle.session_run.specs.Drills.{drill_fresh, drill_ready, drill_start, drill_summary, DuringDrill}
+use Rattle.session_run.specs.declared.status.RunStatus.TheVariants.{Done, DiskFault, SayFault, OutOfMemory}
+use Rattle.session_run.specs.Drills.{drill_bytes, drill_fresh, drill_ready, drill_start, drill_summary, DuringDrill}
 use Rattle.session_run.specs.Ends.{EndsWhole, EndsBefore, EndsWithin, EndsInAnswer, StaysAmong}
-use Rattle.session_run.specs.Making.{EndsInReady}
+use Rattle.session_run.specs.Making.{Made}
 use Rattle.session_run.specs.Runs.{ServesValues}
 use Rattle.session_run.specs.Starts.{Start, line_count, last_state, answers, written_at}
 use Rattle.session_run.specs.Writes.{IsBelowMark}
@@ -36,28 +36,19 @@ abbrev pub SummaryEnds : List ℕ → List ℕ → List ℕ → RunStatus → Ty
 SummaryEnds said summary u Done = u ≡ said ++ summary
 SummaryEnds said summary u SayFault = (n : ℕ) × (u ≡ said ++ take n summary)
 SummaryEnds said summary u OutOfMemory = u ≡ said
-SummaryEnds said summary u DiskFault = ⊥
-SummaryEnds said summary u ShelfFault = ⊥
-SummaryEnds said summary u ScriptTooLong = ⊥
-SummaryEnds said summary u SourceFault = ⊥
-SummaryEnds said summary u Usage = ⊥
-SummaryEnds said summary u NoStore = ⊥
-SummaryEnds said summary u AlreadyStore = ⊥
-SummaryEnds said summary u BadStore = ⊥
+SummaryEnds said summary u status = ⊥
+
+-- a drill has files of its own, and of these it may ask for any
+abbrev pub AsksForAny : List (List ℕ) → Type 0
+AsksForAny lines = Unit {0}
 
 -- what follows `ready`: the lines from the new store's state, and the summary
 abbrev pub ScriptEnds : {H : Type 0} → Ghosts H → Start → List ℕ → H → RunStatus → Type 0
 ScriptEnds h start summary host Done = EndsSummed h start summary host
-ScriptEnds h start summary host OutOfMemory = EndsBefore h start host ⊎ StaysAmong h (start.state ∷ []) start host ⊎ EndsWhole h start host
-ScriptEnds h start summary host DiskFault = EndsWithin h start host ⊎ StaysAmong h (start.state ∷ []) start host
-ScriptEnds h start summary host SayFault = EndsInAnswer h start host ⊎ EndsInSummary h start summary host
-ScriptEnds h start summary host ShelfFault = ⊥
-ScriptEnds h start summary host ScriptTooLong = ⊥
-ScriptEnds h start summary host SourceFault = ⊥
-ScriptEnds h start summary host Usage = ⊥
-ScriptEnds h start summary host NoStore = ⊥
-ScriptEnds h start summary host AlreadyStore = ⊥
-ScriptEnds h start summary host BadStore = ⊥
+ScriptEnds h start summary host OutOfMemory = EndsBefore h AsksForAny start host ⊎ StaysAmong h AsksForAny (start.state ∷ []) start host ⊎ EndsWhole h AsksForAny start host
+ScriptEnds h start summary host DiskFault = EndsWithin h AsksForAny start host ⊎ StaysAmong h AsksForAny (start.state ∷ []) start host
+ScriptEnds h start summary host SayFault = EndsInAnswer h AsksForAny start host ⊎ EndsInSummary h start summary host
+ScriptEnds h start summary host status = ⊥
 
 -- and what follows the `ready` of a drill: the store was made on the host `made`, which its lines open
 pub record ReadyEnds {H : Type 0} (h : Ghosts H) (start count now : ℕ) (old new : H) (status : RunStatus) : Type 0 where
@@ -69,19 +60,9 @@ pub record ReadyEnds {H : Type 0} (h : Ghosts H) (start count now : ℕ) (old ne
   pub placed : HasPlace (h.reads made Left) (h.reads made Right) place
   pub ends : ScriptEnds h (drill_start start count now place (h.said made) (h.written made + repair_cost (h.reads made Left) (h.reads made Right))) (drill_summary start count now) new status
 
--- a whole drill. Where its store is not made nothing is said
+-- a whole drill: its store was not made, or not said to be ready, and this is as in the making of a store that is not done. Or what follows `ready` has ended
 abbrev pub DrillEnds : {H : Type 0} → Ghosts H → ℕ → ℕ → ℕ → H → H → RunStatus → Type 0
-DrillEnds h start count now old new Done = ReadyEnds h start count now old new Done
-DrillEnds h start count now old new OutOfMemory = (h.said new ≡ h.said old) ⊎ ReadyEnds h start count now old new OutOfMemory
-DrillEnds h start count now old new DiskFault = (h.said new ≡ h.said old) ⊎ ReadyEnds h start count now old new DiskFault
-DrillEnds h start count now old new SayFault = EndsInReady h (drill_fresh now) drill_ready (h.said old) new ⊎ ReadyEnds h start count now old new SayFault
-DrillEnds h start count now old new AlreadyStore = h.said new ≡ h.said old
-DrillEnds h start count now old new BadStore = h.said new ≡ h.said old
-DrillEnds h start count now old new Usage = ⊥
-DrillEnds h start count now old new ScriptTooLong = ⊥
-DrillEnds h start count now old new NoStore = ⊥
-DrillEnds h start count now old new SourceFault = ⊥
-DrillEnds h start count now old new ShelfFault = ⊥
+DrillEnds h start count now old new status = ((¬ (status ≡ Done)) × Made h drill_bytes now old new status) ⊎ ReadyEnds h start count now old new status
 
 -- a drill, which makes its store, does the lines of its script over its files, and then says the summary of the last state
 pub record Drilled {H : Type 0} (h : Ghosts H) (start count now : ℕ) (old new : H) (status : RunStatus) : Type 0 where

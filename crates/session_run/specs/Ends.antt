@@ -1,86 +1,94 @@
 -- What stands when a line, the lines of a run or a run has ended, by the answer.
-use Rattle.std.specs.Prelude.{◌≡◌, ◌⊎◌, ◌<◌, ◌≤◌, ◌+◌, ℕ, List, ◌++◌, Result, Ok, Err, Some, take, slice_get}
+use Rattle.std.specs.Prelude.{◌≡◌, ◌≢◌, ◌⊎◌, ◌<◌, ◌≤◌, ◌+◌, ℕ, List, [], ◌++◌, Result, Ok, Err, Some, take, slice_get}
 use Rattle.host_model.specs.declared.host.Host.{Ghosts}
 use Rattle.client_state.specs.declared.client_state.ClientState.{ClientState}
 use Rattle.client_store.specs.OpenStore.{AllKept, AllKeptAmong, AllKeptEither}
 use Rattle.session_run.specs.declared.faults.RunFault.{RunFault}
 use Rattle.session_run.specs.declared.faults.RunFault.TheVariants as run
 use Rattle.session_run.specs.declared.status.RunStatus.{RunStatus}
-use Rattle.session_run.specs.declared.status.RunStatus.TheVariants.{Done, Usage, ScriptTooLong, NoStore, AlreadyStore, BadStore, SourceFault, ShelfFault, DiskFault, SayFault, OutOfMemory}
+use Rattle.session_run.specs.declared.status.RunStatus.TheVariants.{Done, ScriptTooLong, SourceFault, ShelfFault, DiskFault, SayFault, OutOfMemory}
 use Rattle.session_run.specs.Files.{NamesFile}
 use Rattle.session_run.specs.Starts.{Start, line_count, state_at, last_state, answers, written_at}
 
--- a line that leads from s to t, with its answer
+-- a line that leads from s to t, with its answer. The disk fails only where the state changes, and the output only where the answer isn't empty
 abbrev pub LineEnds : {H T : Type 0} → Ghosts H → ClientState → ClientState → List ℕ → List ℕ → H → Result T RunFault → Type 0
 LineEnds h s t text said host (Ok done) = AllKept h host t × (h.said host ≡ said ++ text)
 LineEnds h s t text said host (Err run.ShelfFault) = AllKept h host s × (h.said host ≡ said)
 LineEnds h s t text said host (Err run.OutOfMemory) = AllKept h host s × (h.said host ≡ said)
-LineEnds h s t text said host (Err run.DiskFault) = AllKeptEither h host s t × (h.said host ≡ said)
-LineEnds h s t text said host (Err run.SayFault) = AllKept h host t × ((n : ℕ) × (h.said host ≡ said ++ take n text))
+LineEnds h s t text said host (Err run.DiskFault) = (s ≢ t) × AllKeptEither h host s t × (h.said host ≡ said)
+LineEnds h s t text said host (Err run.SayFault) = (text ≢ []) × AllKept h host t × ((n : ℕ) × (h.said host ≡ said ++ take n text))
+
+-- In what follows `asked` tells of some lines whether the shelf was asked for nothing but what they ask for.
 
 -- all lines are done and answered, and exactly their bytes are written
-pub record EndsWhole {H : Type 0} (h : Ghosts H) (start : Start) (host : H) : Type 0 where
+pub record EndsWhole {H : Type 0} (h : Ghosts H) (asked : List (List ℕ) → Type 0) (start : Start) (host : H) : Type 0 where
   pub kept : AllKept h host (last_state start)
   pub text : h.said host ≡ start.said ++ answers start (line_count start)
   pub cost : h.written host ≡ written_at start (line_count start)
+  pub asks : asked start.lines
 
--- the first k lines are done and answered, and the next one is not done. No more bytes are written than those of the next one too; so it is below
-pub record EndsBefore {H : Type 0} (h : Ghosts H) (start : Start) (host : H) : Type 0 where
+-- the first k lines are done and answered, and the next one is not done. No more bytes are written than those of the next one too, and no
+-- file is asked for that these lines don't ask for; so it is below
+pub record EndsBefore {H : Type 0} (h : Ghosts H) (asked : List (List ℕ) → Type 0) (start : Start) (host : H) : Type 0 where
   pub k : ℕ
   pub within : k < line_count start
   pub kept : AllKept h host (state_at start k)
   pub text : h.said host ≡ start.said ++ answers start k
   pub most : h.written host ≤ written_at start (k + 1)
+  pub asks : asked (take (k + 1) start.lines)
 
--- and the next one names a file. The shelf was asked for nothing but what the lines up to it ask for
+-- and the next one names a file
 pub record EndsAtFile {H : Type 0} (h : Ghosts H) (asked : List (List ℕ) → Type 0) (start : Start) (host : H) : Type 0 where
-  pub before : EndsBefore h start host
+  pub before : EndsBefore h asked start host
   pub line : List ℕ
   pub is_next : slice_get start.lines before.k ≡ Some line
   pub names : NamesFile line
-  pub none_after : asked (take (before.k + 1) start.lines)
 
--- the first k lines are done and answered. The next one is done or not, and it is not answered
-pub record EndsWithin {H : Type 0} (h : Ghosts H) (start : Start) (host : H) : Type 0 where
+-- the first k lines are done and answered. The next one changes the state. It is done or not, and it is not answered
+pub record EndsWithin {H : Type 0} (h : Ghosts H) (asked : List (List ℕ) → Type 0) (start : Start) (host : H) : Type 0 where
   pub k : ℕ
   pub within : k < line_count start
+  pub changes : state_at start k ≢ state_at start (k + 1)
   pub kept : AllKeptEither h host (state_at start k) (state_at start (k + 1))
   pub text : h.said host ≡ start.said ++ answers start k
   pub most : h.written host ≤ written_at start (k + 1)
+  pub asks : asked (take (k + 1) start.lines)
 
--- the first k lines are done and answered. The next one is done, and a part of its answer is said
-pub record EndsInAnswer {H : Type 0} (h : Ghosts H) (start : Start) (host : H) : Type 0 where
+-- the first k lines are done and answered. The next one is done, its answer isn't empty, and a part of that is said
+pub record EndsInAnswer {H : Type 0} (h : Ghosts H) (asked : List (List ℕ) → Type 0) (start : Start) (host : H) : Type 0 where
   pub k : ℕ
   pub within : k < line_count start
   pub kept : AllKept h host (state_at start (k + 1))
   pub part : List ℕ
   pub rest : List ℕ
   pub both : answers start k ++ part ++ rest ≡ answers start (k + 1)
+  pub some : part ++ rest ≢ []
   pub text : h.said host ≡ start.said ++ answers start k ++ part
   pub most : h.written host ≤ written_at start (k + 1)
+  pub asks : asked (take (k + 1) start.lines)
 
--- lines, over a shelf of which `asked` tells whether it was asked for nothing but what some lines ask for
+-- lines
 abbrev pub LinesEnd : {H T : Type 0} → Ghosts H → (List (List ℕ) → Type 0) → Start → H → Result T RunFault → Type 0
-LinesEnd h asked start host (Ok done) = EndsWhole h start host
+LinesEnd h asked start host (Ok done) = EndsWhole h asked start host
 LinesEnd h asked start host (Err run.ShelfFault) = EndsAtFile h asked start host
-LinesEnd h asked start host (Err run.OutOfMemory) = EndsBefore h start host
-LinesEnd h asked start host (Err run.DiskFault) = EndsWithin h start host
-LinesEnd h asked start host (Err run.SayFault) = EndsInAnswer h start host
+LinesEnd h asked start host (Err run.OutOfMemory) = EndsBefore h asked start host
+LinesEnd h asked start host (Err run.DiskFault) = EndsWithin h asked start host
+LinesEnd h asked start host (Err run.SayFault) = EndsInAnswer h asked start host
 
--- no line is done: each image is still kept for one of these states, and nothing is said
-abbrev pub StaysAmong : {H : Type 0} → Ghosts H → List ClientState → Start → H → Type 0
-StaysAmong h states start host = AllKeptAmong h host states × (h.said host ≡ start.said) × (h.written host ≤ start.written)
+-- no line is done: each image is still kept for one of these states, nothing is said, and no file is asked for
+pub record StaysAmong {H : Type 0} (h : Ghosts H) (asked : List (List ℕ) → Type 0) (states : List ClientState) (start : Start) (host : H) : Type 0 where
+  pub kept : AllKeptAmong h host states
+  pub text : h.said host ≡ start.said
+  pub most : h.written host ≤ start.written
+  pub asks : asked []
 
 -- a run from a state, which was one of these
 abbrev pub RunEnds : {H : Type 0} → Ghosts H → (List (List ℕ) → Type 0) → List ClientState → Start → H → RunStatus → Type 0
-RunEnds h asked states start host Done = EndsWhole h start host
+RunEnds h asked states start host Done = EndsWhole h asked start host
 RunEnds h asked states start host ShelfFault = EndsAtFile h asked start host
-RunEnds h asked states start host OutOfMemory = EndsBefore h start host ⊎ StaysAmong h states start host
-RunEnds h asked states start host DiskFault = EndsWithin h start host ⊎ StaysAmong h states start host
-RunEnds h asked states start host SayFault = EndsInAnswer h start host
-RunEnds h asked states start host ScriptTooLong = StaysAmong h states start host
-RunEnds h asked states start host SourceFault = StaysAmong h states start host
-RunEnds h asked states start host Usage = ⊥
-RunEnds h asked states start host NoStore = ⊥
-RunEnds h asked states start host AlreadyStore = ⊥
-RunEnds h asked states start host BadStore = ⊥
+RunEnds h asked states start host OutOfMemory = EndsBefore h asked start host ⊎ StaysAmong h asked states start host
+RunEnds h asked states start host DiskFault = EndsWithin h asked start host ⊎ StaysAmong h asked states start host
+RunEnds h asked states start host SayFault = EndsInAnswer h asked start host
+RunEnds h asked states start host ScriptTooLong = StaysAmong h asked states start host
+RunEnds h asked states start host SourceFault = StaysAmong h asked states start host
+RunEnds h asked states start host status = ⊥

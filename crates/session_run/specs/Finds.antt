@@ -20,12 +20,9 @@ RunFinds l r SayFault = IsStore l r
 RunFinds l r ShelfFault = IsStore l r
 RunFinds l r NoStore = IsAbsent l r
 RunFinds l r BadStore = IsBad l r
-RunFinds l r ScriptTooLong = Unit {0}
-RunFinds l r SourceFault = Unit {0}
-RunFinds l r DiskFault = Unit {0}
-RunFinds l r OutOfMemory = Unit {0}
 RunFinds l r Usage = ⊥
 RunFinds l r AlreadyStore = ⊥
+RunFinds l r status = Unit {0}
 
 -- what the making of a store found, and so a drill
 abbrev pub MakingFinds : List ℕ → List ℕ → RunStatus → Type 0
@@ -35,11 +32,7 @@ MakingFinds l r AlreadyStore = IsStore l r
 MakingFinds l r BadStore = IsBad l r
 MakingFinds l r DiskFault = Unit {0}
 MakingFinds l r OutOfMemory = Unit {0}
-MakingFinds l r Usage = ⊥
-MakingFinds l r ScriptTooLong = ⊥
-MakingFinds l r NoStore = ⊥
-MakingFinds l r SourceFault = ⊥
-MakingFinds l r ShelfFault = ⊥
+MakingFinds l r status = ⊥
 
 -- a run answers NoStore and BadStore wherever the pair is such, unless it ended before
 pub record RunJudges (l r : List ℕ) (status : RunStatus) : Type 0 where

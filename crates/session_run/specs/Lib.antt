@@ -8,6 +8,7 @@ pub mod FaultCauses
 pub mod Files
 pub mod Finds
 pub mod Histories
+pub mod Later
 pub mod Lines
 pub mod Making
 pub mod Moments
@@ -16,6 +17,7 @@ pub mod OutboxChains
 pub mod Places
 pub mod PreferenceChains
 pub mod Runs
+pub mod Scripts
 pub mod Starts
 pub mod Statuses
 pub mod Steps

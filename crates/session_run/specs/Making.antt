@@ -13,7 +13,7 @@ use Rattle.client_store.specs.Places.{making_bytes}
 use Rattle.client_store.specs.Store.{KeptFor, IsAbsent}
 use Rattle.client_words.specs.Answers.{hyphenated}
 use Rattle.session_run.specs.declared.status.RunStatus.{RunStatus}
-use Rattle.session_run.specs.declared.status.RunStatus.TheVariants.{Done, Usage, ScriptTooLong, NoStore, AlreadyStore, BadStore, SourceFault, ShelfFault, DiskFault, SayFault, OutOfMemory}
+use Rattle.session_run.specs.declared.status.RunStatus.TheVariants.{Done, AlreadyStore, BadStore, DiskFault, SayFault, OutOfMemory}
 use Rattle.session_run.specs.Writes.{IsBelowMark, WritesNoMore}
 
 -- what is said of a new store
@@ -38,11 +38,7 @@ MakingEnds h s text said host AlreadyStore = h.said host ≡ said
 MakingEnds h s text said host BadStore = h.said host ≡ said
 MakingEnds h s text said host DiskFault = h.said host ≡ said
 MakingEnds h s text said host OutOfMemory = h.said host ≡ said
-MakingEnds h s text said host Usage = ⊥
-MakingEnds h s text said host ScriptTooLong = ⊥
-MakingEnds h s text said host NoStore = ⊥
-MakingEnds h s text said host SourceFault = ⊥
-MakingEnds h s text said host ShelfFault = ⊥
+MakingEnds h s text said host status = ⊥
 
 -- the making of a store with this id at this moment
 pub record Made {H : Type 0} (h : Ghosts H) (id : List ℕ) (now : ℕ) (old new : H) (status : RunStatus) : Type 0 where

@@ -10,60 +10,72 @@ use Rattle.client_store.specs.OpenStore.{AllKept, AllKeptAmong, AllStand}
 use Rattle.client_store.specs.Store.{StandsFor, KeptFor}
 use Rattle.session_run.specs.declared.faults.RunFault.{RunFault}
 use Rattle.session_run.specs.declared.status.RunStatus.{RunStatus}
-use Rattle.session_run.specs.declared.status.RunStatus.TheVariants.{Done, DiskFault}
+use Rattle.session_run.specs.declared.status.RunStatus.TheVariants.{Done}
 use Rattle.session_run.specs.Chains.{IsLinked}
 use Rattle.session_run.specs.Ends.{LinesEnd, RunEnds}
 use Rattle.session_run.specs.Moments.{AfterPrefix, InPhases}
 use Rattle.session_run.specs.Starts.{Start, line_count, last_state, answers, written_at, Changes}
 use Rattle.session_run.specs.Steps.{answer, run_at}
 use Rattle.session_run.specs.Values.{value_line, IsServedValue}
-use Rattle.session_run.specs.Writes.{IsBelowMark}
 
 -- each value that a line is answered is the one that the manifest serves which was set last, with the types of the feature's variables
 abbrev pub ServesValues : Start → Type 0
-ServesValues start = (k : ℕ) (line text : List ℕ) → slice_get start.lines k ≡ Some line → answer start.at (run_at start.at start.state start.lines k) line ≡ value_line text → IsServedValue start.at start.state start.lines k line text
+ServesValues start =
+    (k : ℕ) (line text : List ℕ) → slice_get start.lines k ≡ Some line → answer start.at (run_at start.at start.state start.lines k) line ≡ value_line text
+    → IsServedValue start.at start.state start.lines k line text
 
 -- a pair stands for a state by the old form of its rows
 abbrev pub HasOldForm : List ℕ → List ℕ → ClientState → Type 0
 HasOldForm l r s = (found : StandsFor l r s) × IsTrue (needs_migration found.stored)
 
+-- what reads give is kept for s
+abbrev pub ReadsKept : {H : Type 0} → Ghosts H → H → ClientState → Type 0
+ReadsKept h host s = KeptFor (h.reads host Left) (h.reads host Right) s
+
+-- or stands for it
+abbrev pub ReadsStand : {H : Type 0} → Ghosts H → H → ClientState → Type 0
+ReadsStand h host s = StandsFor (h.reads host Left) (h.reads host Right) s
+
 -- all lines are done, from a pair that stood for a state
 pub record StandsAfter {H : Type 0} (h : Ghosts H) (start : Start) (old new : H) : Type 0 where
   -- what reads give, like each image, stands for the state after all lines
-  pub reads : StandsFor (h.reads new Left) (h.reads new Right) (last_state start)
+  pub reads : ReadsStand h new (last_state start)
   pub images : AllStand h new (last_state start)
   -- all answers were said, and exactly the bytes of the lines written
   pub text : h.said new ≡ start.said ++ answers start (line_count start)
   pub cost : h.written new ≡ written_at start (line_count start)
-  -- where the pair was kept that reads gave, or a record was written, since its rows were in the old form or a line changed the state, each image is kept for the last
-  pub kept : KeptFor (h.reads old Left) (h.reads old Right) start.state ⊎ HasOldForm (h.reads old Left) (h.reads old Right) start.state ⊎ Changes start → KeptFor (h.reads new Left) (h.reads new Right) (last_state start) × AllKept h new (last_state start)
+  -- where the pair was kept that reads gave, or a record was written, since its rows were in the old form or a line changed the state,
+  -- each image is kept for the last
+  pub kept : ReadsKept h old start.state ⊎ HasOldForm (h.reads old Left) (h.reads old Right) start.state ⊎ Changes start
+      → ReadsKept h new (last_state start) × AllKept h new (last_state start)
 
--- lines that were done over an open store, which had a byte at the gate behind its records where `gated` holds, and over a shelf, of which `asked` tells whether it was asked for nothing but what some lines ask for
+-- lines that were done over an open store, which had a byte at the gate behind its records where `gated` holds. Of some lines `asked`
+-- tells whether the shelf was asked for nothing but what they ask for
 pub record LinesRan {H T : Type 0} (h : Ghosts H) (asked : List (List ℕ) → Type 0) (gated : Type 0) (start : Start) (old new : H) (result : Result T RunFault) : Type 0 where
   pub moments : gated → MeetsAll h old new (AfterPrefix start)
-  pub below : MeetsAll h old new (IsBelowMark h old)
   pub ends : gated → LinesEnd h asked start new result
   pub images : OnOk result (AllStand h new (last_state start))
   pub text : OnOk result (h.said new ≡ start.said ++ answers start (line_count start))
   pub cost : OnOk result (h.written new ≡ written_at start (line_count start))
   pub kept : OnOk result (gated ⊎ Changes start → AllKept h new (last_state start))
 
--- a run. Where the store's state is s, and its opening leaves the next record at a place and writes so many bytes, the lines begin with `from s place bytes`. Of its shelf `asked` tells whether it was asked for nothing but what some lines ask for
+-- A run. Where the store's state is s, and its opening leaves the next record at a place and writes so many bytes, the lines begin with
+-- `from s place bytes`. What may be met at a moment depends on neither number, and there both are 0. Of some lines `asked` tells whether
+-- the shelf was asked for nothing but what they ask for.
 pub record Ran {H : Type 0} (h : Ghosts H) (asked : List (List ℕ) → Type 0) (from : ClientState → ℕ → ℕ → Start) (old new : H) (status : RunStatus) : Type 0 where
-  -- whenever a crash comes, inside a call too, the two images are kept for the state after the first k lines, each whose answer was said among them, and what was said is a prefix of the answers to them
-  pub crash : (s : ClientState) (place bytes : ℕ) → AllKept h old s → MeetsAll h old new (AfterPrefix (from s place bytes))
-  -- after a run that the disk has ended, whose images are each kept for one of some states: that holds until both sides are synced, and nothing is said. From then on the state is the one for which reads are kept
-  pub phases : (states : List ClientState) (s : ClientState) (place bytes : ℕ) → AllKeptAmong h old states → KeptFor (h.reads old Left) (h.reads old Right) s → InPhases h states (from s place bytes) old new status
-  -- what stands when it has ended, and how many bytes were written, status by status
-  pub ends : (states : List ClientState) (s : ClientState) → AllKeptAmong h old states → KeptFor (h.reads old Left) (h.reads old Right) s → (place bytes : ℕ) × OpensWith (h.reads old Left) (h.reads old Right) s place bytes × RunEnds h asked states (from s place bytes) new status
+  -- whenever a crash comes, inside a call too, the two images are kept for the state after the first k lines, each whose answer was said
+  -- among them, and what was said is a prefix of the answers to them
+  pub crash : (s : ClientState) → AllKept h old s → MeetsAll h old new (AfterPrefix (from s 0 0))
+  -- after a run that the disk has ended, whose images are each kept for one of some states: that holds until both sides are synced, and
+  -- nothing is said. From then on the state is the one for which reads are kept
+  pub phases : (states : List ClientState) (s : ClientState) → AllKeptAmong h old states → ReadsKept h old s → InPhases h states (from s 0 0) old new status
+  -- what stands when it has ended, how many bytes were written, and which files were asked for, status by status
+  pub ends : (states : List ClientState) (s : ClientState) → AllKeptAmong h old states → ReadsKept h old s
+      → (place bytes : ℕ) × OpensWith (h.reads old Left) (h.reads old Right) s place bytes × RunEnds h asked states (from s place bytes) new status
   -- a chain's link: whenever a crash comes, and when it has ended, each pair of images is one that the run leads to from a pair of its start
-  pub links : (states : List ClientState) (s : ClientState) (place bytes : ℕ) → AllKeptAmong h old states → KeptFor (h.reads old Left) (h.reads old Right) s → MeetsAll h old new (IsLinked h old (from s place bytes))
-  -- and the next run may begin: when it has ended, each pair of images is kept for one of some states, and of one alone where it was so before and the disk has not ended it
-  pub next : (states : List ClientState) → AllKeptAmong h old states → (later : List ClientState) × AllKeptAmong h new later
-  pub next_one : (s : ClientState) → AllKept h old s → ¬ (status ≡ DiskFault) → (t : ClientState) × AllKept h new t
+  pub links : (states : List ClientState) (s : ClientState) → AllKeptAmong h old states → ReadsKept h old s → MeetsAll h old new (IsLinked h old (from s 0 0))
   -- without a crash: where it answers Done, all lines were done and answered from what reads gave
-  pub done : status ≡ Done → (s : ClientState) → StandsFor (h.reads old Left) (h.reads old Right) s → (place bytes : ℕ) × OpensWith (h.reads old Left) (h.reads old Right) s place bytes × StandsAfter h (from s place bytes) old new
+  pub done : status ≡ Done → (s : ClientState) → ReadsStand h old s
+      → (place bytes : ℕ) × OpensWith (h.reads old Left) (h.reads old Right) s place bytes × StandsAfter h (from s place bytes) old new
   -- each value that is said, at whatever moment, has its types
-  pub values : (s : ClientState) (place bytes : ℕ) → StandsFor (h.reads old Left) (h.reads old Right) s → ServesValues (from s place bytes)
-  -- no byte at or past byte 33,554,432 of a side is written
-  pub below : MeetsAll h old new (IsBelowMark h old)
+  pub values : (s : ClientState) → ReadsStand h old s → ServesValues (from s 0 0)

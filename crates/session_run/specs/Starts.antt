@@ -4,7 +4,7 @@ use Rattle.host_model.specs.declared.host.Host.{Ghosts}
 use Rattle.host_model.specs.declared.shelf.Shelf as shelves
 use Rattle.client_state.specs.declared.client_state.ClientState.{ClientState}
 use Rattle.client_steps.specs.Settings.{Setting, setting}
-use Rattle.session_run.specs.Places.{all_places, all_bytes}
+use Rattle.session_run.specs.Places.{all_bytes}
 use Rattle.session_run.specs.Steps.{begun, after, out}
 
 -- the files and the moment, the client's state, where its store's next record begins, the lines, the text that was said, and how many bytes were written
@@ -39,10 +39,6 @@ last_state start = state_at start (line_count start)
 -- the joined answers to the first k lines
 abbrev pub answers : Start → ℕ → List ℕ
 answers start k = out start.at start.state start.lines k
-
--- where the next record begins after the first k lines
-abbrev pub place_at : Start → ℕ → ℕ
-place_at start k = all_places start.at start.place (begun start.state) (take k start.lines)
 
 -- how many bytes were written after the first k lines
 abbrev pub written_at : Start → ℕ → ℕ

@@ -15,8 +15,8 @@ ghost use Rattle.session_run.specs.Starts.{Start};
 ghost use Rattle.session_run.specs.Steps.{after};
 
 /// What may be met at a moment of a run is a link of a chain: so is what a crash leaves then, and what stands when the run
-/// has ended, with whatever status. `Ran` says in `links` that each is met from an image of the run's start, and in `next`
-/// that what a run leaves is what the next one asks of its start.
+/// has ended, with whatever status. `Ran` says in `links` that each is met from an image of the run's start, and `HasCauses`
+/// in `next` that what a run leaves is what the next one asks of its start.
 pub fn runs_are_links()
     ensures { MomentsAreLinks }
 {}
@@ -62,10 +62,10 @@ pub fn runs_stay_sound()
     ensures { (at : Setting) (s : ClientState) (lines : List (List ℕ)) (k : ℕ) → at.now ≤ last_moment → IsSound s → IsSound (after at s lines k) }
 {}
 
-/// A slug that is out when the run begins, or that a line opts out of, stays out until a line that is done brings it back:
-/// after the first k lines it is opted out, and the client isn't enrolled in its recipe.
+/// From a sound state, a slug that is out when the run begins, or that a line opts out of, stays out until a line that is
+/// done brings it back: after the first k lines it is opted out, and the client isn't enrolled in its recipe.
 pub fn opt_outs_stay()
-    ensures { (at : Setting) (s : ClientState) (lines : List (List ℕ)) (k : ℕ) (slug : List ℕ) → k ≤ length lines → IsSound (after at s lines k)
+    ensures { (at : Setting) (s : ClientState) (lines : List (List ℕ)) (k : ℕ) (slug : List ℕ) → at.now ≤ last_moment → IsSound s → k ≤ length lines
         → IsHeldOut at s lines k slug → IsOut (after at s lines k) slug }
 {}
 

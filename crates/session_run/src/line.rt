@@ -12,6 +12,7 @@ ghost use Rattle.client_words.specs.Commands.{IsCommand};
 ghost use Rattle.session_run.specs.Steps.{run_of, run_after, answer};
 ghost use Rattle.session_run.specs.FaultCauses.{HasShelfCauses, HasHostCauses};
 ghost use Rattle.session_run.specs.Files.{NamesFile, LineAsked};
+ghost use Rattle.session_run.specs.Later.{RanSomehow};
 ghost use Rattle.session_run.specs.Lines.{LineRan, StaysOpen};
 
 use crate::faults::RunFault;
@@ -68,6 +69,7 @@ fn run_command<F: Shelf, H: Host>(
 
     ensures state { F.tells → OnOk result (state_of client.new ≡ (step_of client.old (setting F.Shelf shelf.old now) command.now).state) }
     ensures session { F.tells → OnOk result (session_of client.new ≡ (step_of client.old (setting F.Shelf shelf.old now) command.now).session) }
+    ensures somehow { H.tells → RanSomehow H.Host client.old host.old host.new result }
     ensures place { OnOk result (end_of client.new ≡ place_after (end_of client.old) (state_of client.old) (state_of client.new)) }
 
     ensures named { IsErrOf result RunFault.ShelfFault → IsTrue (names_file command.now) }
@@ -122,6 +124,7 @@ pub(crate) fn run_line<F: Shelf, H: Host>(
     ensures stays_open { H.tells → StaysOpen H.Host client.old client.new host.old host.new result }
 
     ensures state { F.tells → OnOk result (run_of client.new ≡ run_after (setting F.Shelf shelf.old now) (run_of client.old) line.now) }
+    ensures somehow { H.tells → RanSomehow H.Host client.old host.old host.new result }
     ensures place { OnOk result (end_of client.new ≡ place_after (end_of client.old) (state_of client.old) (state_of client.new)) }
 
     ensures named { IsErrOf result RunFault.ShelfFault → NamesFile line.now }

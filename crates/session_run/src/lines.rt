@@ -1,5 +1,6 @@
 // All lines of a script.
 ghost use Rattle.std.specs.Prelude.{◌≡◌, ◌≤◌, ℕ, List, All, OnOk, IsErrOf, length, map};
+ghost use Rattle.host_model.specs.Hosts.{MeetsAll};
 ghost use Rattle.enrol_states.specs.State.{last_moment};
 ghost use Rattle.jexl_transforms.specs.Table.{HasStandardNames};
 ghost use Rattle.client_core.specs.Clients.{state_of, session_of, end_of, IsOpenOn, HasGateOn};
@@ -8,8 +9,10 @@ ghost use Rattle.client_steps.specs.Sessions.{no_session};
 ghost use Rattle.client_words.specs.Commands.{bytes_at, IsWithin};
 ghost use Rattle.session_run.specs.FaultCauses.{HasShelfCauses, HasHostCauses};
 ghost use Rattle.session_run.specs.Files.{LinesAsked};
+ghost use Rattle.session_run.specs.Later.{KeepsSome};
 ghost use Rattle.session_run.specs.Runs.{LinesRan};
 ghost use Rattle.session_run.specs.Starts.{start_on, last_state};
+ghost use Rattle.session_run.specs.Writes.{IsBelowMark};
 
 use crate::faults::RunFault;
 use crate::line::run_line;
@@ -40,6 +43,13 @@ pub(crate) fn run_lines<F: Shelf, H: Host>(
         (start_on F.Shelf H.Host now shelf.old host.old (map (bytes_at script.now) spans.now) (state_of client.old) (end_of client.old)) host.old host.new result }
     ensures state { F.tells → OnOk result
         (state_of client.new ≡ last_state (start_on F.Shelf H.Host now shelf.old host.old (map (bytes_at script.now) spans.now) (state_of client.old) (end_of client.old))) }
+
+    // Whatever the shelf tells, each image is kept for some state.
+    ensures later { H.tells → HasGateOn H.Host client.old host.old → KeepsSome H.Host (IsErrOf result RunFault.DiskFault) host.new }
+
+    // No file is asked for that the lines don't ask for, and no byte at or past byte 33,554,432 of a side is written.
+    ensures asked { LinesAsked F.Shelf shelf.old shelf.new (map (bytes_at script.now) spans.now) }
+    ensures below { H.tells → MeetsAll H.Host host.old host.new (IsBelowMark H.Host host.old) }
 
     ensures shelf_causes { HasShelfCauses F.Shelf (IsErrOf result) shelf.old shelf.new }
     ensures host_causes { HasHostCauses H.Host (IsErrOf result) host.old host.new }

@@ -1,19 +1,23 @@
 // A script is run against a store.
 ghost use Rattle.std.specs.Prelude.{◌≡◌, ◌≢◌, ◌⊎◌, ◌<◌, ◌≤◌, ◌^◌, [], List, ℕ, IfOk, IsErrOf, length};
 ghost use Rattle.host_model.specs.Causes.{Rose};
+ghost use Rattle.host_model.specs.Hosts.{MeetsAll};
 ghost use Rattle.client_state.specs.declared.client_state.ClientState.{ClientState};
 ghost use Rattle.enrol_states.specs.State.{last_moment};
 ghost use Rattle.jexl_transforms.specs.Table.{HasStandardNames};
 ghost use Rattle.client_core.specs.Clients.{state_of};
 ghost use Rattle.client_store.specs.Store.{StandsFor};
 ghost use Rattle.client_words.specs.Commands.{lines_of};
-ghost use Rattle.session_run.specs.Causes.{IsUnreached};
+ghost use Rattle.session_run.specs.Causes.{IsUnreached, OpensNone};
 ghost use Rattle.session_run.specs.FaultCauses.{IsStatusOf, HasShelfCauses, HasHostCauses};
 ghost use Rattle.session_run.specs.Files.{LinesAsked};
 ghost use Rattle.session_run.specs.Finds.{RunFound};
+ghost use Rattle.session_run.specs.Later.{MayGoOn};
 ghost use Rattle.session_run.specs.Runs.{Ran};
+ghost use Rattle.session_run.specs.Scripts.{TakesFew};
 ghost use Rattle.session_run.specs.Starts.{opened_on, last_state};
 ghost use Rattle.session_run.specs.Statuses.{status_of, IsOfLines, IsOfRun};
+ghost use Rattle.session_run.specs.Writes.{IsBelowMark};
 
 use crate::lines::run_lines;
 use crate::script::read_script;
@@ -40,6 +44,10 @@ pub(crate) fn run_client<F: Shelf, H: Host>(
     ensures state { IfOk result (λ client. F.tells → H.tells → (s : ClientState) → StandsFor (H.reads host.old Side.Left) (H.reads host.old Side.Right) s
         → state_of client ≡ last_state (opened_on F.Shelf H.Host now shelf.old host.old (lines_of script.now) s 0 0)) }
     ensures found { H.tells → RunFound H.Host host.old host.new (status_of result) }
+    ensures asked { LinesAsked F.Shelf shelf.old shelf.new (lines_of script.now) }
+    ensures unasked { OpensNone (status_of result) → shelf.new ≡ shelf.old }
+    ensures next { H.tells → MayGoOn H.Host host.old host.new (status_of result) }
+    ensures below { H.tells → MeetsAll H.Host host.old host.new (IsBelowMark H.Host host.old) }
     ensures is_of { IsOfLines (status_of result) }
     ensures shelf_causes { HasShelfCauses F.Shelf (IsStatusOf (status_of result)) shelf.old shelf.new }
     ensures host_causes { HasHostCauses H.Host (IsStatusOf (status_of result)) host.old host.new }
@@ -92,12 +100,17 @@ pub(crate) fn run<S: Source, F: Shelf, H: Host>(
     ensures ran { S.tells → F.tells → H.tells
         → Ran H.Host (LinesAsked F.Shelf shelf.old shelf.new) (opened_on F.Shelf H.Host now shelf.old host.old (lines_of (S.left source.old))) host.old host.new result }
     ensures found { H.tells → RunFound H.Host host.old host.new result }
+    ensures asked { S.tells → LinesAsked F.Shelf shelf.old shelf.new (lines_of (S.left source.old)) }
+    ensures unasked { OpensNone result → shelf.new ≡ shelf.old }
+    ensures next { H.tells → MayGoOn H.Host host.old host.new result }
+    ensures below { H.tells → MeetsAll H.Host host.old host.new (IsBelowMark H.Host host.old) }
     ensures is_of { IsOfRun result }
+    ensures taken { S.tells → TakesFew (S.left source.old) (S.left source.new) }
     ensures read { result ≡ RunStatus.Done → S.tells → S.left source.new ≡ [] }
     ensures too_long { result ≡ RunStatus.ScriptTooLong → S.tells → 2 ^ 20 < length (S.left source.old) }
     ensures too_long_where { S.tells → 2 ^ 20 < length (S.left source.old)
         → (result ≡ RunStatus.ScriptTooLong) ⊎ (result ≡ RunStatus.SourceFault) ⊎ (result ≡ RunStatus.OutOfMemory) }
-    ensures unreached { IsUnreached result → (host.new ≡ host.old) × (shelf.new ≡ shelf.old) }
+    ensures unreached { IsUnreached result → host.new ≡ host.old }
     ensures source_cause { result ≡ RunStatus.SourceFault → Rose (S.faults source.old) (S.faults source.new) }
     ensures shelf_causes { HasShelfCauses F.Shelf (IsStatusOf result) shelf.old shelf.new }
     ensures host_causes { HasHostCauses H.Host (IsStatusOf result) host.old host.new }

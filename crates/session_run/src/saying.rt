@@ -1,5 +1,5 @@
 // An answer is said.
-ghost use Rattle.std.specs.Prelude.{◌≡◌, ◌++◌, ℕ, List, OnOk, OnErr, take};
+ghost use Rattle.std.specs.Prelude.{◌≡◌, ◌≢◌, ◌++◌, ℕ, List, [], OnOk, OnErr, take};
 ghost use Rattle.host_model.specs.Causes.{HasCause};
 ghost use Rattle.host_model.specs.Hosts.{MeetsAll};
 ghost use Rattle.host_model.specs.Moments.{IsSaying, KeepsSide};
@@ -9,6 +9,8 @@ use host_model::{Host, SayFailed};
 
 /// Says an answer. One without bytes is not said.
 pub(crate) fn say_answer<H: Host>(host: &mut H, text: &str) -> Result<(), SayFailed>
+    ensures empty { text.now ≡ [] → host.new ≡ host.old }
+    ensures some { OnErr result (text.now ≢ []) }
     ensures said { H.tells → OnOk result (H.said host.new ≡ H.said host.old ++ text.now) }
     ensures said_part { H.tells → OnErr result ((n : ℕ) × (H.said host.new ≡ H.said host.old ++ take n text.now)) }
     ensures still { H.tells → (side : Side) → KeepsSide H.reads H.images side host.old host.new }

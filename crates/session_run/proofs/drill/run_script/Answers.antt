@@ -1,6 +1,7 @@
 -- The script of a drill is run, and then the summary is said.
 use Rattle.std.proofs.Common.{◌≡◌, ◌+◌, ℕ, List, [], ◌∷◌, Err, arith, sym, ap, ◌∙◌, subst}
 use Rattle.host_model.specs.declared.side.Side.TheVariants.{Left, Right}
+use Rattle.host_model.proofs.Meeting.{met_weaker}
 use Rattle.pair_store.specs.Repair.{repair_cost}
 use Rattle.client_state.specs.declared.client_state.ClientState.{ClientState}
 use Rattle.recipe_drill.specs.Parts.{parts_of}
@@ -11,12 +12,14 @@ use Rattle.session_run.specs.DrillEnds.{ScriptEnds}
 use Rattle.session_run.specs.Drills.{drill_fresh, drill_start, drill_summary}
 use Rattle.session_run.specs.Ends.{RunEnds}
 use Rattle.session_run.specs.FaultCauses.{IsStatusOf}
+use Rattle.session_run.specs.Moments.{AfterPrefix}
 use Rattle.session_run.specs.Statuses.{IsOfLines, IsOfMaking}
 use Rattle.session_run.specs.Writes.{IsBelowMark}
 use Rattle.session_run.proofs.Belonging.{drill_status, status_was, drill_is_of, summary_is_of}
 use Rattle.session_run.proofs.Causing.{causes_behind}
 use Rattle.session_run.proofs.DrillScripts.{setting_with, setting_is, lines_are, here, unsaid_met, unsaid_ends, said_met, said_ends, ready_elsewhere}
 use Rattle.session_run.proofs.Linking.{among_one}
+use Rattle.session_run.proofs.Running.{elsewhere}
 use Rattle.session_run.proofs.SpelledStores.{spelled_ends}
 use Rattle.session_run.proofs.Starting.{begin}
 use Rattle.session_run.proofs.Writing.{met_now, below_then, below_said}
@@ -34,15 +37,17 @@ returns-in-Ok-clause-any_moment g c tells =
     let all = c.requires.made tells in
     let kept = all (h.reads old Left) (h.reads old Right) (g.met.H.Host.read_is_image old Left tells) (g.met.H.Host.read_is_image old Right tells) in
     let ran = c.in-Ok.ensures.ran tt tells in
+    let lines = lines_of c.as_slice.result.now in
+    let at = setting_with (parts_of d) now in
     let from = λ (x : ClientState) (place bytes : ℕ). begin (setting_with (parts_of d) now) x place (lines_of c.as_slice.result.now) (h.said old) (h.written old + bytes) in
-    let cost = repair_cost (h.reads old Left) (h.reads old Right) in
-    let written = h.written old + cost in
-    let ends = spelled_ends h (λ (those : List (List ℕ)). Unit {0}) from (h.reads old Left) (h.reads old Right) s (s ∷ []) c.run_client.new.host Done (c.requires.spelled tells) (ran.ends (s ∷ []) s (among_one h old s all) kept) in
+    let written = h.written old + repair_cost (h.reads old Left) (h.reads old Right) in
+    let ends = spelled_ends h _ from (h.reads old Left) (h.reads old Right) s (s ∷ []) c.run_client.new.host Done (c.requires.spelled tells) (ran.ends (s ∷ []) s (among_one h old s all) kept) in
     ready_elsewhere h c.args.start c.args.count now (setting_with (parts_of d) now) (lines_of c.as_slice.result.now) (setting_is d c.args.start c.args.count c.requires.drill now)
     (lines_are d c.args.start c.args.count c.requires.drill c.as_slice.result.now c.as_slice.ensures) old ends.0 written c.say_summary.new.host
     (said_met h c.args.start c.args.count now (setting_with (parts_of d) now) (lines_of c.as_slice.result.now) (setting_is d c.args.start c.args.count c.requires.drill now)
-    (lines_are d c.args.start c.args.count c.requires.drill c.as_slice.result.now c.as_slice.ensures) old ends.0 written c.run_client.new.host c.say_summary.new.host c.state.result.now
-    (c.state.ensures.state ∙ c.in-Ok.ensures.state tt tells s (stands_of_kept _ _ s kept)) ends.2 (ran.crash s ends.0 cost all) (c.say_summary.ensures.any_moment tells))
+    (lines_are d c.args.start c.args.count c.requires.drill c.as_slice.result.now c.as_slice.ensures) old ends.0 written _ c.run_client.new.host c.say_summary.new.host c.state.result.now
+    (c.state.ensures.state ∙ c.in-Ok.ensures.state tt tells s (stands_of_kept _ _ s kept)) ends.2
+    (met_weaker h.moment h.might old c.run_client.new.host _ (AfterPrefix (begin at s ends.0 lines (h.said old) written)) (ran.crash s all) (elsewhere at s lines (h.said old) 0 (h.written old + 0) ends.0 written)) (c.say_summary.ensures.any_moment tells))
 
 pub returns-in-Ok-clause-ends : goal.returns-in-Ok-clause-ends
 returns-in-Ok-clause-ends g c tells =
@@ -55,11 +60,11 @@ returns-in-Ok-clause-ends g c tells =
     let kept = all (h.reads old Left) (h.reads old Right) (g.met.H.Host.read_is_image old Left tells) (g.met.H.Host.read_is_image old Right tells) in
     let from = λ (x : ClientState) (place bytes : ℕ). begin (setting_with (parts_of d) now) x place (lines_of c.as_slice.result.now) (h.said old) (h.written old + bytes) in
     let written = h.written old + repair_cost (h.reads old Left) (h.reads old Right) in
-    let ends = spelled_ends h (λ (those : List (List ℕ)). Unit {0}) from (h.reads old Left) (h.reads old Right) s (s ∷ []) c.run_client.new.host Done (c.requires.spelled tells) ((c.in-Ok.ensures.ran tt tells).ends (s ∷ []) s (among_one h old s all) kept) in (
+    let ends = spelled_ends h _ from (h.reads old Left) (h.reads old Right) s (s ∷ []) c.run_client.new.host Done (c.requires.spelled tells) ((c.in-Ok.ensures.ran tt tells).ends (s ∷ []) s (among_one h old s all) kept) in (
       ends.0,
       ends.1,
       said_ends h c.args.start c.args.count now (setting_with (parts_of d) now) (lines_of c.as_slice.result.now) (setting_is d c.args.start c.args.count c.requires.drill now)
-          (lines_are d c.args.start c.args.count c.requires.drill c.as_slice.result.now c.as_slice.ensures) old ends.0 written c.run_client.new.host c.say_summary.new.host c.state.result.now
+          (lines_are d c.args.start c.args.count c.requires.drill c.as_slice.result.now c.as_slice.ensures) old ends.0 written _ c.run_client.new.host c.say_summary.new.host c.state.result.now
           (c.state.ensures.state ∙ c.in-Ok.ensures.state tt tells s (stands_of_kept _ _ s kept)) ends.2 (c.say_summary.ensures.still tells) (c.say_summary.ensures.written tells) c.say_summary.result (c.say_summary.ensures.ends tells),
     )
 
@@ -68,7 +73,7 @@ returns-in-Ok-clause-below g c tells =
     let h = g.H.Host in
     let old = c.args.host.now in
     let mid = c.run_client.new.host in
-    let below = (c.in-Ok.ensures.ran tt tells).below in
+    let below = c.run_client.ensures.below tells in
     below_then h old mid c.say_summary.new.host (g.met.H.Host.read_is_image mid Left tells) (g.met.H.Host.read_is_image mid Right tells) below
     (met_now h old mid (IsBelowMark h old) below (g.met.H.Host.counts_now mid) tells)
     (below_said h mid c.say_summary.new.host _ (c.say_summary.ensures.any_moment tells))
@@ -89,12 +94,11 @@ returns-clause-any_moment g c tells =
     let now = c.args.now in
     let s = drill_fresh now in
     let d = c.args.drill in
-    let cost = repair_cost (h.reads old Left) (h.reads old Right) in
-    let written = h.written old + cost in
+    let written = h.written old + 0 in
     ready_elsewhere h c.args.start c.args.count now (setting_with (parts_of d) now) (lines_of c.as_slice.result.now) (setting_is d c.args.start c.args.count c.requires.drill now)
     (lines_are d c.args.start c.args.count c.requires.drill c.as_slice.result.now c.as_slice.ensures) old 0 written c.run_client.new.host
     (unsaid_met h c.args.start c.args.count now (setting_with (parts_of d) now) (lines_of c.as_slice.result.now) (setting_is d c.args.start c.args.count c.requires.drill now)
-    (lines_are d c.args.start c.args.count c.requires.drill c.as_slice.result.now c.as_slice.ensures) old 0 written c.run_client.new.host ((c.run_client.ensures.ran tt tells).crash s 0 cost (c.requires.made tells)))
+    (lines_are d c.args.start c.args.count c.requires.drill c.as_slice.result.now c.as_slice.ensures) old 0 written c.run_client.new.host ((c.run_client.ensures.ran tt tells).crash s (c.requires.made tells)))
 
 pub returns-clause-ends : goal.returns-clause-ends
 returns-clause-ends g c tells =
@@ -123,7 +127,7 @@ returns-clause-ends g c tells =
     )
 
 pub returns-clause-below : goal.returns-clause-below
-returns-clause-below g c tells = (c.run_client.ensures.ran tt tells).below
+returns-clause-below g c tells = c.run_client.ensures.below tells
 
 pub returns-clause-is_of : goal.returns-clause-is_of
 returns-clause-is_of g c = subst IsOfMaking (sym c.ended.ensures) (drill_is_of c.in-Err.status c.in-Err.ensures.is_of (λ is. absurd (omega (arith, c.in-Err.ensures.shelf_causes.shelf is))))

@@ -1,5 +1,5 @@
 -- What the words ask for is done.
-use Rattle.std.proofs.Common.{ℕ, List, inl, inr, ap, arith, refl, subst, Some}
+use Rattle.std.proofs.Common.{ℕ, List, [], inl, inr, ap, arith, refl, subst, Some}
 use Rattle.std.specs.Prelude.{map, string_bytes}
 use Rattle.session_run.specs.DrillEnds.{Drilled}
 use Rattle.session_run.specs.Making.{Made}
@@ -9,6 +9,7 @@ use Rattle.session_run.proofs.Belonging.{run_belongs}
 use Rattle.session_run.proofs.Judging.{run_complete}
 use Rattle.session_run.proofs.MakingCauses.{making_causes}
 use Rattle.session_run.proofs.WordLists.{one_id, one_start, one_count, run_not_drill, init_not_drill, not_both, run_makes_none}
+use Rattle.session_run.proofs.Writing.{below_unwritten}
 use Rattle.session_run.proofs.entry.nimbus.Goals as goal
 
 -- ---- no form
@@ -31,15 +32,20 @@ returns-in-None-clause-causes g c =
       shelf_rose = λ is. absurd cc;
       disk_rose = λ is. absurd cc;
       say_rose = λ is. absurd cc;
-      unreached = λ is. (refl, refl);
+      unreached = λ is. refl;
+      unasked = λ is. refl;
       unread = λ is. refl;
       apart = λ is. (refl, refl);
+      asked = λ is_run. absurd (none (inl is_run));
       files = λ tells name. refl;
       too_long = λ is. absurd cc;
       too_long_where = λ is_run. absurd (none (inl is_run));
+      taken = λ tells. ([], refl, omega arith);
       read = λ is_run. absurd (none (inl is_run));
       run_found = λ is_run. absurd (none (inl is_run));
       making_found = λ is. absurd (none (inr is));
+      next = λ is_run. absurd (none (inl is_run));
+      below = λ tells. below_unwritten g.H.Host c.args.host.now (λ l r u met. g.met.H.Host.only_now c.args.host.now l r u tells met);
       run_done = λ is_run. absurd (none (inl is_run));
       making_done = λ is. absurd (none (inr is));
     }
@@ -68,7 +74,7 @@ pub returns-in-Some-Init-clause-causes : goal.returns-in-Some-Init-clause-causes
 returns-in-Some-Init-clause-causes g c =
     let init = c.init.ensures in
     let there = c.in-Some-Init.ensures.init c.in-Some-Init.id (ap Some c.in-Some-Init.field-0-is) in
-    making_causes g.S.Source g.F.Shelf g.H.Host _ c.args.source.now c.args.shelf.now c.args.host.now c.init.new.host c.init.result (inl (c.in-Some-Init.id, there)) init.is_of init.host_causes init.found
+    making_causes g.S.Source g.F.Shelf g.H.Host _ c.args.source.now c.args.shelf.now c.args.host.now c.init.new.host c.init.result (inl (c.in-Some-Init.id, there)) init.is_of init.host_causes init.found (λ tells. (init.made tells).below)
 
 -- ---- a drill
 
@@ -97,7 +103,7 @@ pub returns-in-Some-Drill-clause-causes : goal.returns-in-Some-Drill-clause-caus
 returns-in-Some-Drill-clause-causes g c =
     let drill = c.drill.ensures in
     let there : IsDrill (map string_bytes c.args.words.now) = (c.in-Some-Drill.start, c.in-Some-Drill.count, c.in-Some-Drill.ensures.drill c.in-Some-Drill.start c.in-Some-Drill.count (ap Some c.in-Some-Drill.field-0-is)) in
-    making_causes g.S.Source g.F.Shelf g.H.Host _ c.args.source.now c.args.shelf.now c.args.host.now c.drill.new.host c.drill.result (inr there) drill.is_of drill.host_causes drill.found
+    making_causes g.S.Source g.F.Shelf g.H.Host _ c.args.source.now c.args.shelf.now c.args.host.now c.drill.new.host c.drill.result (inr there) drill.is_of drill.host_causes drill.found (λ tells. (drill.drilled tells).below)
 
 -- its numbers are within their bounds
 pub drill-requires-clause-at_least : goal.drill-requires-clause-at_least
@@ -135,14 +141,19 @@ returns-in-Some-Run-clause-causes g c =
       disk_rose = run.host_causes.disk;
       say_rose = run.host_causes.say;
       unreached = run.unreached;
+      unasked = run.unasked;
       unread = λ is. absurd (subst IsOfRun is run.is_of);
       apart = λ is. absurd (run_makes_none _ there is);
+      asked = λ is_run. run.asked;
       files = run.shelf_causes.files;
       too_long = run.too_long;
       too_long_where = λ is_run. run.too_long_where;
+      taken = run.taken;
       read = λ is_run. run.read;
       run_found = λ is_run. run.found;
       making_found = λ is. absurd (run_makes_none _ there is);
+      next = λ is_run. run.next;
+      below = run.below;
       run_done = λ is_run source_tells tells short found source shelf disk say. run_complete _ _ answered (run.found tells).finds found (λ is. omega (arith, short, run.too_long is source_tells))
           (λ is. source (run.source_cause is)) (λ is. shelf (run.shelf_causes.shelf is)) (λ is. disk (run.host_causes.disk is)) (λ is. say (run.host_causes.say is));
       making_done = λ is. absurd (run_makes_none _ there is);

@@ -45,7 +45,7 @@ returns-in_err-say_answer-clause-ran g c tells =
     let same = c.say_answer.ensures.cost tells in
     subst (λ (words : List ℕ). LineRan h client s words start new result) (c.as_str.ensures.text ∙ c.in_ok-text.ensures) (record {
       moments = λ gate. said_met h start new s text (all_kept h client start (c.requires.holds tells) gate) (c.say_answer.ensures.any_moment tells);
-      ends = λ gate. said_ends h start new s s text result and (kept_said h start new (c.say_answer.ensures.still tells) s (all_kept h client start (c.requires.holds tells) gate)) (c.in_err-say_answer.ensures.said_part tells);
+      ends = λ gate. said_ends h start new s s text result and c.in_err-say_answer.ensures.some (kept_said h start new (c.say_answer.ensures.still tells) s (all_kept h client start (c.requires.holds tells) gate)) (c.in_err-say_answer.ensures.said_part tells);
       said = err_ok _ result SayFault and;
       cost = err_cost _ _ _ result SayFault and (omega (arith, same)) (omega (arith, same));
     })

@@ -1,5 +1,5 @@
 -- The step that is prepared is the command's, and it is committed and answered.
-use Rattle.std.proofs.Common.{◌≡◌, List, ℕ, ◌∙◌, ap, subst, sym, OnOk}
+use Rattle.std.proofs.Common.{◌≡◌, List, [], ℕ, ◌∙◌, ap, subst, sym, OnOk}
 use Rattle.client_state.specs.declared.client_state.ClientState.{ClientState}
 use Rattle.client_steps.specs.declared.session.Session.{Session}
 use Rattle.client_core.specs.Clients.{state_of, session_of, end_of, step_of}
@@ -26,6 +26,20 @@ returns-in_err-prepared-clause-ran g c shelf_tells tells =
     undone_ran h client start (λ l r u met. g.met.H.Host.only_now start l r u tells met) c.from_residual.result (of_step fault) c.from_residual.ensures.1 (c.requires.holds tells) _ _
     (λ kept. unprepared_ends h start (state_of client) _ _ kept fault c.from_residual.result c.from_residual.ensures.1)
 
+pub returns-in_err-prepared-clause-somehow : goal.returns-in_err-prepared-clause-somehow
+returns-in_err-prepared-clause-somehow g c tells =
+    let h = g.H.Host in
+    let client = c.args.client.now in
+    let start = c.args.host.now in
+    let fault = c.in_err-prepared.field-0.0 in (
+      state_of client,
+      (
+        [],
+        undone_ran h client start (λ l r u met. g.met.H.Host.only_now start l r u tells met) c.from_residual.result (of_step fault) c.from_residual.ensures.1 (c.requires.holds tells) (state_of client) []
+            (λ kept. unprepared_ends h start (state_of client) _ _ kept fault c.from_residual.result c.from_residual.ensures.1),
+      ),
+    )
+
 pub returns-in_err-prepared-clause-stays_open : goal.returns-in_err-prepared-clause-stays_open
 returns-in_err-prepared-clause-stays_open g c tells =
     let start = c.args.host.now in
@@ -41,6 +55,17 @@ returns-in_err-text-clause-ran g c shelf_tells tells =
     let result = c.from_residual-in_err-text.result in
     let and = c.from_residual-in_err-text.ensures.1 in
     undone_ran h client start (λ l r u met. g.met.H.Host.only_now start l r u tells met) result OutOfMemory and (c.requires.holds tells) _ _ (λ kept. unanswered_ends h start (state_of client) _ _ kept result and)
+
+pub returns-in_err-text-clause-somehow : goal.returns-in_err-text-clause-somehow
+returns-in_err-text-clause-somehow g c tells =
+    let h = g.H.Host in
+    let client = c.args.client.now in
+    let start = c.args.host.now in
+    let result = c.from_residual-in_err-text.result in
+    let and = c.from_residual-in_err-text.ensures.1 in (
+      state_of client,
+      ([], undone_ran h client start (λ l r u met. g.met.H.Host.only_now start l r u tells met) result OutOfMemory and (c.requires.holds tells) (state_of client) [] (λ kept. unanswered_ends h start (state_of client) _ _ kept result and)),
+    )
 
 pub returns-in_err-text-clause-stays_open : goal.returns-in_err-text-clause-stays_open
 returns-in_err-text-clause-stays_open g c tells =
@@ -65,6 +90,14 @@ returns-clause-ran g c shelf_tells tells =
     subst (λ (text : List ℕ). LineRan h old to.state text start new c.commit.result) words
     (subst (λ (t : ClientState). LineRan h old t c.as_str.result.now start new c.commit.result) leads.state
     (ran_again h old fresh c.in_ok-prepared.ensures.same (next_state fresh c.in_ok-prepared.prepared) c.as_str.result.now start new c.commit.result (c.commit.ensures.ran tells)))
+
+pub returns-clause-somehow : goal.returns-clause-somehow
+returns-clause-somehow g c tells =
+    let fresh = c.prepare.new.self in
+    let next = next_state fresh c.in_ok-prepared.prepared in (
+      next,
+      (c.as_str.result.now, ran_again g.H.Host c.args.client.now fresh c.in_ok-prepared.ensures.same next c.as_str.result.now c.args.host.now c.commit.new.host c.commit.result (c.commit.ensures.ran tells)),
+    )
 
 pub returns-clause-stays_open : goal.returns-clause-stays_open
 returns-clause-stays_open g c tells =

@@ -1,9 +1,10 @@
 -- A line with a command does it, and one without is answered alone.
-use Rattle.std.proofs.Common.{◌≢◌, List, ℕ, ◌∙◌, refl, subst, rules, Err}
+use Rattle.std.proofs.Common.{◌≢◌, List, [], ℕ, ◌∙◌, refl, subst, rules, Err}
 use Rattle.client_core.specs.Clients.{state_of, end_of, step_of}
 use Rattle.client_steps.specs.Settings.{setting}
 use Rattle.client_store.proofs.Placing.{place_same}
 use Rattle.client_words.specs.declared.line.LineFault.TheVariants.{OutOfMemory}
+use Rattle.client_words.specs.Answers.{fault_answer}
 use Rattle.client_words.specs.Commands.{command_of}
 use Rattle.session_run.specs.declared.faults.RunFault.TheVariants as run
 use Rattle.session_run.specs.Lines.{LineRan}
@@ -24,6 +25,9 @@ returns-in-Ok-clause-ran g c shelf_tells tells =
     let is = read_ok c.in-Ok.command (command_of line) c.in-Ok.ensures.value in
     subst (λ (run : RunState). LineRan h client run.state (answer at (run_of client) line) c.args.host.now c.run_command.new.host c.run_command.result) (after-command at (run_of client) line c.in-Ok.command is)
     (subst (λ (text : List ℕ). LineRan h client (step_of client at c.in-Ok.command).state text c.args.host.now c.run_command.new.host c.run_command.result) (answer-command at (run_of client) line c.in-Ok.command is) (c.run_command.ensures.ran shelf_tells tells))
+
+pub returns-in-Ok-clause-somehow : goal.returns-in-Ok-clause-somehow
+returns-in-Ok-clause-somehow g c = c.run_command.ensures.somehow
 
 pub returns-in-Ok-clause-stays_open : goal.returns-in-Ok-clause-stays_open
 returns-in-Ok-clause-stays_open g c = c.run_command.ensures.stays_open
@@ -61,6 +65,9 @@ returns-in-Err-clause-ran g c shelf_tells tells =
     subst (λ (run : RunState). LineRan h client run.state (answer at (run_of client) line) c.args.host.now c.refuse.new.host c.refuse.result) (after-fault at (run_of client) line c.in-Err.fault is)
     (subst (λ (text : List ℕ). LineRan h client (state_of client) text c.args.host.now c.refuse.new.host c.refuse.result) (answer-fault at (run_of client) line c.in-Err.fault is) (c.refuse.ensures.ran tells))
 
+pub returns-in-Err-clause-somehow : goal.returns-in-Err-clause-somehow
+returns-in-Err-clause-somehow g c tells = (state_of c.args.client.now, (fault_answer c.in-Err.fault, c.refuse.ensures.ran tells))
+
 pub returns-in-Err-clause-stays_open : goal.returns-in-Err-clause-stays_open
 returns-in-Err-clause-stays_open g c = c.refuse.ensures.stays_open
 
@@ -80,6 +87,14 @@ pub returns-in-Err-OutOfMemory-clause-ran : goal.returns-in-Err-OutOfMemory-clau
 returns-in-Err-OutOfMemory-clause-ran g c shelf_tells tells =
     let start = c.args.host.now in
     undone_ran g.H.Host c.args.client.now start (λ l r u met. g.met.H.Host.only_now start l r u tells met) (Err run.OutOfMemory) run.OutOfMemory refl (c.requires.holds tells) _ _ (λ kept. (kept, refl))
+
+pub returns-in-Err-OutOfMemory-clause-somehow : goal.returns-in-Err-OutOfMemory-clause-somehow
+returns-in-Err-OutOfMemory-clause-somehow g c tells =
+    let client = c.args.client.now in
+    let start = c.args.host.now in (
+      state_of client,
+      ([], undone_ran g.H.Host client start (λ l r u met. g.met.H.Host.only_now start l r u tells met) (Err run.OutOfMemory) run.OutOfMemory refl (c.requires.holds tells) (state_of client) [] (λ kept. (kept, refl))),
+    )
 
 pub returns-in-Err-OutOfMemory-clause-stays_open : goal.returns-in-Err-OutOfMemory-clause-stays_open
 returns-in-Err-OutOfMemory-clause-stays_open g c tells =

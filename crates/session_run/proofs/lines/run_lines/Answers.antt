@@ -1,7 +1,7 @@
 -- The run's promises, line by line.
 use Rattle.std.proofs.Common.{◌≡◌, ◌≢◌, ◌<◌, inl, inr, ⊎_elim, ◌+◌, ℕ, Result, Err, ◌++◌, length, map, take, sym, ap, ◌∙◌, refl, subst, arith}
 use Rattle.std.proofs.lemmas.Bool.{cases_eq}
-use Rattle.std.proofs.lemmas.List.{append-nil, length-map}
+use Rattle.std.proofs.lemmas.List.{append-nil, length-map, take_all}
 use Rattle.host_model.specs.declared.side.Side.TheVariants.{Left, Right}
 use Rattle.host_model.proofs.Meeting.{started}
 use Rattle.client_core.specs.Clients.{state_of, end_of, HasGateOn}
@@ -16,8 +16,9 @@ use Rattle.session_run.specs.Files.{LinesAsked}
 use Rattle.session_run.specs.Moments.{AfterPrefix}
 use Rattle.session_run.specs.Runs.{LinesRan}
 use Rattle.session_run.specs.Writes.{IsBelowMark}
-use Rattle.session_run.proofs.Asking.{none_asked, asked_more}
+use Rattle.session_run.proofs.Asking.{none_asked, asked_more, asked_all}
 use Rattle.session_run.proofs.Ending.{err_is}
+use Rattle.session_run.proofs.Linking.{keeps_ended, keeps_done}
 use Rattle.session_run.proofs.Lining.{state_more, said_more, place_more, cost_more, most_more, changes_here, met_more, ends_more}
 use Rattle.session_run.proofs.Placing.{line_within, line_more, line_at}
 use Rattle.session_run.proofs.Running.{some_at_start}
@@ -81,7 +82,6 @@ returns-in_err-run_line-clause-ran g c shelf_tells tells =
           (asked_more g.F.Shelf c.args.shelf.now c.loop-span.shelf c.run_line.new.shelf lines i line more inv.asked c.run_line.ensures.asked)
           (most_more at _ same s lines i line within more (run_of c.loop-span.client) (inv.state shelf_tells) place (end_of c.loop-span.client) written (h.written c.loop-span.host) (h.written new) (inv.place shelf_tells) (inv.cost shelf_tells tells) (c.run_line.ensures.ran shelf_tells tells).cost.most) there
           (λ is. c.in_err-run_line.ensures.named (ap Err is)) ((c.in_err-run_line.ensures.ran shelf_tells tells).ends (inv.gate tells gate));
-      below = below_then h c.args.host.now c.loop-span.host new (g.met.H.Host.read_is_image c.loop-span.host Left tells) (g.met.H.Host.read_is_image c.loop-span.host Right tells) (inv.below tells) (inv.below_now tells) (c.run_line.ensures.stays_open tells).below;
       images = tt;
       text = tt;
       cost = tt;
@@ -150,14 +150,51 @@ returns-clause-ran g c shelf_tells tells =
     let all = λ (gate : HasGateOn h client host). subst (λ (n : ℕ). AllKept h host (after at s lines n)) whole (subst (AllKept h host) state (all_kept h client host (inv.holds tells) gate)) in
     record {
       moments = inv.any_moment shelf_tells tells;
-      below = inv.below tells;
-      ends = λ gate. record { kept = all (inv.gate tells gate); text = text; cost = cost };
+      ends = λ gate. record { kept = all (inv.gate tells gate); text = text; cost = cost; asks = subst (LinesAsked g.F.Shelf c.args.shelf.now c.loop-span.shelf) (take_all i lines (omega (arith, whole))) inv.asked };
       images = subst (λ (n : ℕ). AllStand h host (after at s lines n)) whole (subst (AllStand h host) state (all_stand h client host (inv.holds tells)));
       text = text;
       cost = cost;
       kept = λ where_kept. all (⊎_elim (inv.gate tells)
           (λ changes. inv.gate_made shelf_tells tells changes.0 (subst (λ (n : ℕ). changes.0 < n) (sym whole) changes.1) changes.2) where_kept);
     }
+
+-- ---- what is kept
+
+pub returns-in_err-run_line-clause-later : goal.returns-in_err-run_line-clause-later
+returns-in_err-run_line-clause-later g c tells gate =
+    let fault = c.in_err-run_line.field-0.0 in
+    keeps_ended g.H.Host c.loop-span.client c.loop-span.host c.run_line.new.host fault (c.loop-span.invariant.gate tells gate) (c.in_err-run_line.ensures.somehow tells) c.from_residual.result (err_is c.from_residual.result fault c.from_residual.ensures.1)
+
+pub returns-clause-later : goal.returns-clause-later
+returns-clause-later g c tells gate =
+    let h = g.H.Host in
+    let client = c.loop-span.client in
+    let host = c.loop-span.host in
+    let inv = c.loop-span.invariant in
+    keeps_done h host _ (state_of client) (all_kept h client host (inv.holds tells) (inv.gate tells gate))
+
+-- ---- what is asked for, and where is written
+
+pub returns-in_err-run_line-clause-asked : goal.returns-in_err-run_line-clause-asked
+returns-in_err-run_line-clause-asked g c =
+    let f = g.F.Shelf in
+    let script = c.args.script.now in
+    let spans = c.args.spans.now in
+    let lines = map (bytes_at script) spans in
+    let i = c.loop-span.span-index in
+    let line = c.bytes_at-line.result.now in
+    let more = line_more script spans i _ line c.loop-span-test.true c.bytes_at-line.ensures in
+    asked_all f c.args.shelf.now c.run_line.new.shelf (i + 1) lines (asked_more f c.args.shelf.now c.loop-span.shelf c.run_line.new.shelf lines i line more c.loop-span.invariant.asked c.run_line.ensures.asked)
+
+pub returns-clause-asked : goal.returns-clause-asked
+returns-clause-asked g c =
+    asked_all g.F.Shelf c.args.shelf.now c.loop-span.shelf c.loop-span.span-index (map (bytes_at c.args.script.now) c.args.spans.now) c.loop-span.invariant.asked
+
+pub returns-in_err-run_line-clause-below : goal.returns-in_err-run_line-clause-below
+returns-in_err-run_line-clause-below g c tells =
+    let h = g.H.Host in
+    let inv = c.loop-span.invariant in
+    below_then h c.args.host.now c.loop-span.host c.run_line.new.host (g.met.H.Host.read_is_image c.loop-span.host Left tells) (g.met.H.Host.read_is_image c.loop-span.host Right tells) (inv.below tells) (inv.below_now tells) (c.run_line.ensures.stays_open tells).below
 
 pub returns-clause-state : goal.returns-clause-state
 returns-clause-state g c shelf_tells =
