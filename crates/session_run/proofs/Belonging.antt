@@ -1,5 +1,6 @@
 -- Which statuses a call has, and which words each belongs to.
 use Rattle.std.proofs.Common.{◌≡◌, ◌⊎◌, inl, inr, ℕ, List, refl, sym, subst, Err}
+use Rattle.std.specs.Prelude.{IsErrOf}
 use Rattle.host_model.specs.declared.host.Host.{Ghosts}
 use Rattle.pair_store.specs.Repair.{IsLeftByOpening}
 use Rattle.client_state.specs.declared.client_state.ClientState.{ClientState}
@@ -134,6 +135,11 @@ pub script_is_of : (fault : ScriptFault) → IsOfRun (of_script fault)
 script_is_of script.TooLong = tt
 script_is_of script.SourceFault = tt
 script_is_of script.OutOfMemory = tt
+
+pub script_source : {T : Type 0} (fault : ScriptFault) → IsErrOf {T = T} (Err fault) script.SourceFault → of_script fault ≡ status.SourceFault
+script_source script.TooLong is = absurd cc
+script_source script.SourceFault is = refl
+script_source script.OutOfMemory is = absurd cc
 
 pub script_not_done : (fault : ScriptFault) → of_script fault ≡ status.Done → ⊥
 script_not_done script.TooLong is = absurd cc

@@ -1,5 +1,5 @@
 -- The cause of a fault, as that of the call that met it.
-use Rattle.std.proofs.Common.{◌≡◌, ◌≤◌, refl, sym, ◌∙◌, ap, arith, Err}
+use Rattle.std.proofs.Common.{◌≡◌, ◌≤◌, refl, sym, ◌∙◌, ap, subst, arith, Result, Ok, Err, IsErrAnd}
 use Rattle.std.specs.Prelude.{IsErrOf}
 use Rattle.host_model.specs.Causes.{Rose}
 use Rattle.host_model.specs.declared.host.Host.{Ghosts}
@@ -11,9 +11,10 @@ use Rattle.client_store.specs.declared.faults.MakeFault.TheVariants as make
 use Rattle.session_run.specs.declared.faults.RunFault.{RunFault}
 use Rattle.session_run.specs.declared.faults.RunFault.TheVariants as run
 use Rattle.session_run.specs.declared.status.RunStatus.{RunStatus}
-use Rattle.session_run.specs.declared.status.RunStatus.TheVariants.{Done, NoStore, BadStore, ShelfFault, DiskFault, SayFault, OutOfMemory}
+use Rattle.session_run.specs.declared.status.RunStatus.TheVariants.{Done, NoStore, AlreadyStore, BadStore, ShelfFault, DiskFault, SayFault, OutOfMemory}
 use Rattle.session_run.specs.FaultCauses.{IsStatusOf, HasHostCauses, HasShelfCauses}
 use Rattle.session_run.specs.Statuses.{of_run, of_store, of_making}
+use Rattle.session_run.proofs.Ending.{err_is}
 
 -- each fault has its own status
 abbrev fault_of : RunStatus → RunFault
@@ -30,6 +31,13 @@ own_status run.OutOfMemory = refl
 
 same_fault : (fault other : RunFault) → IsStatusOf (of_run fault) other → fault ≡ other
 same_fault fault other is = sym (own_status fault) ∙ ap fault_of is ∙ own_status other
+
+abbrev the_fault : Result (Unit {0}) RunFault → RunFault
+the_fault (Ok done) = run.OutOfMemory
+the_fault (Err fault) = fault
+
+status_is : (fault other : RunFault) → IsErrOf {T = Unit {0}} (Err fault) other → IsStatusOf (of_run fault) other
+status_is fault other is = ap (λ (result : Result (Unit {0}) RunFault). of_run (the_fault result)) is
 
 module _ {F : Type 0} (f : shelves.Ghosts F) where
   -- the shelf was not asked
@@ -48,12 +56,13 @@ module _ {F : Type 0} (f : shelves.Ghosts F) where
   shelf_causes_of fault old new causes = record { shelf = λ is. causes.shelf (ap Err (same_fault fault run.ShelfFault is)); later = causes.later; files = causes.files }
 
 module _ {H : Type 0} (h : Ghosts H) where
-  module _ (old mid new : H) (disk : h.disk_faults old ≤ h.disk_faults mid) (say : h.say_faults old ≤ h.say_faults mid) where
+  module _ (old mid new : H) (disk : h.disk_faults old ≤ h.disk_faults mid) (say : h.say_faults mid ≡ h.say_faults old) where
     -- one call after the other
     pub causes_behind : (is : RunFault → Type 0) → HasHostCauses h is mid new → HasHostCauses h is old new
     causes_behind is causes = record {
       disk = λ fault. omega (arith, disk, causes.disk fault);
       say = λ fault. omega (arith, say, causes.say fault);
+      say_quiet = λ other. causes.say_quiet other ∙ say;
       disk_later = omega (arith, disk, causes.disk_later);
       say_later = omega (arith, say, causes.say_later);
     }
@@ -62,29 +71,40 @@ module _ {H : Type 0} (h : Ghosts H) where
     host_causes_of fault causes = record {
       disk = λ is. omega (arith, disk, causes.disk (ap Err (same_fault fault run.DiskFault is)));
       say = λ is. omega (arith, say, causes.say (ap Err (same_fault fault run.SayFault is)));
+      say_quiet = λ other. causes.say_quiet (λ is. other (status_is fault run.SayFault is)) ∙ say;
       disk_later = omega (arith, disk, causes.disk_later);
       say_later = omega (arith, say, causes.say_later);
     }
 
-  module _ (old new : H) (disk : h.disk_faults old ≤ h.disk_faults new) (say : h.say_faults old ≤ h.say_faults new) where
-    -- all is done
-    pub done_causes : HasHostCauses h (IsStatusOf Done) old new
-    done_causes = record { disk = λ is. absurd cc; say = λ is. absurd cc; disk_later = disk; say_later = say }
-
+  module _ (old new : H) (disk : h.disk_faults old ≤ h.disk_faults new) where
     -- the output has failed
-    pub said_causes : Rose (h.say_faults old) (h.say_faults new) → HasHostCauses h (IsStatusOf SayFault) old new
-    said_causes rose = record { disk = λ is. absurd cc; say = λ is. rose; disk_later = disk; say_later = say }
+    pub unsaid_causes : h.say_faults old ≤ h.say_faults new → Rose (h.say_faults old) (h.say_faults new) → (result : Result (Unit {0}) RunFault) → IsErrAnd result (λ f. f ≡ run.SayFault) → HasHostCauses h (IsErrOf result) old new
+    unsaid_causes later rose result and =
+        subst (λ (r : Result (Unit {0}) RunFault). HasHostCauses h (IsErrOf r) old new) (sym (err_is result run.SayFault and))
+        (record { disk = λ is. absurd cc; say = λ is. rose; say_quiet = λ other. absurd (other refl); disk_later = disk; say_later = later })
 
-    -- the store was not opened
-    pub opening_causes : (fault : ClientFault) → (fault ≡ store.DiskFault → Rose (h.disk_faults old) (h.disk_faults new)) → HasHostCauses h (IsStatusOf (of_store fault)) old new
-    opening_causes store.NoStore rose = record { disk = λ is. absurd cc; say = λ is. absurd cc; disk_later = disk; say_later = say }
-    opening_causes store.BadStore rose = record { disk = λ is. absurd cc; say = λ is. absurd cc; disk_later = disk; say_later = say }
-    opening_causes store.DiskFault rose = record { disk = λ is. rose refl; say = λ is. absurd cc; disk_later = disk; say_later = say }
-    opening_causes store.OutOfMemory rose = record { disk = λ is. absurd cc; say = λ is. absurd cc; disk_later = disk; say_later = say }
+    pub said_causes : h.say_faults old ≤ h.say_faults new → Rose (h.say_faults old) (h.say_faults new) → HasHostCauses h (IsStatusOf SayFault) old new
+    said_causes later rose = record { disk = λ is. absurd cc; say = λ is. rose; say_quiet = λ other. absurd (other refl); disk_later = disk; say_later = later }
 
-    -- it was not made
-    pub making_causes_of : (fault : MakeFault) → (fault ≡ make.DiskFault → Rose (h.disk_faults old) (h.disk_faults new)) → HasHostCauses h (IsStatusOf (of_making fault)) old new
-    making_causes_of make.AlreadyStore rose = record { disk = λ is. absurd cc; say = λ is. absurd cc; disk_later = disk; say_later = say }
-    making_causes_of make.BadStore rose = record { disk = λ is. absurd cc; say = λ is. absurd cc; disk_later = disk; say_later = say }
-    making_causes_of make.DiskFault rose = record { disk = λ is. rose refl; say = λ is. absurd cc; disk_later = disk; say_later = say }
-    making_causes_of make.OutOfMemory rose = record { disk = λ is. absurd cc; say = λ is. absurd cc; disk_later = disk; say_later = say }
+    module _ (say : h.say_faults new ≡ h.say_faults old) where
+      -- another end than by a fault of the output
+      quiet_causes : (status : RunStatus) → (status ≡ SayFault → ⊥) → (status ≡ DiskFault → Rose (h.disk_faults old) (h.disk_faults new)) → HasHostCauses h (IsStatusOf status) old new
+      quiet_causes status unsaid rose = record { disk = rose; say = λ is. absurd (unsaid is); say_quiet = λ other. say; disk_later = disk; say_later = omega (arith, say) }
+
+      -- all is done
+      pub done_causes : HasHostCauses h (IsStatusOf Done) old new
+      done_causes = quiet_causes Done (λ is. absurd cc) (λ is. absurd cc)
+
+      -- the store was not opened
+      pub opening_causes : (fault : ClientFault) → (fault ≡ store.DiskFault → Rose (h.disk_faults old) (h.disk_faults new)) → HasHostCauses h (IsStatusOf (of_store fault)) old new
+      opening_causes store.NoStore rose = quiet_causes NoStore (λ is. absurd cc) (λ is. absurd cc)
+      opening_causes store.BadStore rose = quiet_causes BadStore (λ is. absurd cc) (λ is. absurd cc)
+      opening_causes store.DiskFault rose = quiet_causes DiskFault (λ is. absurd cc) (λ is. rose refl)
+      opening_causes store.OutOfMemory rose = quiet_causes OutOfMemory (λ is. absurd cc) (λ is. absurd cc)
+
+      -- it was not made
+      pub making_causes_of : (fault : MakeFault) → (fault ≡ make.DiskFault → Rose (h.disk_faults old) (h.disk_faults new)) → HasHostCauses h (IsStatusOf (of_making fault)) old new
+      making_causes_of make.AlreadyStore rose = quiet_causes AlreadyStore (λ is. absurd cc) (λ is. absurd cc)
+      making_causes_of make.BadStore rose = quiet_causes BadStore (λ is. absurd cc) (λ is. absurd cc)
+      making_causes_of make.DiskFault rose = quiet_causes DiskFault (λ is. absurd cc) (λ is. rose refl)
+      making_causes_of make.OutOfMemory rose = quiet_causes OutOfMemory (λ is. absurd cc) (λ is. absurd cc)

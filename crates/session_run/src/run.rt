@@ -111,6 +111,7 @@ pub(crate) fn run<S: Source, F: Shelf, H: Host>(
     ensures too_long_where { S.tells → 2 ^ 20 < length (S.left source.old)
         → (result ≡ RunStatus.ScriptTooLong) ⊎ (result ≡ RunStatus.SourceFault) ⊎ (result ≡ RunStatus.OutOfMemory) }
     ensures unreached { IsUnreached result → host.new ≡ host.old }
+    ensures source_quiet { ¬ (result ≡ RunStatus.SourceFault) → S.faults source.new ≡ S.faults source.old }
     ensures source_cause { result ≡ RunStatus.SourceFault → Rose (S.faults source.old) (S.faults source.new) }
     ensures shelf_causes { HasShelfCauses F.Shelf (IsStatusOf result) shelf.old shelf.new }
     ensures host_causes { HasHostCauses H.Host (IsStatusOf result) host.old host.new }

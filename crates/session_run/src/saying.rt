@@ -17,6 +17,7 @@ pub(crate) fn say_answer<H: Host>(host: &mut H, text: &str) -> Result<(), SayFai
     ensures any_moment { H.tells → MeetsAll H.Host host.old host.new (IsSaying (H.images host.old) (H.said host.old) text.now) }
     ensures cost { H.tells → H.written host.new ≡ H.written host.old }
     ensures cause { HasCause (H.say_faults host.old) (H.say_faults host.new) result }
+    ensures quiet { OnOk result (H.say_faults host.new ≡ H.say_faults host.old) }
     ensures disk_faults { H.disk_faults host.new ≡ H.disk_faults host.old }
 {
     if text.is_empty() {

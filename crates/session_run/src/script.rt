@@ -28,6 +28,7 @@ fn read_piece<'p, S: Source>(source: &mut S, piece: &'p mut [u8]) -> Result<&'p 
     ensures end { S.tells → IfOk result (λ bytes. 0 < length piece.old → bytes.now ≡ [] → S.left source.new ≡ []) }
     ensures kept { S.tells → OnErr result (S.left source.new ≡ S.left source.old) }
     ensures cause { HasCause (S.faults source.old) (S.faults source.new) result }
+    ensures quiet { OnOk result (S.faults source.new ≡ S.faults source.old) }
 {
     let count = source.read(piece)?;
     Ok(&piece[..count])
@@ -41,7 +42,7 @@ pub(crate) fn read_script<S: Source>(alloc: Global, source: &mut S) -> Result<Ve
     ensures taken { S.tells → TakesFew (S.left source.old) (S.left source.new) }
     ensures short { IfOk result (λ script. length script.items ≤ 2 ^ 20) }
     ensures too_long { IsErrOf result ScriptFault.TooLong → S.tells → 2 ^ 20 < length (S.left source.old) }
-    ensures faults { S.faults source.old ≤ S.faults source.new }
+    ensures quiet { ¬ IsErrOf result ScriptFault.SourceFault → S.faults source.new ≡ S.faults source.old }
     ensures cause { IsErrOf result ScriptFault.SourceFault → Rose (S.faults source.old) (S.faults source.new) }
 {
     let mut script = Vec::new(alloc);

@@ -8,6 +8,7 @@ use Rattle.client_core.proofs.Holding.{open_said, gate_said}
 use Rattle.session_run.specs.Writes.{IsBelowMark}
 use Rattle.session_run.specs.declared.faults.RunFault.TheVariants.{DiskFault, SayFault}
 use Rattle.session_run.proofs.Answering.{written_met, line_met}
+use Rattle.session_run.proofs.Causing.{unsaid_causes}
 use Rattle.session_run.proofs.Ending.{written_ends, said_ends}
 use Rattle.session_run.proofs.Undone.{err_ok}
 use Rattle.session_run.proofs.Outcomes.{err_cost}
@@ -74,6 +75,12 @@ returns-in_err-say_answer-clause-stays_open g c tells =
           (met_now h old mid (IsBelowMark h old) below (g.met.H.Host.counts_now mid) tells)
           (below_said h mid c.say_answer.new.host c.args.text.now (c.say_answer.ensures.any_moment tells));
     }
+
+pub returns-in_err-say_answer-clause-host_causes : goal.returns-in_err-say_answer-clause-host_causes
+returns-in_err-say_answer-clause-host_causes g c =
+    let said = c.in_err-say_answer.ensures in
+    unsaid_causes g.H.Host c.args.host.now c.say_answer.new.host (omega (arith, c.commit.ensures.cause.later, said.disk_faults)) (omega (arith, c.commit.ensures.say_faults, said.cause.later)) (omega (arith, c.commit.ensures.say_faults, said.cause.failed))
+    c.from_residual-in_err-say_answer.result c.from_residual-in_err-say_answer.ensures.1
 
 -- ---- the line is done and answered
 

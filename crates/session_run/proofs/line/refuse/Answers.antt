@@ -9,6 +9,7 @@ use Rattle.session_run.specs.declared.faults.RunFault.TheVariants.{SayFault, Out
 use Rattle.session_run.specs.Lines.{LineRan}
 use Rattle.session_run.specs.Moments.{DuringLine}
 use Rattle.session_run.proofs.Answering.{said_met}
+use Rattle.session_run.proofs.Causing.{unsaid_causes}
 use Rattle.session_run.proofs.Ending.{said_ends}
 use Rattle.session_run.proofs.Undone.{err_ok, undone_ran, undone_open}
 use Rattle.session_run.proofs.Outcomes.{err_cost, unanswered_ends}
@@ -57,6 +58,11 @@ returns-in_err-say_answer-clause-stays_open g c tells = record {
   gate_made = err_ok _ c.from_residual-in_err-say_answer.result SayFault c.from_residual-in_err-say_answer.ensures.1;
   below = below_said g.H.Host c.args.host.now c.say_answer.new.host c.as_str.result.now (c.say_answer.ensures.any_moment tells);
 }
+
+pub returns-in_err-say_answer-clause-host_causes : goal.returns-in_err-say_answer-clause-host_causes
+returns-in_err-say_answer-clause-host_causes g c =
+    let said = c.in_err-say_answer.ensures in
+    unsaid_causes g.H.Host c.args.host.now c.say_answer.new.host (omega (arith, said.disk_faults)) said.cause.later said.cause.failed c.from_residual-in_err-say_answer.result c.from_residual-in_err-say_answer.ensures.1
 
 -- ---- the line is answered
 

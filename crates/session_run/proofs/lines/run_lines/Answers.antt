@@ -1,5 +1,6 @@
 -- The run's promises, line by line.
 use Rattle.std.proofs.Common.{◌≡◌, ◌≢◌, ◌<◌, inl, inr, ⊎_elim, ◌+◌, ℕ, Result, Err, ◌++◌, length, map, take, sym, ap, ◌∙◌, refl, subst, arith}
+use Rattle.std.specs.Prelude.{IsErrOf}
 use Rattle.std.proofs.lemmas.Bool.{cases_eq}
 use Rattle.std.proofs.lemmas.List.{append-nil, length-map, take_all}
 use Rattle.host_model.specs.declared.side.Side.TheVariants.{Left, Right}
@@ -12,11 +13,13 @@ use Rattle.session_run.specs.declared.faults.RunFault.{RunFault}
 use Rattle.client_words.specs.Commands.{bytes_at}
 use Rattle.session_run.specs.Places.{all_bytes}
 use Rattle.session_run.specs.Steps.{RunState, run_of, begun, after, out}
+use Rattle.session_run.specs.FaultCauses.{HasHostCauses}
 use Rattle.session_run.specs.Files.{LinesAsked}
 use Rattle.session_run.specs.Moments.{AfterPrefix}
 use Rattle.session_run.specs.Runs.{LinesRan}
 use Rattle.session_run.specs.Writes.{IsBelowMark}
 use Rattle.session_run.proofs.Asking.{none_asked, asked_more, asked_all}
+use Rattle.session_run.proofs.Causing.{causes_behind}
 use Rattle.session_run.proofs.Ending.{err_is}
 use Rattle.session_run.proofs.Linking.{keeps_ended, keeps_done}
 use Rattle.session_run.proofs.Lining.{state_more, said_more, place_more, cost_more, most_more, changes_here, met_more, ends_more}
@@ -51,7 +54,7 @@ loop-span-init g c =
       below_now = λ tells. at_each h start start;
       shelf_faults = omega arith;
       disk_faults = omega arith;
-      say_faults = omega arith;
+      say_faults = refl;
     }
 
 pub returns-in_err-run_line-clause-ran : goal.returns-in_err-run_line-clause-ran
@@ -130,7 +133,7 @@ loop-span-preserved g c =
       below_now = λ tells. met_now h c.args.host.now new (IsBelowMark h c.args.host.now) (below_all tells) (g.met.H.Host.counts_now new) tells;
       shelf_faults = omega (arith, inv.shelf_faults, done.shelf_causes.later);
       disk_faults = omega (arith, inv.disk_faults, done.host_causes.disk_later);
-      say_faults = omega (arith, inv.say_faults, done.host_causes.say_later);
+      say_faults = done.host_causes.say_quiet (λ is. absurd cc) ∙ inv.say_faults;
     }
 
 pub returns-clause-ran : goal.returns-clause-ran
@@ -157,6 +160,17 @@ returns-clause-ran g c shelf_tells tells =
       kept = λ where_kept. all (⊎_elim (inv.gate tells)
           (λ changes. inv.gate_made shelf_tells tells changes.0 (subst (λ (n : ℕ). changes.0 < n) (sym whole) changes.1) changes.2) where_kept);
     }
+
+-- ---- the causes
+
+pub returns-in_err-run_line-clause-host_causes : goal.returns-in_err-run_line-clause-host_causes
+returns-in_err-run_line-clause-host_causes g c =
+    let h = g.H.Host in
+    let new = c.run_line.new.host in
+    let inv = c.loop-span.invariant in
+    let fault = c.in_err-run_line.field-0.0 in
+    subst (λ (r : Result (Unit {0}) RunFault). HasHostCauses h (IsErrOf r) c.args.host.now new) (sym (err_is c.from_residual.result fault c.from_residual.ensures.1))
+    (causes_behind h c.args.host.now c.loop-span.host new inv.disk_faults inv.say_faults (IsErrOf {T = Unit {0}} (Err fault)) c.in_err-run_line.ensures.host_causes)
 
 -- ---- what is kept
 

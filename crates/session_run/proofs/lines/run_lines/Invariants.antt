@@ -36,5 +36,5 @@ invariant-loop-span g l =
       below_now : h.tells → (left right : List ℕ) → h.images l.host Left left → h.images l.host Right right → IsBelowMark h l.fn.host left right (h.said l.host);
       shelf_faults : f.faults l.fn.shelf ≤ f.faults l.shelf;
       disk_faults : h.disk_faults l.fn.host ≤ h.disk_faults l.host;
-      say_faults : h.say_faults l.fn.host ≤ h.say_faults l.host;
+      say_faults : h.say_faults l.host ≡ h.say_faults l.fn.host;
     }

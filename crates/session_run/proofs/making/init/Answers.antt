@@ -145,7 +145,7 @@ returns-in_default-clause-found g c tells =
 
 pub returns-in-Ok-say-clause-host_causes : goal.returns-in-Ok-say-clause-host_causes
 returns-in-Ok-say-clause-host_causes g c =
-    done_causes g.H.Host c.args.host.now c.say.new.self (omega (arith, c.make.ensures.disk_faults, c.say.ensures.disk_faults)) (omega (arith, c.make.ensures.say_faults, c.say.ensures.cause.later))
+    done_causes g.H.Host c.args.host.now c.say.new.self (omega (arith, c.make.ensures.disk_faults, c.say.ensures.disk_faults)) (c.in-Ok-say.ensures.quiet ∙ c.make.ensures.say_faults)
 
 pub returns-in-Ok-make-clause-host_causes : goal.returns-in-Ok-make-clause-host_causes
 returns-in-Ok-make-clause-host_causes g c =
@@ -155,4 +155,4 @@ returns-in-Ok-make-clause-host_causes g c =
 pub returns-clause-host_causes : goal.returns-clause-host_causes
 returns-clause-host_causes g c =
     subst (λ (status : RunStatus). HasHostCauses g.H.Host (IsStatusOf status) c.args.host.now c.make.new.host) (sym c.into.ensures)
-    (making_causes_of g.H.Host c.args.host.now c.make.new.host c.make.ensures.disk_faults (omega (arith, c.make.ensures.say_faults)) c.in-Err.fault (λ is. c.in-Err.ensures.cause (ap Err is)))
+    (making_causes_of g.H.Host c.args.host.now c.make.new.host c.make.ensures.disk_faults c.make.ensures.say_faults c.in-Err.fault (λ is. c.in-Err.ensures.cause (ap Err is)))

@@ -12,7 +12,7 @@ use Rattle.session_run.specs.Runs.{Ran}
 use Rattle.session_run.specs.Starts.{opened_on}
 use Rattle.session_run.specs.Statuses.{of_script, IsOfLines, IsOfRun}
 use Rattle.session_run.proofs.Asking.{none_asked, lines_unasked}
-use Rattle.session_run.proofs.Belonging.{run_is_of, script_is_of, script_not_done, script_finds, script_leaves}
+use Rattle.session_run.proofs.Belonging.{run_is_of, script_is_of, script_source, script_not_done, script_finds, script_leaves}
 use Rattle.session_run.proofs.Ending.{script_before}
 use Rattle.session_run.proofs.Judging.{run_judges}
 use Rattle.session_run.proofs.Linking.{goes_on_as}
@@ -72,7 +72,13 @@ pub returns-in-Ok-clause-too_long_where : goal.returns-in-Ok-clause-too_long_whe
 returns-in-Ok-clause-too_long_where g c source_tells long =
     absurd (omega (arith, long, c.in-Ok.ensures.short, ap length (c.in-Ok.ensures.bytes source_tells)))
 
+pub returns-in-Ok-clause-source_quiet : goal.returns-in-Ok-clause-source_quiet
+returns-in-Ok-clause-source_quiet g c other = c.in-Ok.ensures.quiet (λ is. absurd cc)
+
 -- ---- there is none
+
+pub returns-in-Err-clause-source_quiet : goal.returns-in-Err-clause-source_quiet
+returns-in-Err-clause-source_quiet g c other = c.in-Err.ensures.quiet (λ is. other (c.into.ensures ∙ script_source c.in-Err.fault is))
 
 pub returns-in-Err-clause-ran : goal.returns-in-Err-clause-ran
 returns-in-Err-clause-ran g c source_tells shelf_tells tells =

@@ -257,7 +257,7 @@ returns-in-Ok-open-clause-not_done g c is =
 pub returns-in-Ok-run_lines-clause-host_causes : goal.returns-in-Ok-run_lines-clause-host_causes
 returns-in-Ok-run_lines-clause-host_causes g c =
     let causes = c.in-Ok-run_lines.ensures.host_causes in
-    done_causes g.H.Host c.args.host.now c.run_lines.new.host (omega (arith, c.open.ensures.disk_faults, causes.disk_later)) (omega (arith, c.open.ensures.say_faults, causes.say_later))
+    done_causes g.H.Host c.args.host.now c.run_lines.new.host (omega (arith, c.open.ensures.disk_faults, causes.disk_later)) (causes.say_quiet (λ is. absurd cc) ∙ c.open.ensures.say_faults)
 
 pub returns-in-Ok-open-clause-shelf_causes : goal.returns-in-Ok-open-clause-shelf_causes
 returns-in-Ok-open-clause-shelf_causes g c =
@@ -267,7 +267,7 @@ returns-in-Ok-open-clause-shelf_causes g c =
 pub returns-in-Ok-open-clause-host_causes : goal.returns-in-Ok-open-clause-host_causes
 returns-in-Ok-open-clause-host_causes g c =
     subst (λ (status : RunStatus). HasHostCauses g.H.Host (IsStatusOf status) c.args.host.now c.run_lines.new.host) (sym c.into.ensures)
-    (host_causes_of g.H.Host c.args.host.now c.open.new.host c.run_lines.new.host c.open.ensures.disk_faults (omega (arith, c.open.ensures.say_faults)) c.in-Err-run_lines.fault c.in-Err-run_lines.ensures.host_causes)
+    (host_causes_of g.H.Host c.args.host.now c.open.new.host c.run_lines.new.host c.open.ensures.disk_faults c.open.ensures.say_faults c.in-Err-run_lines.fault c.in-Err-run_lines.ensures.host_causes)
 
 pub returns-clause-shelf_causes : goal.returns-clause-shelf_causes
 returns-clause-shelf_causes g c =
@@ -276,4 +276,4 @@ returns-clause-shelf_causes g c =
 pub returns-clause-host_causes : goal.returns-clause-host_causes
 returns-clause-host_causes g c =
     subst (λ (status : RunStatus). HasHostCauses g.H.Host (IsStatusOf status) c.args.host.now c.open.new.host) (sym c.into-in-Err.ensures)
-    (opening_causes g.H.Host c.args.host.now c.open.new.host c.open.ensures.disk_faults (omega (arith, c.open.ensures.say_faults)) c.in-Err.fault (λ is. c.in-Err.ensures.cause (ap Err is)))
+    (opening_causes g.H.Host c.args.host.now c.open.new.host c.open.ensures.disk_faults c.open.ensures.say_faults c.in-Err.fault (λ is. c.in-Err.ensures.cause (ap Err is)))
