@@ -24,7 +24,7 @@ use Rattle.client_store.specs.OpenStore.{AllKept, AllKeptAmong}
 use Rattle.client_steps.specs.Settings.{setting}
 use Rattle.client_store.specs.Store.{StandsFor, KeptFor, IsStore}
 use Rattle.client_store.proofs.Holding.{stands_of_kept}
-use Rattle.client_store.proofs.Openings.{phase_kept}
+use Rattle.client_store.proofs.Openings.{phase_kept, in_two_phases}
 use Rattle.client_store.proofs.Refusing.{stands_not_absent}
 use Rattle.session_run.specs.declared.faults.RunFault.{RunFault}
 use Rattle.session_run.specs.declared.faults.RunFault.TheVariants as run
@@ -97,13 +97,17 @@ module _ {H : Type 0} (h : Ghosts H) (old new : H) where
 
   -- an opening that failed was in its first phase where the disk had failed then
   pub unopened_in : (fault : ClientFault) → OpensInPhases {T = Client} h old new (Err fault) → (EndedBefore (of_store fault) × MeetsAll h old new (NowOf h old)) ⊎ OpensInTwoPhases h old new
-  unopened_in fault (inl unsynced) = inl (inr (inr (inl (ap of_store (fault_is fault DiskFault unsynced.0)))), unsynced.1)
-  unopened_in fault (inr two) = inr two
+  unopened_in fault phases = elim (in_two_phases h old new (Err fault) phases) [
+    | inl unsynced ↦ inl (inr (inr (inl (ap of_store (fault_is fault DiskFault unsynced.0)))), unsynced.1.moments)
+    | inr two ↦ inr two
+  ]
 
   -- one that did not fail has had both
   opened_in : (client : Client) → OpensInPhases h old new (Ok client) → OpensInTwoPhases h old new
-  opened_in client (inl unsynced) = absurd (never_failed client DiskFault unsynced.0)
-  opened_in client (inr two) = two
+  opened_in client phases = elim (in_two_phases h old new (Ok client) phases) [
+    | inl unsynced ↦ absurd (never_failed client DiskFault unsynced.0)
+    | inr two ↦ two
+  ]
 
 -- ---- its lines were done
 
