@@ -7,9 +7,13 @@ mod notice;
 #[cfg(test)]
 mod tests;
 
-ghost use Rattle.std.specs.Prelude.{◌≡◌};
+ghost use Rattle.std.specs.Prelude.{◌≡◌, IsTrue};
 ghost use Rattle.std.specs.Process.{exit_status};
+ghost use Rattle.jexl_transforms.specs.Answering.{AnswersAs};
+ghost use Rattle.jexl_transforms.specs.Meaning.{is_standard};
+ghost use Rattle.jexl_transforms.specs.Table.{HasStandardNames, names_of};
 ghost use Rattle.session_run.specs.Statuses.{code_of};
+ghost use Rattle.nimbus_cli.specs.Puts.{IsPut};
 
 use arguments::read_words;
 use jexl_transforms::{
@@ -19,7 +23,7 @@ use jexl_transforms::{
 use jexl_value::{Attributes, Value};
 use notice::Notice;
 use session_run::{RunStatus, nimbus};
-use std::alloc::AllocError;
+use std::alloc::Global;
 use std::fs::File;
 use std::io;
 use std::io::Read;
@@ -29,6 +33,9 @@ use std::time::SystemTime;
 use system_host::{
     Cause, FolderHost, FolderShelf, Place, StdinSource, moment, take_standard, write_flushed,
 };
+
+/// How many standard transforms there are.
+const STANDARD_NAMES: usize = 6;
 
 // Prints a notice, or does what the words ask for, and tells the status.
 fn run<R: Files<File = File> + Env + Clock + Print + Eprint + Input + AllocGlobal>(
@@ -46,10 +53,7 @@ fn run<R: Files<File = File> + Env + Clock + Print + Eprint + Input + AllocGloba
         Ok(standard) => standard,
         Err(cause) => return told(rt, RunStatus::DiskFault, Some(&cause)),
     };
-    match run_words(rt, &words) {
-        Ok(status) => status,
-        Err(_) => told(rt, RunStatus::OutOfMemory, None),
-    }
+    run_words(rt, &words)
 }
 
 // Tells a status other than `Done` on standard error, with the cause of a fault. Where standard error fails, the exit
@@ -66,72 +70,99 @@ fn told(rt: &impl Eprint, status: RunStatus, cause: Option<&Cause>) -> RunStatus
     status
 }
 
+// Puts a transform of a standard name at the end of a table, unless memory is wanting.
+fn put(alloc: Global, table: &mut TransformTable, name: &str, transform: Transform)
+    requires standard { IsTrue (is_standard name.now) }
+    requires callable { Transform.IsAlwaysCallable transform }
+    requires answers { AnswersAs name.now (Transform.post transform) }
+    ensures names { IsPut (names_of table.old) name.now (names_of table.new) }
+{
+    let _ = table.push(alloc, name, transform);
+}
+
 // Does what the words ask for, with the standard transforms of targeting, and tells the status.
+//
+// A box of a closure is made where it is used, so all are made here. They are let go of at one exit, and whether each was
+// put into the table is asked once.
 fn run_words<R: Files<File = File> + Env + Clock + Print + Eprint + Input + AllocGlobal>(
     rt: &R,
     words: &[String],
-) -> Result<RunStatus, AllocError> {
+) -> RunStatus {
     let alloc = rt.alloc();
-    let version: Transform = Box::new(
-        alloc,
-        |attributes: &Attributes, subject: &Value, arguments: &[Value]| {
-            version_transform(attributes, subject, arguments)
-        },
-    )?;
-    let date: Transform = Box::new(
-        alloc,
-        |attributes: &Attributes, subject: &Value, arguments: &[Value]| {
-            date_transform(attributes, subject, arguments)
-        },
-    )?;
-    let bucket: Transform = Box::new(
-        alloc,
-        move |attributes: &Attributes, subject: &Value, arguments: &[Value]| {
-            bucket_transform(alloc, attributes, subject, arguments)
-        },
-    )?;
-    let sum: Transform = Box::new(
-        alloc,
-        |attributes: &Attributes, subject: &Value, arguments: &[Value]| {
-            event_sum_transform(attributes, subject, arguments)
-        },
-    )?;
-    let nonzero: Transform = Box::new(
-        alloc,
-        |attributes: &Attributes, subject: &Value, arguments: &[Value]| {
-            event_nonzero_transform(attributes, subject, arguments)
-        },
-    )?;
-    let seen: Transform = Box::new(
-        alloc,
-        |attributes: &Attributes, subject: &Value, arguments: &[Value]| {
-            event_seen_transform(attributes, subject, arguments)
-        },
-    )?;
-    let mut table = TransformTable::new(alloc);
-    let (Ok(()), Ok(()), Ok(()), Ok(()), Ok(()), Ok(())) = (
-        table.push(alloc, "versionCompare", version),
-        table.push(alloc, "date", date),
-        table.push(alloc, "bucketSample", bucket),
-        table.push(alloc, "eventSum", sum),
-        table.push(alloc, "eventCountNonZero", nonzero),
-        table.push(alloc, "eventLastSeen", seen),
+    let (Ok(version), Ok(date), Ok(bucket), Ok(sum), Ok(nonzero), Ok(seen)) = (
+        Box::new(
+            alloc,
+            |attributes: &Attributes, subject: &Value, arguments: &[Value]| {
+                version_transform(attributes, subject, arguments)
+            },
+        ),
+        Box::new(
+            alloc,
+            |attributes: &Attributes, subject: &Value, arguments: &[Value]| {
+                date_transform(attributes, subject, arguments)
+            },
+        ),
+        Box::new(
+            alloc,
+            move |attributes: &Attributes, subject: &Value, arguments: &[Value]| {
+                bucket_transform(alloc, attributes, subject, arguments)
+            },
+        ),
+        Box::new(
+            alloc,
+            |attributes: &Attributes, subject: &Value, arguments: &[Value]| {
+                event_sum_transform(attributes, subject, arguments)
+            },
+        ),
+        Box::new(
+            alloc,
+            |attributes: &Attributes, subject: &Value, arguments: &[Value]| {
+                event_nonzero_transform(attributes, subject, arguments)
+            },
+        ),
+        Box::new(
+            alloc,
+            |attributes: &Attributes, subject: &Value, arguments: &[Value]| {
+                event_seen_transform(attributes, subject, arguments)
+            },
+        ),
     ) else {
-        return Ok(told(rt, RunStatus::OutOfMemory, None));
+        return told(rt, RunStatus::OutOfMemory, None);
     };
+    let mut table = TransformTable::new(alloc);
+    put(alloc, &mut table, "versionCompare", version);
+    put(alloc, &mut table, "date", date);
+    put(alloc, &mut table, "bucketSample", bucket);
+    put(alloc, &mut table, "eventSum", sum);
+    put(alloc, &mut table, "eventCountNonZero", nonzero);
+    put(alloc, &mut table, "eventLastSeen", seen);
+    if table.names() != STANDARD_NAMES {
+        return told(rt, RunStatus::OutOfMemory, None);
+    }
+    run_with(rt, words, &table)
+}
+
+// The same with a table that has them, over standard input, the current folder and standard output.
+fn run_with<R: Files<File = File> + Clock + Print + Eprint + Input + AllocGlobal>(
+    rt: &R,
+    words: &[String],
+    table: &TransformTable,
+) -> RunStatus
+    requires table { HasStandardNames table.now }
+{
     let mut source = StdinSource::new(rt.reader());
     let mut shelf = FolderShelf::new(rt);
     let mut host = FolderHost::new(rt);
     let status = nimbus(
-        alloc,
+        rt.alloc(),
         words,
         moment(SystemTime::now(rt)),
-        &table,
+        table,
         &mut source,
         &mut shelf,
         &mut host,
     );
-    Ok(told(rt, status, cause_of(status, &source, &shelf, &host)))
+    told(rt, status, cause_of(status, &source, &shelf, &host))
 }
 
 // Why a run ended with this status, where one of its objects has failed.
