@@ -5,7 +5,8 @@
 //! | an empty one, or one that begins with `#` | nothing |
 //! | `== KIND TITLE` | a table begins, whose rows are of this kind; nothing is given |
 //! | `given TEXT` | this text is given for the rows from here on |
-//! | `>> TEXT` | the input of the next row begins with this text, behind those of earlier lines |
+//! | `> TEXT` | the input of the next row begins with this text and a line feed, behind those of earlier lines |
+//! | `>> TEXT` | so it does with this text |
 //! | `repeat COUNT TEXT` | so it does with this text, so many times |
 //! | `byte NUMBER COUNT` | so it does with this byte, so many times |
 //! | `INPUT => WANTED` | a row |
@@ -15,7 +16,9 @@
 
 mod answers;
 mod line;
+mod pieces;
 mod tables;
 
 pub use answers::{cut, debugged, displayed, halves, word};
+pub use pieces::{Piece, byte, count};
 pub use tables::{Row, Tables};

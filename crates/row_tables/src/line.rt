@@ -1,15 +1,13 @@
 // What a line says.
 use crate::answers::cut;
-use plain_text::read_number;
+use crate::pieces::Piece;
 
 #[derive(Clone, Copy)]
 pub(crate) enum Line<'a> {
     Nothing,
     Table(&'a str, &'a str),
     Given(&'a str),
-    Part(&'a str),
-    Repeat(usize, &'a str),
-    Byte(u8, usize),
+    Piece(Piece<'a>),
     Row(&'a str, &'a str),
     Other,
 }
@@ -23,9 +21,7 @@ impl<'a> Line<'a> {
         match word {
             "==" => table(rest),
             "given" => Line::Given(rest),
-            ">>" => Line::Part(rest),
-            "repeat" => repeated(rest).unwrap_or(Line::Other),
-            "byte" => filled(rest).unwrap_or(Line::Other),
+            ">" | ">>" | "repeat" | "byte" => piece(word, rest),
             _ => row(line),
         }
     }
@@ -36,15 +32,11 @@ fn table<'a>(rest: &'a str) -> Line<'a> {
     Line::Table(kind, title)
 }
 
-fn repeated<'a>(rest: &'a str) -> Option<Line<'a>> {
-    let (number, text) = cut(rest);
-    Some(Line::Repeat(count(number)?, text))
-}
-
-fn filled<'a>(rest: &'a str) -> Option<Line<'a>> {
-    let (number, times) = cut(rest);
-    let byte = u8::try_from(read_number(number.as_bytes())?).ok()?;
-    Some(Line::Byte(byte, count(times)?))
+fn piece<'a>(word: &str, rest: &'a str) -> Line<'a> {
+    match Piece::of(word, rest) {
+        Some(piece) => Line::Piece(piece),
+        None => Line::Other,
+    }
 }
 
 fn row<'a>(line: &'a str) -> Line<'a> {
@@ -52,8 +44,4 @@ fn row<'a>(line: &'a str) -> Line<'a> {
         Some((input, wanted)) => Line::Row(input, wanted),
         None => Line::Other,
     }
-}
-
-fn count(text: &str) -> Option<usize> {
-    usize::try_from(read_number(text.as_bytes())?).ok()
 }

@@ -55,9 +55,7 @@ impl Tables {
             Line::Nothing => {}
             Line::Table(kind, title) => self.begin(kind, title)?,
             Line::Given(text) => self.given = String::from_str(self.alloc, text)?,
-            Line::Part(text) => self.input.extend_from_slice(text.as_bytes())?,
-            Line::Repeat(count, text) => self.repeat(count, text)?,
-            Line::Byte(byte, count) => self.fill(byte, count)?,
+            Line::Piece(piece) => piece.add_to(&mut self.input)?,
             Line::Row(text, wanted) => return self.row(text, wanted),
             Line::Other => self.differ(format!(in self.alloc; "no row: {line}")?.as_str())?,
         }
@@ -122,19 +120,5 @@ impl Tables {
         self.input.extend_from_slice(text.as_bytes())?;
         let input = std::mem::replace(&mut self.input, Vec::new(self.alloc));
         Ok(Some(Row { input, wanted }))
-    }
-
-    fn repeat(&mut self, count: usize, text: &str) -> Result<(), AllocError> {
-        for _ in 0..count {
-            self.input.extend_from_slice(text.as_bytes())?;
-        }
-        Ok(())
-    }
-
-    fn fill(&mut self, byte: u8, count: usize) -> Result<(), AllocError> {
-        for _ in 0..count {
-            self.input.push(byte)?;
-        }
-        Ok(())
     }
 }
