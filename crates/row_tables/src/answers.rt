@@ -5,11 +5,6 @@ use anyhow::{Result, bail};
 use std::alloc::Global;
 use std::fmt::{Debug, Display};
 
-/// A text before and behind its first space, or else the whole and an empty one.
-pub fn cut(text: &str) -> (&str, &str) {
-    text.split_once(' ').unwrap_or((text, ""))
-}
-
 /// A text before and behind its first ` | `.
 pub fn halves(text: &str) -> Result<(&str, &str)> {
     match text.split_once(" | ") {

@@ -15,10 +15,16 @@
 #![tactic(auto)]
 
 mod answers;
+mod cutting;
+mod fault;
+mod judging;
 mod line;
 mod pieces;
 mod tables;
 
-pub use answers::{cut, debugged, displayed, halves, word};
-pub use pieces::{Piece, byte, count};
+pub use answers::{debugged, displayed, halves, word};
+pub use cutting::{add_between, add_none, byte, count, cut, number, parts};
+pub use fault::Fault;
+pub use judging::{Kinds, Question, report_on};
+pub use pieces::Piece;
 pub use tables::{Row, Tables};

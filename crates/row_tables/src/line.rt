@@ -1,5 +1,5 @@
 // What a line says.
-use crate::answers::cut;
+use crate::cutting::cut;
 use crate::pieces::Piece;
 
 #[derive(Clone, Copy)]

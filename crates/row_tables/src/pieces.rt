@@ -1,6 +1,5 @@
 // What a line adds to a text that is written down line by line.
-use crate::answers::cut;
-use plain_text::read_number;
+use crate::cutting::{byte, count, cut};
 use std::alloc::AllocError;
 
 /// What a line adds to a text.
@@ -38,16 +37,6 @@ impl<'a> Piece<'a> {
             Piece::Byte(byte, count) => add_filled(text, byte, count),
         }
     }
-}
-
-/// The number of bytes, or the place, that a word spells.
-pub fn count(word: &str) -> Option<usize> {
-    usize::try_from(read_number(word.as_bytes())?).ok()
-}
-
-/// The byte that a word spells as a number.
-pub fn byte(word: &str) -> Option<u8> {
-    u8::try_from(read_number(word.as_bytes())?).ok()
 }
 
 fn repeated<'a>(rest: &'a str) -> Option<Piece<'a>> {
