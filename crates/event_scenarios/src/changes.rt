@@ -1,35 +1,58 @@
 //! Rows on the changes from the rows that keep some counts to those that keep others.
 
 use crate::histories::counts_after;
-use anyhow::Result;
+use event_counts::Counts;
 use row_batches::RowChange;
-use row_tables::halves;
-use std::alloc::Global;
+use row_tables::{Fault, add_between, add_none, parts};
+use std::alloc::{AllocError, Global};
 
 /// The keys of the rows that are put and deleted, or `none`, and how many bytes the puts of the new rows have. Row: the events of
 /// the old counts, and behind ` | ` those of the new ones.
-pub(crate) fn row_changes(alloc: Global, given: &str, input: &str) -> Result<String> {
-    let (old, new) = halves(input)?;
+pub(crate) fn find_changes(
+    alloc: Global,
+    given: &str,
+    input: &str,
+    found: &mut String,
+) -> Result<(), Fault> {
+    let (old, new) = parts(input)?;
     let old = counts_after(alloc, given, old)?;
-    let new = counts_after(alloc, given, new)?;
-    let changes = old.changes_to(alloc, &new)?;
-    let mut text = String::new(alloc);
-    for change in changes.as_slice() {
-        if !text.is_empty() {
-            text.push_str(", ")?;
-        }
-        text.push_str(change_text(alloc, change)?.as_str())?;
-    }
-    if text.is_empty() {
-        text.push_str("none")?;
-    }
-    Ok(format!(in alloc; "{text}; {} bytes", new.size())?)
+    find_changes_from(alloc, &old, given, new, found)
 }
 
-fn change_text(alloc: Global, change: &RowChange) -> Result<String> {
+fn find_changes_from(
+    alloc: Global,
+    old: &Counts,
+    given: &str,
+    new: &str,
+    found: &mut String,
+) -> Result<(), Fault> {
+    let new = counts_after(alloc, given, new)?;
+    add_changes_between(alloc, old, &new, found)
+}
+
+fn add_changes_between(
+    alloc: Global,
+    old: &Counts,
+    new: &Counts,
+    found: &mut String,
+) -> Result<(), Fault> {
+    let changes = old.changes_to(alloc, new)?;
+    add_changes(changes.as_slice(), new.size(), found)
+}
+
+fn add_changes(changes: &[RowChange], size: u128, found: &mut String) -> Result<(), Fault> {
+    for change in changes {
+        add_change(change, found)?;
+    }
+    add_none(found)?;
+    Ok(write!(found, "; {size} bytes")?)
+}
+
+fn add_change(change: &RowChange, found: &mut String) -> Result<(), AllocError> {
+    add_between(found, ", ")?;
     let key = change.key().escape_ascii();
-    Ok(match change {
-        RowChange::Put(_) => format!(in alloc; "put {key}")?,
-        RowChange::Delete(_) => format!(in alloc; "delete {key}")?,
-    })
+    match change {
+        RowChange::Put(_) => write!(found, "put {key}"),
+        RowChange::Delete(_) => write!(found, "delete {key}"),
+    }
 }

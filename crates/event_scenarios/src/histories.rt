@@ -2,54 +2,94 @@
 //! a comma stands between two. Where a number is given, so many names come first, `n0`, `n1` and so on, each once and at the
 //! moment 0.
 
-use crate::inputs::{cut, moment, number};
-use anyhow::{Result, bail, ensure};
+use crate::inputs::{moment, number};
 use event_counts::{CountFault, Counts};
 use plain_text::is_name;
+use row_tables::{Fault, cut};
 use std::alloc::Global;
 
 /// The counts after these events.
-pub(crate) fn counts_after(alloc: Global, given: &str, events: &str) -> Result<Counts> {
-    let mut counts = given_names(alloc, given)?;
-    for event in events.split(", ") {
-        if !event.is_empty() {
-            counts = with_event(alloc, &counts, event)?;
-        }
-    }
+pub(crate) fn counts_after(alloc: Global, given: &str, events: &str) -> Result<Counts, Fault> {
+    let mut counts = Counts::new(alloc);
+    count_all(alloc, &mut counts, given, events)?;
     Ok(counts)
 }
 
 /// How many names there are after an event, or why it isn't counted. Row: the event.
-pub(crate) fn answer_to(alloc: Global, given: &str, event: &str) -> Result<String> {
-    let counts = given_names(alloc, given)?;
-    match counted(alloc, &counts, event)? {
-        Ok(more) => Ok(format!(in alloc; "{} names", more.rows(alloc)?.len())?),
-        Err(fault) => Ok(format!(in alloc; "{fault:?}")?),
-    }
+pub(crate) fn find_answer(
+    alloc: Global,
+    given: &str,
+    event: &str,
+    found: &mut String,
+) -> Result<(), Fault> {
+    let counts = counts_after(alloc, given, "")?;
+    add_answer(alloc, &counts, event, found)
 }
 
-fn given_names(alloc: Global, given: &str) -> Result<Counts> {
-    let count = if given.is_empty() { 0 } else { number(given)? };
-    let mut counts = Counts::new(alloc);
-    for place in 0..count {
-        let event = format!(in alloc; "n{place} 1 0")?;
-        counts = with_event(alloc, &counts, event.as_str())?;
-    }
-    Ok(counts)
-}
-
-fn with_event(alloc: Global, counts: &Counts, event: &str) -> Result<Counts> {
+fn add_answer(
+    alloc: Global,
+    counts: &Counts,
+    event: &str,
+    found: &mut String,
+) -> Result<(), Fault> {
     match counted(alloc, counts, event)? {
-        Ok(more) => Ok(more),
-        Err(fault) => bail!("{event}: {fault:?}"),
+        Ok(more) => add_size(alloc, &more, found),
+        Err(fault) => Ok(write!(found, "{fault:?}")?),
     }
 }
 
-fn counted(alloc: Global, counts: &Counts, event: &str) -> Result<Result<Counts, CountFault>> {
+fn add_size(alloc: Global, counts: &Counts, found: &mut String) -> Result<(), Fault> {
+    let rows = counts.rows(alloc)?;
+    Ok(write!(found, "{} names", rows.len())?)
+}
+
+fn count_all(alloc: Global, counts: &mut Counts, given: &str, events: &str) -> Result<(), Fault> {
+    let names = if given.is_empty() { 0 } else { number(given)? };
+    count_names(alloc, counts, names)?;
+    for event in events.split(", ") {
+        count_event(alloc, counts, event)?;
+    }
+    Ok(())
+}
+
+fn count_names(alloc: Global, counts: &mut Counts, names: u64) -> Result<(), Fault> {
+    for place in 0..names {
+        count_name(alloc, counts, place)?;
+    }
+    Ok(())
+}
+
+fn count_name(alloc: Global, counts: &mut Counts, place: u64) -> Result<(), Fault> {
+    let event = format!(in alloc; "n{place} 1 0")?;
+    count_event(alloc, counts, event.as_str())
+}
+
+fn count_event(alloc: Global, counts: &mut Counts, event: &str) -> Result<(), Fault> {
+    if event.is_empty() {
+        return Ok(());
+    }
+    match counted(alloc, counts, event)? {
+        Ok(more) => {
+            *counts = more;
+            Ok(())
+        }
+        Err(_) => Err(Fault::NoRow),
+    }
+}
+
+fn counted(
+    alloc: Global,
+    counts: &Counts,
+    event: &str,
+) -> Result<Result<Counts, CountFault>, Fault> {
     let (name, rest) = cut(event);
     let (count, now) = cut(rest);
-    ensure!(is_name(name.as_bytes()), "no name: {name}");
-    let count = u32::try_from(number(count)?)?;
     let now = moment(now)?;
+    let Ok(count) = u32::try_from(number(count)?) else {
+        return Err(Fault::NoRow);
+    };
+    if !is_name(name.as_bytes()) {
+        return Err(Fault::NoRow);
+    }
     Ok(counts.count_in(alloc, name, count, now))
 }

@@ -1,34 +1,21 @@
-//! Parts of a row's text, and numbers.
+//! Numbers of a row's text.
 ghost use Rattle.std.specs.Prelude.{◌≤◌, IfOk};
 
-use anyhow::{Context, Result, bail, ensure};
-use plain_text::read_number;
+use row_tables::Fault;
 
 // The last second of the year 9999.
 const LAST_MOMENT: u64 = 253_402_300_799;
 
-/// A text before and behind ` | `.
-pub(crate) fn halves(text: &str) -> Result<(&str, &str)> {
-    match text.split_once(" | ") {
-        Some(halves) => Ok(halves),
-        None => bail!("no halves: {text}"),
-    }
-}
-
-/// A text before and behind its first space, or else the whole and an empty one.
-pub(crate) fn cut(text: &str) -> (&str, &str) {
-    text.split_once(' ').unwrap_or((text, ""))
-}
-
-pub(crate) fn number(text: &str) -> Result<u64> {
-    read_number(text.as_bytes()).context("no number")
+pub(crate) fn number(text: &str) -> Result<u64, Fault> {
+    row_tables::number(text).ok_or(Fault::NoRow)
 }
 
 /// A moment up to the end of the year 9999.
-pub(crate) fn moment(text: &str) -> Result<u64>
+pub(crate) fn moment(text: &str) -> Result<u64, Fault>
     ensures { IfOk result (λ n. n ≤ 253402300799) }
 {
-    let moment = number(text)?;
-    ensure!(moment <= LAST_MOMENT, "no moment: {text}");
-    Ok(moment)
+    match row_tables::number(text) {
+        Some(moment) if moment <= LAST_MOMENT => Ok(moment),
+        _ => Err(Fault::NoRow),
+    }
 }

@@ -2,105 +2,165 @@
 //! its place before it; a comma stands between two rows.
 
 use crate::histories::counts_after;
-use crate::inputs::{cut, number};
-use anyhow::{Context, Result, bail, ensure};
-use event_counts::{CountsFault, StoreRow, counts_of};
+use crate::inputs::number;
+use event_counts::{Counts, CountsFault, StoreRow, counts_of};
+use row_tables::{Fault, byte, count, cut};
 use sequences::Sequence;
-use std::alloc::Global;
+use std::alloc::{AllocError, Global};
 
 // The longest value of a row that is made here.
 const MAX_LEN: usize = 1_000;
 
 /// How many rows keep the counts after events, and the rows. Row: the events.
-pub(crate) fn rows_after(alloc: Global, given: &str, events: &str) -> Result<String> {
+pub(crate) fn find_rows(
+    alloc: Global,
+    given: &str,
+    events: &str,
+    found: &mut String,
+) -> Result<(), Fault> {
     let counts = counts_after(alloc, given, events)?;
+    add_rows_of(alloc, &counts, found)
+}
+
+fn add_rows_of(alloc: Global, counts: &Counts, found: &mut String) -> Result<(), Fault> {
     let rows = counts.rows(alloc)?;
-    let text = rows_text(alloc, rows.as_slice())?;
-    Ok(format!(in alloc; "{} rows{text}", rows.len())?)
+    add_count_and_rows(rows.as_slice(), found)
+}
+
+fn add_count_and_rows(rows: &[StoreRow], found: &mut String) -> Result<(), Fault> {
+    write!(found, "{} rows", rows.len())?;
+    Ok(add_rows(rows, found)?)
 }
 
 /// Whether rows keep counts, and are written again as they were. Row: the rows.
-pub(crate) fn read_of(alloc: Global, input: &str) -> Result<String> {
+pub(crate) fn find_reading(alloc: Global, input: &str, found: &mut String) -> Result<(), Fault> {
     let mut rows = Vec::new(alloc);
+    read_rows(alloc, input, &mut rows)?;
+    add_reading(alloc, &rows, found)
+}
+
+/// The same of so many rows, whose names are `n10`, `n11` and so on and whose values have 728 bytes 0. Row: how many.
+pub(crate) fn find_reading_of_many(
+    alloc: Global,
+    input: &str,
+    found: &mut String,
+) -> Result<(), Fault> {
+    let mut rows = Vec::new(alloc);
+    make_rows(alloc, number(input)?, &mut rows)?;
+    add_reading(alloc, &rows, found)
+}
+
+fn read_rows(alloc: Global, input: &str, rows: &mut Vec<StoreRow>) -> Result<(), Fault> {
     for text in input.split(", ") {
         if !text.is_empty() {
             rows.push(row_of(alloc, text)?)?;
         }
     }
-    answer_to(alloc, rows.as_slice())
+    Ok(())
 }
 
-/// The same of so many rows, whose names are `n10`, `n11` and so on and whose values have 728 bytes 0. Row: how many.
-pub(crate) fn read_of_many(alloc: Global, input: &str) -> Result<String> {
-    let count = number(input)?;
-    ensure!(count <= 90, "too many rows");
-    let mut rows = Vec::new(alloc);
+fn make_rows(alloc: Global, count: u64, rows: &mut Vec<StoreRow>) -> Result<(), Fault> {
+    if count > 90 {
+        return Err(Fault::NoRow);
+    }
     for place in 10..count + 10 {
-        let text = format!(in alloc; "en{place} 728")?;
-        rows.push(row_of(alloc, text.as_str())?)?;
+        rows.push(named_row(alloc, place)?)?;
     }
-    answer_to(alloc, rows.as_slice())
+    Ok(())
 }
 
-fn answer_to(alloc: Global, rows: &[StoreRow]) -> Result<String> {
-    let counts = match counts_of(alloc, rows) {
-        Ok(counts) => counts,
-        Err(CountsFault::NotCounts) => return Ok(String::from_str(alloc, "NotCounts")?),
-        Err(CountsFault::OutOfMemory) => bail!("no memory"),
-    };
-    let again = rows_text(alloc, counts.rows(alloc)?.as_slice())?;
-    if again == rows_text(alloc, rows)? {
-        return Ok(format!(in alloc; "{} kept", rows.len())?);
-    }
-    Ok(again)
+fn named_row(alloc: Global, place: u64) -> Result<StoreRow, Fault> {
+    let text = format!(in alloc; "en{place} 728")?;
+    row_of(alloc, text.as_str())
 }
 
-fn row_of(alloc: Global, text: &str) -> Result<StoreRow> {
+fn add_reading(alloc: Global, rows: &[StoreRow], found: &mut String) -> Result<(), Fault> {
+    match counts_of(alloc, rows) {
+        Ok(counts) => add_rows_again(alloc, &counts, rows, found),
+        Err(CountsFault::NotCounts) => Ok(found.push_str("NotCounts")?),
+        Err(CountsFault::OutOfMemory) => Err(Fault::OutOfMemory),
+    }
+}
+
+fn add_rows_again(
+    alloc: Global,
+    counts: &Counts,
+    rows: &[StoreRow],
+    found: &mut String,
+) -> Result<(), Fault> {
+    let again = counts.rows(alloc)?;
+    if are_same(again.as_slice(), rows) {
+        return Ok(write!(found, "{} kept", rows.len())?);
+    }
+    Ok(add_rows(again.as_slice(), found)?)
+}
+
+fn are_same(first: &[StoreRow], second: &[StoreRow]) -> bool {
+    first.len() == second.len()
+        && first.iter().zip(second.iter()).all(|(first, second)| {
+            first.key.as_slice() == second.key.as_slice()
+                && first.value.as_slice() == second.value.as_slice()
+        })
+}
+
+fn row_of(alloc: Global, text: &str) -> Result<StoreRow, Fault> {
     let (key, rest) = cut(text);
     let (len, bytes) = cut(rest);
-    let len = usize::try_from(number(len)?)?;
-    ensure!(len <= MAX_LEN, "too long a value");
-    let mut value = vec![in alloc; 0; len]?;
-    for byte in bytes.split(' ') {
-        if !byte.is_empty() {
-            set_byte(&mut value, byte)?;
-        }
-    }
-    let mut name = Vec::new(alloc);
-    name.extend_from_slice(key.as_bytes())?;
+    let value = value_of(alloc, len, bytes)?;
+    let key = key.as_bytes().to_vec(alloc)?;
     Ok(StoreRow {
-        key: Sequence::from_vec(name),
+        key: Sequence::from_vec(key),
         value: Sequence::from_vec(value),
     })
 }
 
-// Sets a byte of a value. The text is its place and the byte.
-fn set_byte(value: &mut Vec<u8>, text: &str) -> Result<()> {
-    let (place, byte) = text.split_once(':').context("no byte")?;
-    let place = usize::try_from(number(place)?)?;
-    ensure!(place < value.len(), "no place in the value");
-    value[place] = u8::try_from(number(byte)?)?;
+fn value_of(alloc: Global, len: &str, bytes: &str) -> Result<Vec<u8>, Fault> {
+    let len = count(len).ok_or(Fault::NoRow)?;
+    if len > MAX_LEN {
+        return Err(Fault::NoRow);
+    }
+    let mut value = vec![in alloc; 0; len]?;
+    set_bytes(&mut value, bytes)?;
+    Ok(value)
+}
+
+fn set_bytes(value: &mut [u8], bytes: &str) -> Result<(), Fault> {
+    for text in bytes.split(' ') {
+        if !text.is_empty() {
+            set_byte(value, text)?;
+        }
+    }
     Ok(())
 }
 
-fn rows_text(alloc: Global, rows: &[StoreRow]) -> Result<String> {
-    let mut text = String::new(alloc);
-    for row in rows {
-        let row = row_text(alloc, row)?;
-        text.push_str(", ")?;
-        text.push_str(row.as_str())?;
+// Sets a byte of a value. The text is its place and the byte.
+fn set_byte(value: &mut [u8], text: &str) -> Result<(), Fault> {
+    let (place, number) = text.split_once(':').ok_or(Fault::NoRow)?;
+    let place = count(place).ok_or(Fault::NoRow)?;
+    match value.get_mut(place) {
+        Some(there) => {
+            *there = byte(number).ok_or(Fault::NoRow)?;
+            Ok(())
+        }
+        None => Err(Fault::NoRow),
     }
-    Ok(text)
 }
 
-fn row_text(alloc: Global, row: &StoreRow) -> Result<String> {
+fn add_rows(rows: &[StoreRow], found: &mut String) -> Result<(), AllocError> {
+    for row in rows {
+        add_row(row, found)?;
+    }
+    Ok(())
+}
+
+fn add_row(row: &StoreRow, found: &mut String) -> Result<(), AllocError> {
     let value = row.value.as_slice();
     let key = row.key.as_slice().escape_ascii();
-    let mut text = format!(in alloc; "{key} {}", value.len())?;
+    write!(found, ", {key} {}", value.len())?;
     for (place, byte) in value.iter().enumerate() {
         if *byte > 0 {
-            text.push_str(format!(in alloc; " {place}:{byte}")?.as_str())?;
+            write!(found, " {place}:{byte}")?;
         }
     }
-    Ok(text)
+    Ok(())
 }

@@ -1,6 +1,6 @@
 //! Tables of rows on counts of events, which stand on standard input: what a moment sees of them, the limit of names, the rows
 //! that keep them, and how these change. A line tells of each table that its rows pass, or what was found and what was wanted. `row_tables` says
-//! how a table is written, and the functions that `found` names what a row of each kind is.
+//! how a table is written, and the functions that `find` names what a row of each kind is.
 #![tactic(auto)]
 
 mod changes;
@@ -9,37 +9,31 @@ mod inputs;
 mod kept;
 mod seen;
 
-use anyhow::{Result, bail};
-use row_tables::Tables;
+use row_tables::{Fault, Kinds, Question, report_on};
 use std::alloc::Global;
 use std::io;
-use std::str::from_utf8;
 
-// What is found of a row of this kind, over what is given.
-fn found(alloc: Global, kind: &str, given: &str, input: &str) -> Result<String> {
-    match kind {
-        "entries" => seen::entries_of(alloc, given, input),
-        "lists" => seen::lists_of(alloc, given, input),
-        "event" => histories::answer_to(alloc, given, input),
-        "rows" => kept::rows_after(alloc, given, input),
-        "read" => kept::read_of(alloc, input),
-        "changes" => changes::row_changes(alloc, given, input),
-        "many" => kept::read_of_many(alloc, input),
-        _ => bail!("no kind of rows: {kind}"),
+struct EventKinds;
+
+impl Kinds for EventKinds {
+    fn find(&self, alloc: Global, row: Question<'_>, found: &mut String) -> Result<(), Fault> {
+        let input = row.text()?;
+        match row.kind {
+            "entries" => seen::find_entries(alloc, row.given, input, found),
+            "lists" => seen::find_lists(alloc, row.given, input, found),
+            "event" => histories::find_answer(alloc, row.given, input, found),
+            "rows" => kept::find_rows(alloc, row.given, input, found),
+            "read" => kept::find_reading(alloc, input, found),
+            "changes" => changes::find_changes(alloc, row.given, input, found),
+            "many" => kept::find_reading_of_many(alloc, input, found),
+            _ => Err(Fault::NoRow),
+        }
     }
 }
 
-fn main(rt: HostRuntime) -> Result<()> {
-    let alloc = rt.alloc();
-    let input = io::read_to_string(alloc, rt.reader())?;
-    let mut tables = Tables::new(alloc);
-    for line in input.lines() {
-        if let Some(row) = tables.read(line)? {
-            let text = from_utf8(&row.input)?;
-            let found = found(alloc, tables.kind(), tables.given(), text)?;
-            tables.judge(&row, found.as_str())?;
-        }
-    }
-    print!(rt; "{}", tables.report()?)?;
-    Ok(())
+fn main(rt: HostRuntime) -> io::Result<()> {
+    let text = io::read_to_string(rt.alloc(), rt.reader())?;
+    let mut report = String::new(rt.alloc());
+    report_on(rt.alloc(), &EventKinds, &text, &mut report)?;
+    print!(rt; "{report}")
 }
