@@ -1,142 +1,126 @@
 //! Rows on the preferences that variables are bound to, and on what a branch sets of them.
 
-use crate::inputs::slug;
-use anyhow::{Result, bail, ensure};
-use fml_types::{ByName, FeatureDefinition, Field, Manifest, TypeTable, read_type};
-use json_tree::{Tree, read, write};
+use crate::inputs::{add_tree, recipe, slug, tree};
+use crate::manifests::manifest;
+use fml_types::Manifest;
+use json_tree::Tree;
+use plain_text::Slug;
 use pref_bindings::{Binding, BindingFault, Bindings, bound_values, read_bindings};
-use recipe_reader::{Recipe, read_record};
-use row_tables::{cut, halves, word};
-use sequences::{Sequence, Text};
-use std::alloc::Global;
-
-// A record up to the features of its second branch, and what is behind them.
-const BEFORE: &str =
-    r#"{"schemaVersion":"1.12.0","slug":"alpha","bucketConfig":{"randomizationUnit":"nimbus_id","namespace":"n","start":0,"count":1,"total":1},"branches":[{"slug":"control","ratio":1},{"slug":"treatment","ratio":1,"features":"#;
-
-const BEHIND: &str = "}]}";
+use recipe_reader::Recipe;
+use row_tables::{Fault, add_between, add_none, parts};
+use sequences::Text;
+use std::alloc::{AllocError, Global};
 
 /// The bindings of a tree, each as its feature, its variable and its preference, or why there are none; `none` where they are
 /// empty. Row: the tree.
-pub(crate) fn bindings_of(alloc: Global, input: &str) -> Result<String> {
-    match read_bindings(alloc, &tree(alloc, input)?) {
-        Ok(bindings) => bindings_text(alloc, bindings.as_slice()),
+pub(crate) fn find_bindings(alloc: Global, input: &str, found: &mut String) -> Result<(), Fault> {
+    let tree = tree(alloc, input)?;
+    add_bindings_of(alloc, &tree, found)
+}
+
+fn add_bindings_of(alloc: Global, tree: &Tree, found: &mut String) -> Result<(), Fault> {
+    match read_bindings(alloc, tree) {
+        Ok(bindings) => Ok(add_bindings(bindings.as_slice(), found)?),
         Err(BindingFault::BadBinding(feature)) => {
-            Ok(format!(in alloc; "BadBinding {:?}", feature.as_str())?)
+            Ok(write!(found, "BadBinding {:?}", feature.as_str())?)
         }
-        Err(BindingFault::OutOfMemory) => bail!("no memory"),
+        Err(BindingFault::OutOfMemory) => Err(Fault::OutOfMemory),
     }
+}
+
+fn add_bindings(bindings: &[Binding], found: &mut String) -> Result<(), AllocError> {
+    for binding in bindings {
+        add_binding(binding, found)?;
+    }
+    add_none(found)
+}
+
+fn add_binding(binding: &Binding, found: &mut String) -> Result<(), AllocError> {
+    add_between(found, ", ")?;
+    found.push_str(binding.feature.as_str())?;
+    write!(
+        found,
+        " {} {}",
+        binding.variable.as_str(),
+        binding.preference.as_str()
+    )
 }
 
 /// What a branch sets of the preferences that variables are bound to; `none` where that is nothing. Row: the branch, the variables
 /// of a manifest, the features of the branch `treatment`, and the bindings, with ` | ` between two.
-pub(crate) fn bound_of(alloc: Global, input: &str) -> Result<String> {
-    let (branch, rest) = halves(input)?;
-    let (variables, rest) = halves(rest)?;
-    let (features, spelled) = halves(rest)?;
+pub(crate) fn find_bound(alloc: Global, input: &str, found: &mut String) -> Result<(), Fault> {
+    let (branch, rest) = parts(input)?;
+    let (variables, rest) = parts(rest)?;
     let manifest = manifest(alloc, variables)?;
+    find_bound_in(alloc, &manifest, branch, rest, found)
+}
+
+fn find_bound_in(
+    alloc: Global,
+    manifest: &Manifest,
+    branch: &str,
+    rest: &str,
+    found: &mut String,
+) -> Result<(), Fault> {
+    let (features, spelled) = parts(rest)?;
     let recipe = recipe(alloc, features)?;
+    find_bound_by(alloc, manifest, &recipe, branch, spelled, found)
+}
+
+fn find_bound_by(
+    alloc: Global,
+    manifest: &Manifest,
+    recipe: &Recipe,
+    branch: &str,
+    spelled: &str,
+    found: &mut String,
+) -> Result<(), Fault> {
     let bindings = bindings(alloc, spelled)?;
-    let values = bound_values(alloc, &manifest, &recipe, &slug(alloc, branch)?, &bindings)?;
-    let mut text = String::new(alloc);
-    for (name, value) in values.as_slice() {
-        if !text.is_empty() {
-            text.push_str(", ")?;
-        }
-        text.push_str(name.as_str())?;
-        text.push_str(" ")?;
-        text.push_str(write(alloc, value)?.as_str())?;
-    }
-    if text.is_empty() {
-        return word(alloc, "none");
-    }
-    Ok(text)
+    find_set(alloc, manifest, recipe, &bindings, branch, found)
 }
 
-fn tree(alloc: Global, text: &str) -> Result<Tree> {
-    match read(alloc, text.as_bytes()) {
-        Ok(tree) => Ok(tree),
-        Err(fault) => bail!("no tree: {fault:?}"),
-    }
+fn find_set(
+    alloc: Global,
+    manifest: &Manifest,
+    recipe: &Recipe,
+    bindings: &Bindings,
+    branch: &str,
+    found: &mut String,
+) -> Result<(), Fault> {
+    let branch = slug(alloc, branch)?;
+    add_set(alloc, manifest, recipe, bindings, &branch, found)
 }
 
-fn bindings(alloc: Global, text: &str) -> Result<Bindings> {
-    match read_bindings(alloc, &tree(alloc, text)?) {
+fn add_set(
+    alloc: Global,
+    manifest: &Manifest,
+    recipe: &Recipe,
+    bindings: &Bindings,
+    branch: &Slug,
+    found: &mut String,
+) -> Result<(), Fault> {
+    let values = bound_values(alloc, manifest, recipe, branch, bindings)?;
+    add_values(alloc, values.as_slice(), found)
+}
+
+fn add_values(alloc: Global, values: &[(Text, Tree)], found: &mut String) -> Result<(), Fault> {
+    for (name, value) in values {
+        add_between(found, ", ")?;
+        found.push_str(name.as_str())?;
+        found.push_str(" ")?;
+        add_tree(alloc, value, found)?;
+    }
+    Ok(add_none(found)?)
+}
+
+fn bindings(alloc: Global, text: &str) -> Result<Bindings, Fault> {
+    let tree = tree(alloc, text)?;
+    bindings_of(alloc, &tree)
+}
+
+fn bindings_of(alloc: Global, tree: &Tree) -> Result<Bindings, Fault> {
+    match read_bindings(alloc, tree) {
         Ok(bindings) => Ok(bindings),
-        Err(_) => bail!("no bindings: {text}"),
+        Err(_) => Err(Fault::NoRow),
     }
-}
-
-// A recipe whose branch `treatment` has these features, and whose branch `control` has none.
-fn recipe(alloc: Global, features: &str) -> Result<Recipe> {
-    let record = format!(in alloc; "{BEFORE}{features}{BEHIND}")?;
-    match read_record(alloc, &tree(alloc, record.as_str())?) {
-        Ok(recipe) => Ok(recipe),
-        Err(fault) => bail!("no recipe: {fault:?}"),
-    }
-}
-
-// A manifest of features, each of which is a name, a colon and its variables; a semicolon stands between two.
-fn manifest(alloc: Global, text: &str) -> Result<Manifest> {
-    let mut features = ByName::new(alloc);
-    for feature in text.split("; ") {
-        let Some((name, variables)) = feature.split_once(": ") else {
-            bail!("no feature: {feature}");
-        };
-        let definition = FeatureDefinition {
-            variables: variables_of(alloc, variables)?,
-            defaults: Sequence::new(alloc),
-            allows_coenrollment: false,
-        };
-        ensure!(
-            features.insert(Text::new(alloc, name)?, definition)?,
-            "twice: {name}"
-        );
-    }
-    Ok(Manifest {
-        types: TypeTable {
-            enums: ByName::new(alloc),
-            objects: ByName::new(alloc),
-        },
-        features,
-        channel: Text::new(alloc, "nightly")?,
-    })
-}
-
-// Variables, each of which is a name and its type; a comma stands between two.
-fn variables_of(alloc: Global, text: &str) -> Result<ByName<Field>> {
-    let mut variables = ByName::new(alloc);
-    for variable in text.split(", ") {
-        let (name, spelled) = cut(variable);
-        let field = Field {
-            field_type: match read_type(alloc, spelled) {
-                Ok(field_type) => field_type,
-                Err(_) => bail!("no type: {spelled}"),
-            },
-            default: None,
-        };
-        ensure!(
-            variables.insert(Text::new(alloc, name)?, field)?,
-            "twice: {name}"
-        );
-    }
-    Ok(variables)
-}
-
-fn bindings_text(alloc: Global, bindings: &[Binding]) -> Result<String> {
-    let mut text = String::new(alloc);
-    for binding in bindings {
-        if !text.is_empty() {
-            text.push_str(", ")?;
-        }
-        text.push_str(binding.feature.as_str())?;
-        text.push_str(" ")?;
-        text.push_str(binding.variable.as_str())?;
-        text.push_str(" ")?;
-        text.push_str(binding.preference.as_str())?;
-    }
-    if text.is_empty() {
-        return word(alloc, "none");
-    }
-    Ok(text)
 }

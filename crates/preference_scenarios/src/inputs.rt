@@ -2,47 +2,92 @@
 ghost use Rattle.std.specs.Prelude.{◌↔◌, IfOk, IsTrue, map};
 ghost use Rattle.plain_text.specs.Names.{is_name};
 ghost use Rattle.enrol_states.specs.Order.{Rise};
+ghost use Rattle.std.specs.List.{AllByRecursion};
 ghost use Rattle.pref_bindings.specs.Changes.{AreSettings, IsSetting};
 ghost use Rattle.pref_bindings.specs.Preferences.{IsValue};
 
-use anyhow::{Result, bail, ensure};
-use json_tree::{Tree, read};
+use json_tree::{Tree, read, write};
 use plain_text::{Slug, is_name, slug_of};
 use pref_bindings::is_value;
-use row_tables::cut;
+use recipe_reader::{Recipe, read_record};
+use row_tables::{Fault, cut};
 use sequences::Text;
 use std::alloc::Global;
 
-pub(crate) fn name(alloc: Global, text: &str) -> Result<Text>
-    ensures { IfOk result (λ name. IsTrue (is_name name)) }
-{
-    let name = Text::new(alloc, text)?;
-    ensure!(is_name(name.as_str().as_bytes()), "no name: {text}");
-    Ok(name)
-}
+// A record up to the features of its second branch, and what is behind them.
+const BEFORE: &str =
+    r#"{"schemaVersion":"1.12.0","slug":"alpha","bucketConfig":{"randomizationUnit":"nimbus_id","namespace":"n","start":0,"count":1,"total":1},"branches":[{"slug":"control","ratio":1},{"slug":"treatment","ratio":1,"features":"#;
 
-pub(crate) fn slug(alloc: Global, text: &str) -> Result<Slug> {
-    match slug_of(alloc, text.as_bytes()) {
-        Ok(slug) => Ok(slug),
-        Err(fault) => bail!("no slug: {fault:?}"),
+const BEHIND: &str = "}]}";
+
+pub(crate) fn tree(alloc: Global, text: &str) -> Result<Tree, Fault> {
+    match read(alloc, text.as_bytes()) {
+        Ok(tree) => Ok(tree),
+        Err(_) => Err(Fault::NoRow),
     }
 }
 
-pub(crate) fn value(alloc: Global, text: &str) -> Result<Tree>
+/// Adds the text of a tree.
+pub(crate) fn add_tree(alloc: Global, tree: &Tree, found: &mut String) -> Result<(), Fault> {
+    match write(alloc, tree) {
+        Ok(text) => Ok(found.push_str(text.as_str())?),
+        Err(_) => Err(Fault::OutOfMemory),
+    }
+}
+
+/// A recipe whose branch `treatment` has these features, and whose branch `control` has none.
+pub(crate) fn recipe(alloc: Global, features: &str) -> Result<Recipe, Fault> {
+    let record = format!(in alloc; "{BEFORE}{features}{BEHIND}")?;
+    recipe_of(alloc, record.as_str())
+}
+
+fn recipe_of(alloc: Global, record: &str) -> Result<Recipe, Fault> {
+    let record = tree(alloc, record)?;
+    match read_record(alloc, &record) {
+        Ok(recipe) => Ok(recipe),
+        Err(_) => Err(Fault::NoRow),
+    }
+}
+
+pub(crate) fn slug(alloc: Global, text: &str) -> Result<Slug, Fault> {
+    match slug_of(alloc, text.as_bytes()) {
+        Ok(slug) => Ok(slug),
+        Err(_) => Err(Fault::NoRow),
+    }
+}
+
+pub(crate) fn name(alloc: Global, text: &str) -> Result<Text, Fault>
+    ensures { IfOk result (λ name. IsTrue (is_name name)) }
+{
+    if !is_name(text.as_bytes()) {
+        return Err(Fault::NoRow);
+    }
+    Ok(Text::new(alloc, text)?)
+}
+
+pub(crate) fn value(alloc: Global, text: &str) -> Result<Tree, Fault>
     ensures { IfOk result IsValue }
 {
     match read(alloc, text.as_bytes()) {
-        Ok(value) => {
-            ensure!(is_value(&value), "no value: {text}");
-            Ok(value)
-        }
-        Err(fault) => bail!("no value: {fault:?}"),
+        Ok(value) if is_value(&value) => Ok(value),
+        _ => Err(Fault::NoRow),
     }
 }
 
 /// What a slug sets: a name and its value, and ` and ` between two. The names rise.
-pub(crate) fn settings(alloc: Global, text: &str) -> Result<Vec<(Text, Tree)>>
+pub(crate) fn settings(alloc: Global, text: &str) -> Result<Vec<(Text, Tree)>, Fault>
     ensures { IfOk result (λ settings. AreSettings settings.items) }
+{
+    let settings = settings_of(alloc, text)?;
+    if rises(&settings) {
+        Ok(settings)
+    } else {
+        Err(Fault::NoRow)
+    }
+}
+
+fn settings_of(alloc: Global, text: &str) -> Result<Vec<(Text, Tree)>, Fault>
+    ensures { IfOk result (λ settings. AllByRecursion IsSetting settings.items) }
 {
     let mut settings = Vec::new(alloc);
     if !text.is_empty() {
@@ -50,15 +95,15 @@ pub(crate) fn settings(alloc: Global, text: &str) -> Result<Vec<(Text, Tree)>>
             settings.push(setting_of(alloc, setting)?)?;
         }
     }
-    ensure!(rises(&settings), "no order: {text}");
     Ok(settings)
 }
 
-fn setting_of(alloc: Global, text: &str) -> Result<(Text, Tree)>
+fn setting_of(alloc: Global, text: &str) -> Result<(Text, Tree), Fault>
     ensures { IfOk result IsSetting }
 {
     let (first, second) = cut(text);
-    Ok((name(alloc, first)?, value(alloc, second)?))
+    let name = name(alloc, first)?;
+    Ok((name, value(alloc, second)?))
 }
 
 // Whether the names rise.

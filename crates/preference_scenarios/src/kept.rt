@@ -2,114 +2,171 @@
 //! are a byte, and a comma stands between two rows.
 
 use crate::steps::prefs_after;
-use anyhow::{Result, bail};
 use plain_text::read_number;
-use pref_bindings::{PrefsFault, prefs_of};
+use pref_bindings::{Prefs, PrefsFault, prefs_of};
 use row_batches::{RowChange, StoreRow};
-use row_tables::{cut, halves, word};
+use row_tables::{Fault, add_between, add_none, byte, cut, parts};
 use sequences::Sequence;
-use std::alloc::Global;
+use std::alloc::{AllocError, Global};
 
 /// The rows of the preferences after steps, or `none`. Row: the steps.
-pub(crate) fn rows_after(alloc: Global, input: &str) -> Result<String> {
+pub(crate) fn find_rows(alloc: Global, input: &str, found: &mut String) -> Result<(), Fault> {
     let prefs = prefs_after(alloc, input)?;
-    rows_text(alloc, prefs.rows(alloc)?.as_slice())
+    add_rows_of(alloc, &prefs, found)
+}
+
+fn add_rows_of(alloc: Global, prefs: &Prefs, found: &mut String) -> Result<(), Fault> {
+    let rows = prefs.rows(alloc)?;
+    Ok(add_rows(rows.as_slice(), found)?)
 }
 
 /// Whether rows keep preferences, and are written again as they were. Row: the rows.
-pub(crate) fn read_of(alloc: Global, input: &str) -> Result<String> {
+pub(crate) fn find_reading(alloc: Global, input: &str, found: &mut String) -> Result<(), Fault> {
     let mut rows = Vec::new(alloc);
+    read_rows(alloc, input, &mut rows)?;
+    add_reading(alloc, &rows, found)
+}
+
+fn read_rows(alloc: Global, input: &str, rows: &mut Vec<StoreRow>) -> Result<(), Fault> {
     for text in input.split(", ") {
         if !text.is_empty() {
             rows.push(row_of(alloc, text)?)?;
         }
     }
-    let prefs = match prefs_of(alloc, &rows) {
-        Ok(prefs) => prefs,
-        Err(PrefsFault::NotPrefs) => return word(alloc, "NotPrefs"),
-        Err(PrefsFault::OutOfMemory) => bail!("no memory"),
-    };
-    let again = rows_text(alloc, prefs.rows(alloc)?.as_slice())?;
-    if again == rows_text(alloc, &rows)? {
-        return Ok(format!(in alloc; "{} kept", rows.len())?);
-    }
-    Ok(again)
+    Ok(())
 }
 
-/// The keys of the rows that are put and deleted, or `none`, and how many bytes the puts of the new rows have. Row: the steps to
-/// the old preferences, and behind ` | ` those to the new ones.
-pub(crate) fn row_changes(alloc: Global, input: &str) -> Result<String> {
-    let (old, new) = halves(input)?;
+fn add_reading(alloc: Global, rows: &[StoreRow], found: &mut String) -> Result<(), Fault> {
+    match prefs_of(alloc, rows) {
+        Ok(prefs) => add_rows_again(alloc, &prefs, rows, found),
+        Err(PrefsFault::NotPrefs) => Ok(found.push_str("NotPrefs")?),
+        Err(PrefsFault::OutOfMemory) => Err(Fault::OutOfMemory),
+    }
+}
+
+fn add_rows_again(
+    alloc: Global,
+    prefs: &Prefs,
+    rows: &[StoreRow],
+    found: &mut String,
+) -> Result<(), Fault> {
+    let again = prefs.rows(alloc)?;
+    if are_same(again.as_slice(), rows) {
+        return Ok(write!(found, "{} kept", rows.len())?);
+    }
+    Ok(add_rows(again.as_slice(), found)?)
+}
+
+fn are_same(first: &[StoreRow], second: &[StoreRow]) -> bool {
+    first.len() == second.len()
+        && first.iter().zip(second.iter()).all(|(first, second)| {
+            first.key.as_slice() == second.key.as_slice()
+                && first.value.as_slice() == second.value.as_slice()
+        })
+}
+
+/// The rows that are put and the keys of those that are deleted, or `none`, and how many bytes the puts of the new rows have. Row:
+/// the steps to the old preferences, and behind ` | ` those to the new ones.
+pub(crate) fn find_changes(alloc: Global, input: &str, found: &mut String) -> Result<(), Fault> {
+    let (old, new) = parts(input)?;
     let old = prefs_after(alloc, old)?;
-    let new = prefs_after(alloc, new)?;
-    let mut text = String::new(alloc);
-    add_changes(
-        alloc,
-        &mut text,
-        old.hold_changes_to(alloc, &new)?.as_slice(),
-    )?;
-    add_changes(
-        alloc,
-        &mut text,
-        old.value_changes_to(alloc, &new)?.as_slice(),
-    )?;
-    if text.is_empty() {
-        text.push_str("none")?;
-    }
-    Ok(format!(in alloc; "{text}; {} bytes", new.size())?)
+    find_changes_from(alloc, &old, new, found)
 }
 
-fn add_changes(alloc: Global, text: &mut String, changes: &[RowChange]) -> Result<()> {
+fn find_changes_from(
+    alloc: Global,
+    old: &Prefs,
+    new: &str,
+    found: &mut String,
+) -> Result<(), Fault> {
+    let new = prefs_after(alloc, new)?;
+    add_hold_changes(alloc, old, &new, found)?;
+    add_value_changes(alloc, old, &new, found)
+}
+
+fn add_hold_changes(
+    alloc: Global,
+    old: &Prefs,
+    new: &Prefs,
+    found: &mut String,
+) -> Result<(), AllocError> {
+    let changes = old.hold_changes_to(alloc, new)?;
+    add_changes(changes.as_slice(), found)
+}
+
+fn add_value_changes(
+    alloc: Global,
+    old: &Prefs,
+    new: &Prefs,
+    found: &mut String,
+) -> Result<(), Fault> {
+    let changes = old.value_changes_to(alloc, new)?;
+    add_changes(changes.as_slice(), found)?;
+    add_none(found)?;
+    Ok(write!(found, "; {} bytes", new.size())?)
+}
+
+fn add_changes(changes: &[RowChange], found: &mut String) -> Result<(), AllocError> {
     for change in changes {
-        if !text.is_empty() {
-            text.push_str(", ")?;
-        }
-        let key = change.key().escape_ascii();
-        let change = match change {
-            RowChange::Put(_) => format!(in alloc; "put {key}")?,
-            RowChange::Delete(_) => format!(in alloc; "delete {key}")?,
-        };
-        text.push_str(change.as_str())?;
+        add_change(change, found)?;
     }
     Ok(())
 }
 
-fn row_of(alloc: Global, text: &str) -> Result<StoreRow> {
+fn add_change(change: &RowChange, found: &mut String) -> Result<(), AllocError> {
+    add_between(found, ", ")?;
+    match change {
+        RowChange::Put(row) => {
+            found.push_str("put ")?;
+            add_row(row, found)
+        }
+        RowChange::Delete(key) => write!(found, "delete {}", key.as_slice().escape_ascii()),
+    }
+}
+
+fn row_of(alloc: Global, text: &str) -> Result<StoreRow, Fault> {
     let (key, value) = cut(text);
-    let mut name = Vec::new(alloc);
-    name.extend_from_slice(key.as_bytes())?;
+    let key = key.as_bytes().to_vec(alloc)?;
     Ok(StoreRow {
-        key: Sequence::from_vec(name),
+        key: Sequence::from_vec(key),
         value: Sequence::from_vec(bytes_of(alloc, value)?),
     })
 }
 
 // The bytes of a value's text.
-fn bytes_of(alloc: Global, text: &str) -> Result<Vec<u8>> {
+fn bytes_of(alloc: Global, text: &str) -> Result<Vec<u8>, Fault> {
     let mut bytes = Vec::new(alloc);
-    if let Some((number, rest)) = text.split_once(':') {
-        if let Some(byte) = read_number(number.as_bytes()) {
-            bytes.push(u8::try_from(byte)?)?;
-            bytes.extend_from_slice(rest.as_bytes())?;
-            return Ok(bytes);
-        }
-    }
-    bytes.extend_from_slice(text.as_bytes())?;
+    add_bytes(text, &mut bytes)?;
     Ok(bytes)
 }
 
-fn rows_text(alloc: Global, rows: &[StoreRow]) -> Result<String> {
-    let mut text = String::new(alloc);
-    for row in rows {
-        if !text.is_empty() {
-            text.push_str(", ")?;
+fn add_bytes(text: &str, bytes: &mut Vec<u8>) -> Result<(), Fault> {
+    match first_byte(text) {
+        Some((number, rest)) => {
+            bytes.push(byte(number).ok_or(Fault::NoRow)?)?;
+            Ok(bytes.extend_from_slice(rest.as_bytes())?)
         }
-        let key = row.key.as_slice().escape_ascii();
-        let value = row.value.as_slice().escape_ascii();
-        text.push_str(format!(in alloc; "{key} {value}")?.as_str())?;
+        None => Ok(bytes.extend_from_slice(text.as_bytes())?),
     }
-    if text.is_empty() {
-        return word(alloc, "none");
+}
+
+// The number at the front of a value's text, and what is behind its colon.
+fn first_byte(text: &str) -> Option<(&str, &str)> {
+    let (number, rest) = text.split_once(':')?;
+    read_number(number.as_bytes())?;
+    Some((number, rest))
+}
+
+fn add_rows(rows: &[StoreRow], found: &mut String) -> Result<(), AllocError> {
+    for row in rows {
+        add_between(found, ", ")?;
+        add_row(row, found)?;
     }
-    Ok(text)
+    add_none(found)
+}
+
+fn add_row(row: &StoreRow, found: &mut String) -> Result<(), AllocError> {
+    let key = row.key.as_slice().escape_ascii();
+    let value = row.value.as_slice().escape_ascii();
+    write!(found, "{key} {value}")
 }

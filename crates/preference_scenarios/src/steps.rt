@@ -1,107 +1,146 @@
 //! Rows on what steps make of preferences. Steps are `set NAME VALUE`, `clear NAME`, `join SLUG` and what it sets, and
 //! `leave SLUG`; a comma stands between two.
 
-use crate::inputs::{name, settings, slug, value};
-use anyhow::{Result, bail, ensure};
-use json_tree::{Tree, write};
+ghost use Rattle.std.specs.Prelude.{⊤, MatchOption};
+ghost use Rattle.pref_bindings.specs.Preferences.{IsValue};
+
+use crate::inputs::{add_tree, name, settings, slug, value};
+use json_tree::Tree;
+use plain_text::Slug;
 use pref_bindings::{Hold, Preference, Prefs};
-use row_tables::{cut, halves, word};
+use row_tables::{Fault, add_between, add_none, cut, parts};
 use sequences::Text;
 use std::alloc::Global;
 
 /// The preferences after steps, each with its value, and where it is held with the holder and the value of before; `none` where
 /// there are none. Row: the steps.
-pub(crate) fn preferences_after(alloc: Global, input: &str) -> Result<String> {
+pub(crate) fn find_preferences(
+    alloc: Global,
+    input: &str,
+    found: &mut String,
+) -> Result<(), Fault> {
     let prefs = prefs_after(alloc, input)?;
-    let mut text = String::new(alloc);
-    for preference in prefs.as_slice() {
-        if !text.is_empty() {
-            text.push_str(", ")?;
-        }
-        text.push_str(preference_text(alloc, preference)?.as_str())?;
+    add_preferences(alloc, prefs.as_slice(), found)
+}
+
+fn add_preferences(
+    alloc: Global,
+    preferences: &[Preference],
+    found: &mut String,
+) -> Result<(), Fault> {
+    for preference in preferences {
+        add_between(found, ", ")?;
+        add_preference(alloc, preference, found)?;
     }
-    if text.is_empty() {
-        return word(alloc, "none");
+    Ok(add_none(found)?)
+}
+
+fn add_preference(alloc: Global, preference: &Preference, found: &mut String) -> Result<(), Fault> {
+    found.push_str(preference.name.as_str())?;
+    found.push_str(" ")?;
+    add_tree(alloc, &preference.value, found)?;
+    match &preference.hold {
+        Some(hold) => add_hold(alloc, hold, found),
+        None => Ok(()),
     }
-    Ok(text)
+}
+
+fn add_hold(alloc: Global, hold: &Hold, found: &mut String) -> Result<(), Fault> {
+    write!(found, " {} over ", hold.holder.text())?;
+    match &hold.before {
+        Some(before) => add_tree(alloc, before, found),
+        None => Ok(found.push_str("none")?),
+    }
 }
 
 /// What is known of a name after steps: its value and who holds it. Row: the steps, then ` | ` and the name.
-pub(crate) fn known_after(alloc: Global, input: &str) -> Result<String> {
-    let (steps, name) = halves(input)?;
+pub(crate) fn find_known(alloc: Global, input: &str, found: &mut String) -> Result<(), Fault> {
+    let (steps, name) = parts(input)?;
     let prefs = prefs_after(alloc, steps)?;
-    let value = match prefs.get(name) {
-        Some(value) => write(alloc, value)?,
-        None => Text::new(alloc, "no value")?,
-    };
+    add_known(alloc, &prefs, name, found)
+}
+
+fn add_known(alloc: Global, prefs: &Prefs, name: &str, found: &mut String) -> Result<(), Fault> {
+    match prefs.get(name) {
+        Some(value) => add_tree(alloc, value, found)?,
+        None => found.push_str("no value")?,
+    }
     let holder = match prefs.holder(name) {
         Some(slug) => slug.text(),
         None => "nobody",
     };
-    Ok(format!(in alloc; "{}, {holder}", value.as_str())?)
+    Ok(write!(found, ", {holder}")?)
 }
 
 /// The preferences after steps.
-pub(crate) fn prefs_after(alloc: Global, steps: &str) -> Result<Prefs> {
+pub(crate) fn prefs_after(alloc: Global, steps: &str) -> Result<Prefs, Fault> {
     let mut prefs = Prefs::new(alloc);
-    for step in steps.split(", ") {
-        if !step.is_empty() {
-            prefs = after_step(alloc, &prefs, step)?;
-        }
-    }
+    do_all(alloc, &mut prefs, steps)?;
     Ok(prefs)
 }
 
-fn after_step(alloc: Global, prefs: &Prefs, step: &str) -> Result<Prefs> {
+fn do_all(alloc: Global, prefs: &mut Prefs, steps: &str) -> Result<(), Fault> {
+    for step in steps.split(", ") {
+        if !step.is_empty() {
+            do_step(alloc, prefs, step)?;
+        }
+    }
+    Ok(())
+}
+
+fn do_step(alloc: Global, prefs: &mut Prefs, step: &str) -> Result<(), Fault> {
+    *prefs = after_step(alloc, prefs, step)?;
+    Ok(())
+}
+
+fn after_step(alloc: Global, prefs: &Prefs, step: &str) -> Result<Prefs, Fault> {
     let (kind, rest) = cut(step);
     let (first, second) = cut(rest);
     match kind {
-        "set" => set(alloc, prefs, first, second),
-        "clear" => clear(alloc, prefs, first),
-        "join" => join(alloc, prefs, first, second),
-        "leave" => Ok(prefs.leave(alloc, &slug(alloc, first)?)?),
-        _ => bail!("no step: {step}"),
+        "set" => after_set(alloc, prefs, first, second),
+        "clear" => after_clear(alloc, prefs, first),
+        "join" => after_join(alloc, prefs, first, second),
+        "leave" => after_leave(alloc, prefs, first),
+        _ => Err(Fault::NoRow),
     }
 }
 
-fn set(alloc: Global, prefs: &Prefs, text: &str, spelled: &str) -> Result<Prefs> {
-    let name = name(alloc, text)?;
+fn after_set(alloc: Global, prefs: &Prefs, text: &str, spelled: &str) -> Result<Prefs, Fault> {
     let value = value(alloc, spelled)?;
-    ensure!(prefs.holder(name.as_str()).is_none(), "it is held: {text}");
-    Ok(prefs.user_set(&name, Some(&value))?)
+    with_value(alloc, prefs, text, Some(&value))
 }
 
-fn clear(alloc: Global, prefs: &Prefs, text: &str) -> Result<Prefs> {
+fn after_clear(alloc: Global, prefs: &Prefs, text: &str) -> Result<Prefs, Fault> {
+    with_value(alloc, prefs, text, None)
+}
+
+// The preferences where the user has given a preference this value, or none.
+fn with_value(
+    alloc: Global,
+    prefs: &Prefs,
+    text: &str,
+    value: Option<&Tree>,
+) -> Result<Prefs, Fault>
+    requires { MatchOption value ⊤ (λ v. IsValue v.now) }
+{
     let name = name(alloc, text)?;
-    ensure!(prefs.holder(name.as_str()).is_none(), "it is held: {text}");
-    Ok(prefs.user_set(&name, None)?)
+    if prefs.holder(name.as_str()).is_some() {
+        return Err(Fault::NoRow);
+    }
+    Ok(prefs.user_set(&name, value)?)
 }
 
-fn join(alloc: Global, prefs: &Prefs, text: &str, spelled: &str) -> Result<Prefs> {
+fn after_join(alloc: Global, prefs: &Prefs, text: &str, spelled: &str) -> Result<Prefs, Fault> {
     let slug = slug(alloc, text)?;
-    let settings = settings(alloc, spelled)?;
-    Ok(prefs.join(alloc, &slug, &settings)?)
+    with_settings(alloc, prefs, &slug, spelled)
 }
 
-fn preference_text(alloc: Global, preference: &Preference) -> Result<String> {
-    let name = preference.name.as_str();
-    let value = write(alloc, &preference.value)?;
-    Ok(match &preference.hold {
-        Some(hold) => {
-            let hold = hold_text(alloc, hold)?;
-            format!(in alloc; "{name} {} {hold}", value.as_str())?
-        }
-        None => format!(in alloc; "{name} {}", value.as_str())?,
-    })
+fn with_settings(alloc: Global, prefs: &Prefs, slug: &Slug, spelled: &str) -> Result<Prefs, Fault> {
+    let settings: Vec<(Text, Tree)> = settings(alloc, spelled)?;
+    Ok(prefs.join(alloc, slug, &settings)?)
 }
 
-fn hold_text(alloc: Global, hold: &Hold) -> Result<String> {
-    let holder = hold.holder.text();
-    Ok(match &hold.before {
-        Some(before) => {
-            let before = write(alloc, before)?;
-            format!(in alloc; "{holder} over {}", before.as_str())?
-        }
-        None => format!(in alloc; "{holder} over none")?,
-    })
+fn after_leave(alloc: Global, prefs: &Prefs, text: &str) -> Result<Prefs, Fault> {
+    let slug = slug(alloc, text)?;
+    Ok(prefs.leave(alloc, &slug)?)
 }
