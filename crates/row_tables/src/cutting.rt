@@ -43,3 +43,17 @@ pub fn add_none(found: &mut String) -> Result<(), AllocError> {
     }
     Ok(())
 }
+
+/// Adds texts one after the other.
+pub fn add_texts(found: &mut String, texts: &[&str]) -> Result<(), AllocError> {
+    for text in texts {
+        found.push_str(text)?;
+    }
+    Ok(())
+}
+
+/// Adds bytes, of which those that aren't printed in ASCII stand as `\n`, `\\` or `\x` and two digits.
+pub fn add_bytes(found: &mut String, bytes: &[u8]) -> Result<(), AllocError> {
+    let text = bytes.escape_ascii();
+    write!(found, "{text}")
+}
