@@ -1,54 +1,42 @@
-//! A line of a scenario.
+//! The headings of a theme.
 //!
 //! | Line | Meaning |
 //! |---|---|
-//! | an empty one, or one that begins with `#` | nothing |
-//! | `== NAME` | a scenario begins: both sides are empty, the moment is 1700000000, and the files are those from before the first scenario |
+//! | `== NAME` | a scenario begins, over the usual store: `init 5a8f0b1e-7c3d-4e2a-9b6c-0123456789ab` was called at the moment 1700000000 over two empty sides; the files are those that stand before the first theme |
 //!
-//! What is written down:
+//! What is written down. The text that parts make stands behind these lines:
 //!
 //! | Line | Meaning |
 //! |---|---|
-//! | `> TEXT` | the text goes on with this one and a line feed |
-//! | `>> TEXT` | the text goes on with this one |
-//! | `repeat COUNT TEXT` | the text goes on with this one, so many times |
-//! | `byte NUMBER COUNT` | the text goes on with this byte, so many times |
-//! | `lines COUNT TEXT` | the text goes on with so many lines, each of which is this one |
-//! | `numbered COUNT TEXT` | the text goes on with so many lines, each of which is this one with its number from 0 on behind it |
-//! | `hex DIGITS` | the text goes on with the bytes of these hexadecimal digits |
-//! | `file NAME` | the text becomes a file, and is empty then |
-//! | `record SLUG FEATURE VALUE MEMBERS` | the next record of a payload, all of whose clients are in its branch `treatment`, which lays the value over the feature; the members, each with a comma before it, stand at its end |
-//! | `records COUNT SLUG FEATURE` | so many such records, each with its number from 0 on behind its slug; the text is the value, and is empty then |
-//! | `json TEXT` | the next record of a payload is this text |
-//! | `payload NAME` | the records become a file, and there are none then |
+//! | `file NAME TEXT` | a file that begins with this text and goes on with that of the parts |
+//! | `payload NAME` | a file that is a payload of the records that stand behind this line |
 //!
 //! What stands outside the program:
 //!
 //! | Line | Meaning |
 //! |---|---|
+//! | `empty` | both sides become empty |
 //! | `at MOMENT` | calls from here on are made at this moment |
-//! | `room COUNT` | both sides become empty and have room for so many bytes |
+//! | `room COUNT` | calls from here on have room for so many bytes |
 //! | `pieces COUNT` | the source gives at most so many bytes at once |
-//! | `side SIDE` | a side becomes the text, which is empty then |
+//! | `side SIDE DIGITS` | a side becomes the bytes of these hexadecimal digits and the text of the parts |
 //! | `put SIDE PLACE BYTE` | a byte of a side becomes this one |
 //! | `cut SIDE LENGTH` | a side loses what stands behind so many bytes |
 //! | `fail CALLS NUMBER` | in the next call of the program the call with this number fails, among those of the `source`, the `shelf` or the `host`, or among the host's of one kind: `write`, `sync` or `say` |
+//! | `stay` | the next call of the program finds the host that the last one has left, with the bytes that it hasn't synced |
 //!
-//! Calls:
+//! Calls. The script, the answers and the status stand behind these lines, each line of the script with its answers:
 //!
 //! | Line | Meaning |
 //! |---|---|
-//! | `call WORDS` | the program is called with these words and the text as its script, which is empty then |
+//! | `run` | the program is called with the word `run` |
+//! | `call WORDS` | the program is called with these words |
 //! | `again WORDS` | the program is called with these words over the source that the last call has left |
 //!
 //! What is wanted, of the last call where none is named:
 //!
 //! | Line | Meaning |
 //! |---|---|
-//! | `< TEXT` | it has said this line |
-//! | `said` | it has said the text, which is empty then |
-//! | `tail TEXT` | it has said this line; what it has said before the last such line isn't looked at |
-//! | `ends STATUS` | it has ended so and has said no more |
 //! | `exit NUMBER` | the number of its status is this one |
 //! | `same` | it has said what the call before it has said |
 //! | `sum NUMBER TEXT` | the numbers at the ends of the lines that it has said behind the last one that is this text have this sum |
@@ -56,78 +44,35 @@
 //! | `grown` | the left side is longer than before it |
 //! | `wrote COUNT` | it has written so many bytes |
 //! | `holds LEFT RIGHT` | the sides have so many bytes |
-//! | `bytes SIDE` | the side has the text's bytes; the text is empty then |
-//! | `images LEFT RIGHT` | a run of `show`, or of the file `looks` where there is one, over what a crash then leaves of the sides (`old`, `new` or `torn`, or each of these at `each`) ends with `Done` and says the text, which is empty then |
-//! | `faults CALLS COUNT WORDS` | the program is called with these words and the text as its script, which is empty then, once for each of the first so many calls of the `source`, the `shelf` or the `host`, which fails: it ends with `Done` or with a fault of these, and a run of `show`, or of the file `looks` where there is one, over each pair of images says the file `before` until the file `answers` is said whole, this or the file `after` then, and `after` where more is said |
+//! | `bytes SIDE DIGITS` | the side has the bytes of these hexadecimal digits and the text of the parts |
+//! | `images LEFT RIGHT` | a run over what a crash then leaves of the sides (`old`, `new` or `torn`, or each of these at `each`) is as the parts say |
+//! | `faults CALLS COUNT WORDS` | the program, called with these words as the parts say, makes so many calls of the `source`, the `shelf` or the `host`; where one of them fails, it ends with the fault of this call, after the answers that it has said before, and the next `state` holds |
+//! | `state COUNT` | from the answer with this number on, or from the start at 0, a run over what a crash leaves of the sides is as the parts say: where a call of the disk fails after so many answers it is as after them or as after one more, where a `say` fails it is as after one more, and else as after so many |
 //! | `cuts SIDE FIRST LAST STATUS` | a run of no line ends so where a side has only so many bytes, for each number from the first to the last |
 //! | `puts SIDE FIRST LAST BYTE STATUS` | a run of no line ends so where a byte of a side is this one, for each place from the first to the last |
+use crate::faults::Calls;
+use crate::outside::Change;
+use crate::shelf::File;
 use host_model::{Choice, Side};
 use plain_text::read_number;
+use row_tables::{byte, count, cut};
 
 #[derive(Clone, Copy)]
 pub(crate) enum Directive<'a> {
-    Nothing,
     Begin(&'a str),
-    Input(Input<'a>),
-    Change(Change),
-    Side(Side),
-    Call(Call<'a>),
-    Check(Check<'a>),
-}
-
-/// What is written down.
-#[derive(Clone, Copy)]
-pub(crate) enum Input<'a> {
-    Line(&'a str),
-    Part(&'a str),
-    Repeat(usize, &'a str),
-    Lines(usize, &'a str),
-    NumberedLines(usize, &'a str),
-    Byte(u8, usize),
-    Hex(&'a str),
-    File(&'a str),
-    Record(&'a str),
-    Records(usize, &'a str),
-    Json(&'a str),
+    File(&'a str, &'a str),
     Payload(&'a str),
-}
-
-/// What becomes of what stands outside the program.
-#[derive(Clone, Copy)]
-pub(crate) enum Change {
-    At(u64),
-    Room(usize),
-    Pieces(usize),
-    Put(Side, usize, u8),
-    Cut(Side, usize),
-    Fail(Calls, u64),
-}
-
-/// Calls that are counted.
-#[derive(Clone, Copy)]
-pub(crate) enum Calls {
-    Source,
-    Shelf,
-    Host,
-    Write,
-    Sync,
-    Say,
-}
-
-/// A call of the program.
-#[derive(Clone, Copy)]
-pub(crate) enum Call<'a> {
-    Script(&'a str),
+    Change(Change),
+    Side(Side, &'a str),
+    Call(&'a str),
     Again(&'a str),
+    State,
+    Check(Check<'a>),
 }
 
 /// What is wanted.
 #[derive(Clone, Copy)]
 pub(crate) enum Check<'a> {
-    Said(&'a str),
-    SaidText,
-    Tail(&'a str),
-    Ends(&'a str),
     Exit(u8),
     Same,
     Sum(u64, &'a str),
@@ -135,7 +80,7 @@ pub(crate) enum Check<'a> {
     Grown,
     Wrote(u64),
     Holds(usize, usize),
-    Bytes(Side),
+    Bytes(Side, &'a str),
     Images(Images, Images),
     Faults(Calls, u64, &'a str),
     EndsWhere(Alterations<'a>),
@@ -160,25 +105,52 @@ pub(crate) enum Images {
 }
 
 impl<'a> Directive<'a> {
-    /// What the line says, if it is a line of a scenario.
+    /// What the line says, if it is a heading.
     pub(crate) fn of(line: &'a str) -> Option<Directive<'a>> {
-        if line.is_empty() || line.starts_with('#') {
-            return Some(Directive::Nothing);
-        }
         let (word, rest) = cut(line);
         match word {
             "==" => Some(Directive::Begin(rest)),
-            "side" => Some(Directive::Side(side(rest)?)),
-            "call" => Some(Directive::Call(Call::Script(rest))),
-            "again" => Some(Directive::Call(Call::Again(rest))),
+            "side" => read_side(rest),
+            "run" => Some(Directive::Call(line)),
+            "call" => Some(Directive::Call(rest)),
+            "again" => Some(Directive::Again(rest)),
+            "state" => read_state(rest),
             _ => of_others(word, rest),
+        }
+    }
+
+    /// Whether parts may stand behind the line.
+    pub(crate) fn takes_parts(self) -> bool {
+        match self {
+            Directive::Begin(_) | Directive::Change(_) => false,
+            Directive::Check(check) => {
+                matches!(check, Check::Bytes(_, _) | Check::Images(_, _) | Check::Faults(_, _, _))
+            }
+            _ => true,
         }
     }
 }
 
+/// The file that the line writes down, if it does.
+pub(crate) fn file_of<'a>(directive: Directive<'a>, behind: &'a str) -> Option<File<'a>> {
+    match directive {
+        Directive::File(name, text) => Some(File::Text(name, text, behind)),
+        Directive::Payload(name) => Some(File::Payload(name, behind)),
+        _ => None,
+    }
+}
+
+/// From which answer on a state holds, where the line says it.
+pub(crate) fn state_of(line: &str) -> Option<u64> {
+    match cut(line) {
+        ("state", rest) => number(rest),
+        _ => None,
+    }
+}
+
 fn of_others<'a>(word: &str, rest: &'a str) -> Option<Directive<'a>> {
-    if let Some(input) = read_input(word, rest) {
-        return Some(Directive::Input(input));
+    if let Some(directive) = read_file(word, rest) {
+        return Some(directive);
     }
     if let Some(change) = read_change(word, rest) {
         return Some(Directive::Change(change));
@@ -186,57 +158,35 @@ fn of_others<'a>(word: &str, rest: &'a str) -> Option<Directive<'a>> {
     Some(Directive::Check(read_check(word, rest)?))
 }
 
-fn read_input<'a>(word: &str, rest: &'a str) -> Option<Input<'a>> {
+fn read_file<'a>(word: &str, rest: &'a str) -> Option<Directive<'a>> {
+    let (name, text) = cut(rest);
     match word {
-        ">" => Some(Input::Line(rest)),
-        ">>" => Some(Input::Part(rest)),
-        "repeat" => repeated(rest),
-        "lines" => lines(rest),
-        "numbered" => numbered_lines(rest),
-        "byte" => filled(rest),
-        "hex" => Some(Input::Hex(rest)),
-        "file" => Some(Input::File(rest)),
-        "record" => Some(Input::Record(rest)),
-        "records" => numbered(rest),
-        "json" => Some(Input::Json(rest)),
-        "payload" => Some(Input::Payload(rest)),
+        "file" => Some(Directive::File(name, text)),
+        "payload" => Some(Directive::Payload(rest)),
         _ => None,
     }
 }
 
-fn repeated<'a>(rest: &'a str) -> Option<Input<'a>> {
-    let (number, text) = cut(rest);
-    Some(Input::Repeat(count(number)?, text))
+fn read_side<'a>(rest: &'a str) -> Option<Directive<'a>> {
+    let (name, digits) = cut(rest);
+    Some(Directive::Side(side(name)?, digits))
 }
 
-fn lines<'a>(rest: &'a str) -> Option<Input<'a>> {
-    let (number, text) = cut(rest);
-    Some(Input::Lines(count(number)?, text))
-}
-
-fn numbered_lines<'a>(rest: &'a str) -> Option<Input<'a>> {
-    let (number, text) = cut(rest);
-    Some(Input::NumberedLines(count(number)?, text))
-}
-
-fn filled<'a>(rest: &'a str) -> Option<Input<'a>> {
-    let (number, times) = cut(rest);
-    Some(Input::Byte(byte(number)?, count(times)?))
-}
-
-fn numbered<'a>(rest: &'a str) -> Option<Input<'a>> {
-    let (number, words) = cut(rest);
-    Some(Input::Records(count(number)?, words))
+fn read_state<'a>(rest: &'a str) -> Option<Directive<'a>> {
+    number(rest)?;
+    Some(Directive::State)
 }
 
 fn read_change(word: &str, rest: &str) -> Option<Change> {
     match word {
+        "empty" => Some(Change::Empty),
         "at" => Some(Change::At(number(rest)?)),
         "room" => Some(Change::Room(count(rest)?)),
         "pieces" => Some(Change::Pieces(count(rest)?)),
         "put" => put(rest),
         "cut" => cut_off(rest),
         "fail" => fail(rest),
+        "stay" => Some(Change::Stay),
         _ => None,
     }
 }
@@ -271,16 +221,13 @@ fn read_calls(name: &str) -> Option<Calls> {
 
 fn read_check<'a>(word: &str, rest: &'a str) -> Option<Check<'a>> {
     match word {
-        "<" => Some(Check::Said(rest)),
-        "said" => Some(Check::SaidText),
-        "tail" => Some(Check::Tail(rest)),
-        "ends" => Some(Check::Ends(rest)),
         "exit" => Some(Check::Exit(byte(rest)?)),
         "same" => Some(Check::Same),
         "sum" => sum(rest),
         "unchanged" => Some(Check::Unchanged),
         "grown" => Some(Check::Grown),
         "wrote" => Some(Check::Wrote(number(rest)?)),
+        "faults" => faults(rest),
         _ => read_check_of_sides(word, rest),
     }
 }
@@ -289,9 +236,8 @@ fn read_check_of_sides<'a>(word: &str, rest: &'a str) -> Option<Check<'a>> {
     let (first, second) = cut(rest);
     match word {
         "holds" => Some(Check::Holds(count(first)?, count(second)?)),
-        "bytes" => Some(Check::Bytes(side(rest)?)),
+        "bytes" => Some(Check::Bytes(side(first)?, second)),
         "images" => Some(Check::Images(read_images(first)?, read_images(second)?)),
-        "faults" => faults(rest),
         "cuts" => Some(Check::EndsWhere(cuts(rest)?)),
         "puts" => Some(Check::EndsWhere(puts(rest)?)),
         _ => None,
@@ -346,11 +292,6 @@ fn read_images(name: &str) -> Option<Images> {
     }
 }
 
-/// A text before and behind its first space, or else the whole and an empty one.
-pub(crate) fn cut(text: &str) -> (&str, &str) {
-    text.split_once(' ').unwrap_or((text, ""))
-}
-
 fn side(name: &str) -> Option<Side> {
     match name {
         "left" => Some(Side::Left),
@@ -361,12 +302,4 @@ fn side(name: &str) -> Option<Side> {
 
 fn number(text: &str) -> Option<u64> {
     read_number(text.as_bytes())
-}
-
-fn count(text: &str) -> Option<usize> {
-    usize::try_from(number(text)?).ok()
-}
-
-fn byte(text: &str) -> Option<u8> {
-    u8::try_from(number(text)?).ok()
 }

@@ -1,12 +1,13 @@
-//! A host in memory, one write, sync or say of which may fail.
+//! A host in memory, calls of which may fail.
 ghost use Rattle.std.specs.Prelude.{◌≡◌, ◌≤◌, ◌<◌, ◌+◌, ◌-◌, ◌^◌, min, []};
 
+use crate::faults::Faults;
 use host_model::{Choice, DiskFailed, Host, MemHost, SayFailed, Side};
 use std::alloc::{AllocError, Global};
 
 /// How many calls of a kind come up to the one that fails, or 0 where none fails.
 #[derive(Clone, Copy)]
-pub(crate) struct Countdown(pub(crate) u64);
+struct Countdown(u64);
 
 impl Countdown {
     // Counts a call, and tells whether it fails.
@@ -17,36 +18,83 @@ impl Countdown {
     }
 }
 
+/// Which call of a host has failed.
+#[derive(Clone, Copy, PartialEq, Eq)]
+pub(crate) enum Failed {
+    No,
+    Disk,
+    Say,
+}
+
+/// The calls that a host counts since a call of the program has begun.
+#[derive(Clone, Copy)]
+struct Counts {
+    calls: Countdown,
+    writes: Countdown,
+    syncs: Countdown,
+    says: Countdown,
+    failed: Failed,
+    written: u64,
+    answers: u64,
+}
+
+impl Counts {
+    fn new(faults: Faults) -> Counts {
+        Counts {
+            calls: Countdown(faults.host),
+            writes: Countdown(faults.write),
+            syncs: Countdown(faults.sync),
+            says: Countdown(faults.say),
+            failed: Failed::No,
+            written: 0,
+            answers: 0,
+        }
+    }
+
+    fn next_write_fails(&mut self) -> bool {
+        let (call, write) = (self.calls.next_fails(), self.writes.next_fails());
+        call || write
+    }
+
+    fn next_sync_fails(&mut self) -> bool {
+        let (call, sync) = (self.calls.next_fails(), self.syncs.next_fails());
+        call || sync
+    }
+
+    fn next_say_fails(&mut self) -> bool {
+        let (call, say) = (self.calls.next_fails(), self.says.next_fails());
+        call || say
+    }
+}
+
 /// A host in memory. It tells nothing of what it holds.
 #[derive(Drop)]
 pub(crate) struct FailingHost {
     host: MemHost,
-    writes: Countdown,
-    syncs: Countdown,
-    says: Countdown,
-    written: u64,
+    counts: Counts,
+    /// Where what is said since the call has begun begins.
+    said_from: usize,
     disk_faults: u64,
     say_faults: u64,
     ghost fits: { (disk_faults < 2 ^ 64) × (say_faults < 2 ^ 64) },
 }
 
 impl FailingHost {
-    /// This host, of which the write, the sync and the say with these numbers fail.
-    pub(crate) fn new(
-        host: MemHost,
-        writes: Countdown,
-        syncs: Countdown,
-        says: Countdown,
-    ) -> FailingHost {
+    /// This host, some calls of which fail.
+    pub(crate) fn new(host: MemHost, faults: Faults) -> FailingHost {
         FailingHost {
             host,
-            writes,
-            syncs,
-            says,
-            written: 0,
+            counts: Counts::new(faults),
+            said_from: 0,
             disk_faults: 0,
             say_faults: 0,
         }
+    }
+
+    /// Begins another call of the program, over what the one before has left.
+    pub(crate) fn go_on(&mut self, faults: Faults) {
+        self.counts = Counts::new(faults);
+        self.said_from = self.host.said().len();
     }
 
     /// What a crash may leave on a side.
@@ -61,12 +109,22 @@ impl FailingHost {
 
     /// How many bytes were written.
     pub(crate) fn written(&self) -> u64 {
-        self.written
+        self.counts.written
+    }
+
+    /// How many answers were said.
+    pub(crate) fn answers(&self) -> u64 {
+        self.counts.answers
+    }
+
+    /// Which call has failed.
+    pub(crate) fn failed(&self) -> Failed {
+        self.counts.failed
     }
 
     /// The text said.
     pub(crate) fn said(&self) -> &[u8] {
-        self.host.said()
+        self.host.said().get(self.said_from..).unwrap_or(b"")
     }
 
     // Counts a fault of the disk.
@@ -76,6 +134,7 @@ impl FailingHost {
         ensures fits { self.new.disk_faults < 2 ^ 64 }
         ensures say_faults { self.new.say_faults ≡ self.old.say_faults }
     {
+        self.counts.failed = Failed::Disk;
         self.disk_faults = self.disk_faults.saturating_add(1);
         DiskFailed
     }
@@ -87,6 +146,7 @@ impl FailingHost {
         ensures fits { self.new.say_faults < 2 ^ 64 }
         ensures disk_faults { self.new.disk_faults ≡ self.old.disk_faults }
     {
+        self.counts.failed = Failed::Say;
         self.say_faults = self.say_faults.saturating_add(1);
         SayFailed
     }
@@ -120,6 +180,9 @@ impl Host for FailingHost {
     ghost only_now = { λ _ _ _ _ tells _. absurd tells };
 
     fn len(&mut self, side: Side) -> Result<u64, DiskFailed> {
+        if self.counts.calls.next_fails() {
+            return Err(self.disk_fault());
+        }
         match self.host.len(side) {
             Ok(length) => Ok(length),
             Err(_) => Err(self.disk_fault()),
@@ -127,6 +190,9 @@ impl Host for FailingHost {
     }
 
     fn read(&mut self, side: Side, at: u64, into: &mut [u8]) -> Result<usize, DiskFailed> {
+        if self.counts.calls.next_fails() {
+            return Err(self.disk_fault());
+        }
         match self.host.read(side, at, into) {
             Ok(count) => Ok(count),
             Err(_) => Err(self.disk_fault()),
@@ -134,12 +200,12 @@ impl Host for FailingHost {
     }
 
     fn write_at(&mut self, side: Side, at: u64, bytes: &[u8]) -> Result<(), DiskFailed> {
-        if self.writes.next_fails() {
+        if self.counts.next_write_fails() {
             return Err(self.disk_fault());
         }
         match self.host.write_at(side, at, bytes) {
             Ok(()) => {
-                self.written = self.written.saturating_add(bytes.len() as u64);
+                self.counts.written = self.counts.written.saturating_add(bytes.len() as u64);
                 Ok(())
             }
             Err(_) => Err(self.disk_fault()),
@@ -147,7 +213,7 @@ impl Host for FailingHost {
     }
 
     fn sync(&mut self, side: Side) -> Result<(), DiskFailed> {
-        if self.syncs.next_fails() {
+        if self.counts.next_sync_fails() {
             return Err(self.disk_fault());
         }
         match self.host.sync(side) {
@@ -157,11 +223,14 @@ impl Host for FailingHost {
     }
 
     fn say(&mut self, bytes: &[u8]) -> Result<(), SayFailed> {
-        if self.says.next_fails() {
+        if self.counts.next_say_fails() {
             return Err(self.say_fault());
         }
         match self.host.say(bytes) {
-            Ok(()) => Ok(()),
+            Ok(()) => {
+                self.counts.answers = self.counts.answers.saturating_add(1);
+                Ok(())
+            }
             Err(_) => Err(self.say_fault()),
         }
     }

@@ -1,53 +1,65 @@
-//! Scenarios of the client's program, which stand on standard input: each calls it over two sides, files and a script in
-//! memory, and says which status it ends with and what is said. A line tells of each scenario that it passes, or what was
-//! found and what was wanted, and the last one how many passed. `directive` says how a scenario is written.
+//! Scenarios of the client's program: each calls it over two sides, files and a script in memory, and says what it says and
+//! how it ends. Standard input has the files of each scenario and the names of the themes, and a theme is a text file of its
+//! own. A line tells of each theme how many of its scenarios pass, and one of each difference where it is wanted, what was
+//! found and what is wanted. With an argument only those scenarios are played whose names begin with it. `directive` and
+//! `part` say how a scenario is written.
 #![tactic(auto)]
 
-mod alterations;
+mod answers;
+mod checks;
 mod directive;
+mod faults;
 mod host;
-mod inputs;
-mod judging;
+mod images;
+mod line;
 mod outside;
+mod part;
 mod program;
-mod scenario;
+mod shelf;
+mod stops;
+mod tally;
+mod text;
+mod theme;
+mod world;
 
-use directive::Directive;
-use scenario::Scenario;
-use std::io;
+use std::rt::{Env, Files};
+use std::{env, fs, io};
+use tally::Tally;
+use theme::{Theme, play};
 
-// Does what one line says, and tells what differs from what is wanted.
-fn step(rt: &HostRuntime, scenario: &mut Scenario, line: &str) -> anyhow::Result<()> {
-    let Some(directive) = Directive::of(line) else {
-        println!(rt; "no line of a scenario: {line}")?;
-        return Ok(());
-    };
-    if let Some(difference) = scenario.does(rt.alloc(), directive)? {
-        println!(rt; "{}: {}", scenario.name(), difference.as_str())?;
+// The beginning of the names of the scenarios that are played.
+fn first_argument<R: Env + AllocGlobal>(rt: &R) -> io::Result<String> {
+    match env::args(rt)?.nth(1) {
+        Some(name) => Ok(name),
+        None => Ok(String::new(rt.alloc())),
     }
-    Ok(())
 }
 
-// Tells that the scenario passes, where it does, and gives the number of those that have passed.
-fn tell(rt: &HostRuntime, scenario: &Scenario, passed: u64) -> anyhow::Result<u64> {
-    if !scenario.passes() {
-        return Ok(passed);
+// The text of a theme, which lies in the current folder or in its folder `data`.
+fn read_theme<R: Files + AllocGlobal>(rt: &R, name: &str) -> io::Result<String> {
+    let file = format!(in rt.alloc(); "{name}.txt")?;
+    match fs::read_to_string(rt, &file) {
+        Ok(text) => Ok(text),
+        Err(_) => fs::read_to_string(rt, format!(in rt.alloc(); "data/{name}.txt")?),
     }
-    println!(rt; "{}: passed", scenario.name())?;
-    Ok(passed.saturating_add(1))
 }
 
 fn main(rt: HostRuntime) -> anyhow::Result<()> {
     let input = io::read_to_string(rt.alloc(), rt.reader())?;
-    let mut scenario = Scenario::new(rt.alloc());
-    let mut passed = 0;
+    let only = first_argument(&rt)?;
+    let mut tally = Tally::new(rt.alloc());
     for line in input.lines() {
-        if line.starts_with("== ") {
-            passed = tell(&rt, &scenario, passed)?;
-        }
-        step(&rt, &mut scenario, line)?;
+        let Some(name) = line.strip_prefix("theme ") else {
+            continue;
+        };
+        let text = read_theme(&rt, name)?;
+        let theme = Theme {
+            name,
+            text: &text,
+            shared: &input,
+        };
+        play(rt.alloc(), &mut tally, theme, &only)?;
     }
-    let passed = tell(&rt, &scenario, passed)?;
-    println!(rt; "{passed} scenarios passed")?;
+    print!(rt; "{}", tally.report()?)?;
     Ok(())
 }

@@ -1,6 +1,6 @@
 //! What stands outside the program: a moment, two sides, a source, and which of their calls fail.
-use crate::directive::{Calls, Change};
-use crate::host::{Countdown, FailingHost};
+use crate::faults::{Calls, Faults};
+use crate::host::FailingHost;
 use host_model::{MemHost, MemSource, Side};
 use std::alloc::{AllocError, Global};
 
@@ -16,53 +16,17 @@ const ROOM: usize = 65_536;
 /// How many bytes of the script the source gives at once, unless a scenario says another number.
 const PIECE: usize = 4096;
 
-/// The numbers of the calls that fail, from 1 on, or 0 where none fails.
+/// What becomes of what stands outside the program.
 #[derive(Clone, Copy)]
-pub(crate) struct Faults {
-    source: u64,
-    shelf: u64,
-    host: u64,
-    write: u64,
-    sync: u64,
-    say: u64,
-}
-
-impl Faults {
-    /// No call fails.
-    pub(crate) fn none() -> Faults {
-        Faults {
-            source: 0,
-            shelf: 0,
-            host: 0,
-            write: 0,
-            sync: 0,
-            say: 0,
-        }
-    }
-
-    /// The call with this number fails.
-    pub(crate) fn of(calls: Calls, number: u64) -> Faults {
-        let mut faults = Faults::none();
-        faults.add(calls, number);
-        faults
-    }
-
-    /// Which call of the shelf fails.
-    pub(crate) fn of_shelf(&self) -> u64 {
-        self.shelf
-    }
-
-    // The call with this number fails too.
-    fn add(&mut self, calls: Calls, number: u64) {
-        match calls {
-            Calls::Source => self.source = number,
-            Calls::Shelf => self.shelf = number,
-            Calls::Host => self.host = number,
-            Calls::Write => self.write = number,
-            Calls::Sync => self.sync = number,
-            Calls::Say => self.say = number,
-        }
-    }
+pub(crate) enum Change {
+    Empty,
+    At(u64),
+    Room(usize),
+    Pieces(usize),
+    Put(Side, usize, u8),
+    Cut(Side, usize),
+    Fail(Calls, u64),
+    Stay,
 }
 
 /// What a call of the program finds outside.
@@ -70,10 +34,11 @@ impl Faults {
 pub(crate) struct Outside {
     pub(crate) left: Vec<u8>,
     pub(crate) right: Vec<u8>,
-    moment: u64,
+    pub(crate) moment: u64,
     room: usize,
     piece: usize,
     faults: Faults,
+    stays: bool,
 }
 
 impl Outside {
@@ -86,28 +51,32 @@ impl Outside {
             room: ROOM,
             piece: PIECE,
             faults: Faults::none(),
+            stays: false,
         }
     }
 
-    pub(crate) fn moment(&self) -> u64 {
-        self.moment
+    /// Two empty sides at the moment of scenarios again.
+    pub(crate) fn begin(&mut self) {
+        self.empty();
+        self.moment = NOW;
+        self.room = ROOM;
+        self.piece = PIECE;
+        self.faults = Faults::none();
+        self.stays = false;
     }
 
     /// Changes what a line says.
-    pub(crate) fn change(&mut self, alloc: Global, change: Change) {
+    pub(crate) fn change(&mut self, change: Change) {
         match change {
+            Change::Empty => self.empty(),
             Change::At(moment) => self.moment = moment.min(LAST_MOMENT),
-            Change::Room(room) => self.empty(alloc, room),
+            Change::Room(room) => self.room = room,
             Change::Pieces(count) => self.piece = count,
-            Change::Put(side, place, byte) => self.put(side, place, byte),
+            Change::Put(side, place, byte) => put(self.side(side), place, byte),
             Change::Cut(side, length) => self.side(side).truncate(length),
             Change::Fail(calls, number) => self.faults.add(calls, number),
+            Change::Stay => self.stays = true,
         }
-    }
-
-    /// A side becomes these bytes.
-    pub(crate) fn become_bytes(&mut self, side: Side, bytes: Vec<u8>) {
-        *self.side(side) = bytes;
     }
 
     /// The calls that fail in the next call of the program, and in none behind it.
@@ -115,6 +84,13 @@ impl Outside {
         let faults = self.faults;
         self.faults = Faults::none();
         faults
+    }
+
+    /// Whether the next call of the program, and none behind it, finds the host of the last one.
+    pub(crate) fn take_stays(&mut self) -> bool {
+        let stays = self.stays;
+        self.stays = false;
+        stays
     }
 
     /// A source of a script.
@@ -141,35 +117,27 @@ impl Outside {
         faults: Faults,
     ) -> Result<FailingHost, AllocError> {
         let room = self.room.max(left.len()).max(right.len());
-        let host = MemHost::new(alloc, left, right, room, &[faults.host])?;
-        let (writes, syncs) = (Countdown(faults.write), Countdown(faults.sync));
-        Ok(FailingHost::new(host, writes, syncs, Countdown(faults.say)))
+        let host = MemHost::new(alloc, left, right, room, &[])?;
+        Ok(FailingHost::new(host, faults))
     }
 
-    /// The bytes of a side.
-    pub(crate) fn bytes(&self, side: Side) -> &[u8] {
-        match side {
-            Side::Left => &self.left,
-            Side::Right => &self.right,
-        }
-    }
-
-    fn side(&mut self, side: Side) -> &mut Vec<u8> {
+    /// A side.
+    pub(crate) fn side(&mut self, side: Side) -> &mut Vec<u8> {
         match side {
             Side::Left => &mut self.left,
             Side::Right => &mut self.right,
         }
     }
 
-    fn empty(&mut self, alloc: Global, room: usize) {
-        self.left = Vec::new(alloc);
-        self.right = Vec::new(alloc);
-        self.room = room;
+    fn empty(&mut self) {
+        self.left.clear();
+        self.right.clear();
     }
+}
 
-    fn put(&mut self, side: Side, place: usize, byte: u8) {
-        if let Some(there) = self.side(side).get_mut(place) {
-            *there = byte;
-        }
+/// Makes a byte this one, where there is one.
+pub(crate) fn put(bytes: &mut Vec<u8>, place: usize, byte: u8) {
+    if let Some(there) = bytes.get_mut(place) {
+        *there = byte;
     }
 }

@@ -1,5 +1,6 @@
 //! Calls of the program with the standard transforms of targeting.
 use crate::host::FailingHost;
+use crate::shelf::{File, put_files};
 use host_model::{MemShelf, MemSource};
 use jexl_transforms::{
     Transform, TransformTable, bucket_transform, date_transform, event_nonzero_transform,
@@ -12,31 +13,38 @@ use std::alloc::{AllocError, Global};
 /// The last moment at which the program may be called.
 const LAST_MOMENT: u64 = 253_402_300_799;
 
-/// A call of the program that has ended, and what it has left.
-#[derive(Drop)]
-pub(crate) struct Ended {
-    pub(crate) status: RunStatus,
-    pub(crate) source: MemSource,
-    pub(crate) host: FailingHost,
+/// A call of the program: its words, between which there is one space each, its moment, and the files, of which the
+/// call with this number fails.
+#[derive(Clone, Copy)]
+pub(crate) struct Call<'a> {
+    pub(crate) words: &'a str,
+    pub(crate) moment: u64,
+    pub(crate) files: &'a [File<'a>],
+    pub(crate) failing: u64,
 }
 
-/// Calls the program with these words, between which there is one space each.
-pub(crate) fn call(
+/// Calls the program.
+pub(crate) fn call_program(
     alloc: Global,
-    words: &str,
-    moment: u64,
-    source: MemSource,
-    shelf: MemShelf,
-    host: FailingHost,
-) -> Result<Ended, AllocError> {
-    let words = words_of(alloc, words)?;
-    let (mut source, mut shelf, mut host) = (source, shelf, host);
-    let status = answer(alloc, &words, moment, &mut source, &mut shelf, &mut host)?;
-    Ok(Ended {
-        status,
-        source,
-        host,
-    })
+    call: Call<'_>,
+    source: &mut MemSource,
+    host: &mut FailingHost,
+) -> Result<RunStatus, AllocError> {
+    let mut words = Vec::new(alloc);
+    add_words(alloc, &mut words, call.words)?;
+    let mut shelf = MemShelf::new(alloc, &[call.failing])?;
+    put_files(alloc, &mut shelf, call.files)?;
+    answer(alloc, &words, call.moment, source, &mut shelf, host)
+}
+
+fn add_words(alloc: Global, words: &mut Vec<String>, text: &str) -> Result<(), AllocError> {
+    if text.is_empty() {
+        return Ok(());
+    }
+    for word in text.split(' ') {
+        words.push(String::from_str(alloc, word)?)?;
+    }
+    Ok(())
 }
 
 fn answer(
@@ -96,15 +104,4 @@ fn answer(
     };
     let moment = moment.min(LAST_MOMENT);
     Ok(nimbus(alloc, words, moment, &table, source, shelf, host))
-}
-
-fn words_of(alloc: Global, text: &str) -> Result<Vec<String>, AllocError> {
-    let mut words = Vec::new(alloc);
-    if text.is_empty() {
-        return Ok(words);
-    }
-    for word in text.split(' ') {
-        words.push(String::from_str(alloc, word)?)?;
-    }
-    Ok(words)
 }
