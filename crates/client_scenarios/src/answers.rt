@@ -47,11 +47,7 @@ pub(crate) fn judge_answers(
     most: u64,
 ) -> Result<(), AllocError> {
     match find_difference(said, line, most) {
-        Some(found) => tally.differ(
-            place.at(found.line),
-            found.found,
-            found.wanted.as_bytes(),
-        ),
+        Some(found) => tally.differ(place.at(found.line), found.found, found.wanted.as_bytes()),
         None => Ok(()),
     }
 }
@@ -116,10 +112,7 @@ fn is_answer(part: Part<'_>) -> bool {
 }
 
 // What is said behind the answers of a line, or what is said in place of one of them and this one.
-fn behind_answers<'a>(
-    said: &'a [u8],
-    part: Part<'a>,
-) -> Result<&'a [u8], (&'a [u8], &'a str)> {
+fn behind_answers<'a>(said: &'a [u8], part: Part<'a>) -> Result<&'a [u8], (&'a [u8], &'a str)> {
     match part {
         Part::Answer(answer) => behind_answer(said, answer),
         Part::Answers(count, answer) => behind_equal_answers(said, count, answer),
@@ -141,10 +134,7 @@ fn behind_equal_answers<'a>(
     Ok(left)
 }
 
-fn behind_answer<'a>(
-    said: &'a [u8],
-    answer: &'a str,
-) -> Result<&'a [u8], (&'a [u8], &'a str)> {
+fn behind_answer<'a>(said: &'a [u8], answer: &'a str) -> Result<&'a [u8], (&'a [u8], &'a str)> {
     match behind_line(said, answer.as_bytes()) {
         Some(behind) => Ok(behind),
         None if said.is_empty() => Err((b"no more", answer)),
@@ -170,7 +160,9 @@ fn first_line(text: &[u8]) -> &[u8] {
 /// What stands from the last line on that is this one, or the whole where there is none.
 pub(crate) fn tail<'a>(text: &'a [u8], line: &str) -> &'a [u8] {
     let line = line.as_bytes();
-    let place = text.windows(line.len().max(1)).rposition(|window| window == line);
+    let place = text
+        .windows(line.len().max(1))
+        .rposition(|window| window == line);
     match place {
         Some(place) => text.get(place..).unwrap_or(text),
         None => text,

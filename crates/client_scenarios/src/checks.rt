@@ -1,18 +1,18 @@
 //! What is wanted of the last call.
+use crate::answers::tail;
 use crate::directive::Check;
 use crate::line::Line;
 use crate::tally::{Place, Tally};
 use crate::text::{add_hex, add_text};
-use crate::answers::tail;
 use crate::world::World;
-use host_model::{Choice, Side};
+use host_model::Side;
 use plain_text::read_number;
 use std::alloc::AllocError;
 
 impl World<'_> {
     /// Tells what differs from what a line wants.
     pub(crate) fn judge(
-        &mut self,
+        &self,
         tally: &mut Tally,
         place: Place<'_>,
         line: Line<'_>,
@@ -24,7 +24,7 @@ impl World<'_> {
             }
             Check::Same => tally.judge_text(place, self.host.said(), &self.said_before),
             Check::Sum(sum, text) => self.judge_sum(tally, place, sum, text),
-            Check::Unchanged => self.judge_unchanged(tally, place),
+            Check::Unchanged => tally.judge(place, self.host.writes(), 0),
             Check::Grown => self.judge_grown(tally, place),
             Check::Wrote(count) => tally.judge(place, self.host.written(), count),
             Check::Holds(left, right) => self.judge_lengths(tally, place, left, right),
@@ -47,15 +47,8 @@ impl World<'_> {
         tally.judge(place, sum_behind_first(tail(self.host.said(), text)), sum)
     }
 
-    fn judge_unchanged(&self, tally: &mut Tally, place: Place<'_>) -> Result<(), AllocError> {
-        let left = self.host.image(self.alloc, Side::Left, Choice::Torn)?;
-        tally.judge_text(place, &left, &self.left_before)?;
-        let right = self.host.image(self.alloc, Side::Right, Choice::Torn)?;
-        tally.judge_text(place, &right, &self.right_before)
-    }
-
     fn judge_grown(&self, tally: &mut Tally, place: Place<'_>) -> Result<(), AllocError> {
-        if self.outside.left.len() > self.left_before.len() {
+        if self.outside.left.len() > self.length_before {
             return Ok(());
         }
         tally.differ(place, b"a left side no longer than before", b"a longer one")
@@ -83,10 +76,7 @@ impl World<'_> {
         let mut wanted = Vec::new(self.alloc);
         add_hex(self.alloc, &mut wanted, digits)?;
         add_text(self.alloc, &mut wanted, line.behind)?;
-        match side {
-            Side::Left => tally.judge_text(place, &self.outside.left, &wanted),
-            Side::Right => tally.judge_text(place, &self.outside.right, &wanted),
-        }
+        tally.judge_text(place, self.outside.bytes(side), &wanted)
     }
 }
 

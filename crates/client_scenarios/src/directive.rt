@@ -46,12 +46,13 @@
 //! | `holds LEFT RIGHT` | the sides have so many bytes |
 //! | `bytes SIDE DIGITS` | the side has the bytes of these hexadecimal digits and the text of the parts |
 //! | `images LEFT RIGHT` | a run over what a crash then leaves of the sides (`old`, `new` or `torn`, or each of these at `each`) is as the parts say |
-//! | `faults CALLS COUNT WORDS` | the program, called with these words as the parts say, makes so many calls of the `source`, the `shelf` or the `host`; where one of them fails, it ends with the fault of this call, after the answers that it has said before, and the next `state` holds |
+//! | `faults CALLS COUNT WORDS` | the program, called with these words as the parts say, makes so many calls of the `source` or the `shelf`, or at most so many of the `host`; where one of them fails, for each of them in turn, it ends with the fault of this call, after the answers that it has said before, and the next `state` holds |
 //! | `state COUNT` | from the answer with this number on, or from the start at 0, a run over what a crash leaves of the sides is as the parts say: where a call of the disk fails after so many answers it is as after them or as after one more, where a `say` fails it is as after one more, and else as after so many |
 //! | `cuts SIDE FIRST LAST STATUS` | a run of no line ends so where a side has only so many bytes, for each number from the first to the last |
 //! | `puts SIDE FIRST LAST BYTE STATUS` | a run of no line ends so where a byte of a side is this one, for each place from the first to the last |
 use crate::faults::Calls;
 use crate::outside::Change;
+use crate::part::Part;
 use crate::shelf::File;
 use host_model::{Choice, Side};
 use plain_text::read_number;
@@ -119,16 +120,28 @@ impl<'a> Directive<'a> {
         }
     }
 
-    /// Whether parts may stand behind the line.
-    pub(crate) fn takes_parts(self) -> bool {
+    /// Whether this part may stand behind the line.
+    pub(crate) fn takes(self, part: Part<'_>) -> bool {
         match self {
-            Directive::Begin(_) | Directive::Change(_) => false,
-            Directive::Check(check) => {
-                matches!(check, Check::Bytes(_, _) | Check::Images(_, _) | Check::Faults(_, _, _))
-            }
-            _ => true,
+            Directive::File(_, _) | Directive::Side(_, _) => matches!(part, Part::Text(_)),
+            Directive::Payload(_) => is_of_payload(part),
+            Directive::Call(_) | Directive::Again(_) | Directive::State => is_of_call(part),
+            Directive::Check(Check::Bytes(_, _)) => matches!(part, Part::Text(_)),
+            Directive::Check(Check::Images(_, _) | Check::Faults(_, _, _)) => is_of_call(part),
+            _ => false,
         }
     }
+}
+
+fn is_of_payload(part: Part<'_>) -> bool {
+    matches!(
+        part,
+        Part::Text(_) | Part::Record(_) | Part::Records(_, _) | Part::Json(_)
+    )
+}
+
+fn is_of_call(part: Part<'_>) -> bool {
+    !matches!(part, Part::Record(_) | Part::Records(_, _) | Part::Json(_))
 }
 
 /// The file that the line writes down, if it does.

@@ -34,6 +34,7 @@ struct Counts {
     syncs: Countdown,
     says: Countdown,
     failed: Failed,
+    writes_done: u64,
     written: u64,
     answers: u64,
 }
@@ -46,6 +47,7 @@ impl Counts {
             syncs: Countdown(faults.sync),
             says: Countdown(faults.say),
             failed: Failed::No,
+            writes_done: 0,
             written: 0,
             answers: 0,
         }
@@ -59,6 +61,11 @@ impl Counts {
     fn next_sync_fails(&mut self) -> bool {
         let (call, sync) = (self.calls.next_fails(), self.syncs.next_fails());
         call || sync
+    }
+
+    fn write_done(&mut self, count: u64) {
+        self.writes_done = self.writes_done.saturating_add(1);
+        self.written = self.written.saturating_add(count);
     }
 
     fn next_say_fails(&mut self) -> bool {
@@ -110,6 +117,11 @@ impl FailingHost {
     /// How many bytes were written.
     pub(crate) fn written(&self) -> u64 {
         self.counts.written
+    }
+
+    /// How many writes were done.
+    pub(crate) fn writes(&self) -> u64 {
+        self.counts.writes_done
     }
 
     /// How many answers were said.
@@ -205,7 +217,7 @@ impl Host for FailingHost {
         }
         match self.host.write_at(side, at, bytes) {
             Ok(()) => {
-                self.counts.written = self.counts.written.saturating_add(bytes.len() as u64);
+                self.counts.write_done(bytes.len() as u64);
                 Ok(())
             }
             Err(_) => Err(self.disk_fault()),

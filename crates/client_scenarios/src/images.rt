@@ -5,20 +5,11 @@ use crate::faults::Faults;
 use crate::host::FailingHost;
 use crate::line::Line;
 use crate::outside::put;
-use crate::program::{Call, call_program};
 use crate::tally::{Place, Tally};
-use crate::text::add_text;
 use crate::world::World;
 use host_model::{Choice, Side};
 use session_run::RunStatus;
 use std::alloc::AllocError;
-
-/// A run over sides: how it has ended, and its host.
-#[derive(Drop)]
-struct Shown {
-    status: RunStatus,
-    host: FailingHost,
-}
 
 impl World<'_> {
     /// Tells what differs where a run over images that the last call has left isn't as the parts behind a line say.
@@ -46,9 +37,21 @@ impl World<'_> {
         host: &FailingHost,
         line: Line<'_>,
     ) -> Result<(), AllocError> {
-        let shown = self.shown(host, place.images, line)?;
-        judge_status(self.alloc, tally, place, shown.status, status_of(line))?;
-        judge_answers(tally, place, shown.host.said(), line, u64::MAX)
+        let mut shown = self.image(host, place.images)?;
+        let status = self.call_over(&mut shown, "run", line.behind, Faults::none())?;
+        self.judge_shown(tally, place, status, &shown, line)
+    }
+
+    fn judge_shown(
+        &self,
+        tally: &mut Tally,
+        place: Place<'_>,
+        status: RunStatus,
+        shown: &FailingHost,
+        line: Line<'_>,
+    ) -> Result<(), AllocError> {
+        judge_status(self.alloc, tally, place, status, status_of(line))?;
+        judge_answers(tally, place, shown.said(), line, u64::MAX)
     }
 
     /// Whether a run over the images of a place is as the parts behind a line say.
@@ -58,37 +61,22 @@ impl World<'_> {
         host: &FailingHost,
         line: Line<'_>,
     ) -> Result<bool, AllocError> {
-        let shown = self.shown(host, place.images, line)?;
-        is_wanted(self.alloc, shown.status, shown.host.said(), line)
+        let mut shown = self.image(host, place.images)?;
+        let status = self.call_over(&mut shown, "run", line.behind, Faults::none())?;
+        is_wanted(self.alloc, status, shown.said(), line)
     }
 
-    // A run of the script behind a line over images of a host.
-    fn shown(
+    // A host with images of the sides of another one.
+    fn image(
         &self,
         host: &FailingHost,
         images: Option<(Choice, Choice)>,
-        line: Line<'_>,
-    ) -> Result<Shown, AllocError> {
+    ) -> Result<FailingHost, AllocError> {
         let (left, right) = images.unwrap_or((Choice::New, Choice::New));
         let left = host.image(self.alloc, Side::Left, left)?;
         let right = host.image(self.alloc, Side::Right, right)?;
-        self.run(&left, &right, line.behind)
-    }
-
-    // A run of the script at the head of these lines over these sides.
-    fn run(&self, left: &[u8], right: &[u8], lines: &str) -> Result<Shown, AllocError> {
-        let mut script = Vec::new(self.alloc);
-        add_text(self.alloc, &mut script, lines)?;
-        let mut source = self.outside.source(self.alloc, &script, Faults::none())?;
-        let mut host = self.outside.host_of(self.alloc, left, right, Faults::none())?;
-        let run = Call {
-            words: "run",
-            moment: self.outside.moment,
-            files: &self.files,
-            failing: 0,
-        };
-        let status = call_program(self.alloc, run, &mut source, &mut host)?;
-        Ok(Shown { status, host })
+        self.outside
+            .host_of(self.alloc, &left, &right, Faults::none())
     }
 
     /// Tells which run over an altered side ends otherwise than is wanted.
@@ -113,14 +101,23 @@ impl World<'_> {
         at: usize,
         byte: Option<u8>,
     ) -> Result<RunStatus, AllocError> {
-        let mut left = self.outside.left.to_vec(self.alloc)?;
-        let mut right = self.outside.right.to_vec(self.alloc)?;
+        let mut host = self.altered(side, at, byte)?;
+        self.call_over(&mut host, "run", "", Faults::none())
+    }
+
+    // A host where the byte at this place is another one, or the side has only so many bytes.
+    fn altered(&self, side: Side, at: usize, byte: Option<u8>) -> Result<FailingHost, AllocError> {
+        let mut bytes = self.outside.bytes(side).to_vec(self.alloc)?;
+        alter(&mut bytes, at, byte);
         match side {
-            Side::Left => alter(&mut left, at, byte),
-            Side::Right => alter(&mut right, at, byte),
+            Side::Left => self.host_with(&bytes, &self.outside.right),
+            Side::Right => self.host_with(&self.outside.left, &bytes),
         }
-        let shown = self.run(&left, &right, "")?;
-        Ok(shown.status)
+    }
+
+    fn host_with(&self, left: &[u8], right: &[u8]) -> Result<FailingHost, AllocError> {
+        self.outside
+            .host_of(self.alloc, left, right, Faults::none())
     }
 }
 

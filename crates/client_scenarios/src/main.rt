@@ -37,29 +37,54 @@ fn first_argument<R: Env + AllocGlobal>(rt: &R) -> io::Result<String> {
 
 // The text of a theme, which lies in the current folder or in its folder `data`.
 fn read_theme<R: Files + AllocGlobal>(rt: &R, name: &str) -> io::Result<String> {
-    let file = format!(in rt.alloc(); "{name}.txt")?;
-    match fs::read_to_string(rt, &file) {
+    match read_file(rt, "", name) {
         Ok(text) => Ok(text),
-        Err(_) => fs::read_to_string(rt, format!(in rt.alloc(); "data/{name}.txt")?),
+        Err(_) => read_file(rt, "data/", name),
     }
+}
+
+fn read_file<R: Files + AllocGlobal>(rt: &R, folder: &str, name: &str) -> io::Result<String> {
+    let path = format!(in rt.alloc(); "{folder}{name}.txt")?;
+    fs::read_to_string(rt, &path)
+}
+
+fn play_theme<R: Files + AllocGlobal>(
+    rt: &R,
+    tally: &mut Tally,
+    shared: &str,
+    name: &str,
+    only: &str,
+) -> anyhow::Result<()> {
+    let text = read_theme(rt, name)?;
+    let theme = Theme {
+        name,
+        text: &text,
+        shared,
+    };
+    play(rt.alloc(), tally, theme, only)?;
+    Ok(())
+}
+
+// Plays the themes that a text names.
+fn play_themes<R: Files + AllocGlobal>(
+    rt: &R,
+    tally: &mut Tally,
+    text: &str,
+    only: &str,
+) -> anyhow::Result<()> {
+    for line in text.lines() {
+        if let Some(name) = line.strip_prefix("theme ") {
+            play_theme(rt, tally, text, name, only)?;
+        }
+    }
+    Ok(())
 }
 
 fn main(rt: HostRuntime) -> anyhow::Result<()> {
     let input = io::read_to_string(rt.alloc(), rt.reader())?;
     let only = first_argument(&rt)?;
     let mut tally = Tally::new(rt.alloc());
-    for line in input.lines() {
-        let Some(name) = line.strip_prefix("theme ") else {
-            continue;
-        };
-        let text = read_theme(&rt, name)?;
-        let theme = Theme {
-            name,
-            text: &text,
-            shared: &input,
-        };
-        play(rt.alloc(), &mut tally, theme, &only)?;
-    }
+    play_themes(&rt, &mut tally, &input, &only)?;
     print!(rt; "{}", tally.report()?)?;
     Ok(())
 }

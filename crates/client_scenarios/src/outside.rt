@@ -121,6 +121,14 @@ impl Outside {
         Ok(FailingHost::new(host, faults))
     }
 
+    /// The bytes of a side.
+    pub(crate) fn bytes(&self, side: Side) -> &[u8] {
+        match side {
+            Side::Left => &self.left,
+            Side::Right => &self.right,
+        }
+    }
+
     /// A side.
     pub(crate) fn side(&mut self, side: Side) -> &mut Vec<u8> {
         match side {

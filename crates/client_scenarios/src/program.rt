@@ -1,4 +1,10 @@
 //! Calls of the program with the standard transforms of targeting.
+ghost use Rattle.std.specs.Prelude.{IsTrue};
+ghost use Rattle.jexl_transforms.specs.Answering.{AnswersAs};
+ghost use Rattle.jexl_transforms.specs.Meaning.{is_standard};
+ghost use Rattle.jexl_transforms.specs.Table.{HasStandardNames, names_of};
+ghost use Rattle.client_scenarios.specs.Puts.{IsPut};
+
 use crate::host::FailingHost;
 use crate::shelf::{File, put_files};
 use host_model::{MemShelf, MemSource};
@@ -12,6 +18,9 @@ use std::alloc::{AllocError, Global};
 
 /// The last moment at which the program may be called.
 const LAST_MOMENT: u64 = 253_402_300_799;
+
+/// How many standard transforms there are.
+const STANDARD_NAMES: usize = 6;
 
 /// A call of the program: its words, between which there is one space each, its moment, and the files, of which the
 /// call with this number fails.
@@ -32,9 +41,7 @@ pub(crate) fn call_program(
 ) -> Result<RunStatus, AllocError> {
     let mut words = Vec::new(alloc);
     add_words(alloc, &mut words, call.words)?;
-    let mut shelf = MemShelf::new(alloc, &[call.failing])?;
-    put_files(alloc, &mut shelf, call.files)?;
-    answer(alloc, &words, call.moment, source, &mut shelf, host)
+    call_words(alloc, &words, call, source, host)
 }
 
 fn add_words(alloc: Global, words: &mut Vec<String>, text: &str) -> Result<(), AllocError> {
@@ -42,11 +49,40 @@ fn add_words(alloc: Global, words: &mut Vec<String>, text: &str) -> Result<(), A
         return Ok(());
     }
     for word in text.split(' ') {
-        words.push(String::from_str(alloc, word)?)?;
+        add_word(alloc, words, word)?;
     }
     Ok(())
 }
 
+fn add_word(alloc: Global, words: &mut Vec<String>, word: &str) -> Result<(), AllocError> {
+    words.push(String::from_str(alloc, word)?)?;
+    Ok(())
+}
+
+fn call_words(
+    alloc: Global,
+    words: &[String],
+    call: Call<'_>,
+    source: &mut MemSource,
+    host: &mut FailingHost,
+) -> Result<RunStatus, AllocError> {
+    let mut shelf = MemShelf::new(alloc, &[call.failing])?;
+    put_files(alloc, &mut shelf, call.files)?;
+    Ok(answer(alloc, words, call.moment, source, &mut shelf, host))
+}
+
+// Puts a transform of a standard name at the end of a table, unless memory is wanting.
+fn put(alloc: Global, table: &mut TransformTable, name: &str, transform: Transform)
+    requires standard { IsTrue (is_standard name.now) }
+    requires callable { Transform.IsAlwaysCallable transform }
+    requires answers { AnswersAs name.now (Transform.post transform) }
+    ensures names { IsPut (names_of table.old) name.now (names_of table.new) }
+{
+    let _ = table.push(alloc, name, transform);
+}
+
+// A box of a closure is made where it is used, so all are made here. They are let go of at one exit, and whether each was put
+// into the table is asked once.
 fn answer(
     alloc: Global,
     words: &[String],
@@ -54,54 +90,79 @@ fn answer(
     source: &mut MemSource,
     shelf: &mut MemShelf,
     host: &mut FailingHost,
-) -> Result<RunStatus, AllocError> {
-    let version: Transform = Box::new(
-        alloc,
-        |attributes: &Attributes, subject: &Value, arguments: &[Value]| {
-            version_transform(attributes, subject, arguments)
-        },
-    )?;
-    let date: Transform = Box::new(
-        alloc,
-        |attributes: &Attributes, subject: &Value, arguments: &[Value]| {
-            date_transform(attributes, subject, arguments)
-        },
-    )?;
-    let bucket: Transform = Box::new(
-        alloc,
-        move |attributes: &Attributes, subject: &Value, arguments: &[Value]| {
-            bucket_transform(alloc, attributes, subject, arguments)
-        },
-    )?;
-    let sum: Transform = Box::new(
-        alloc,
-        |attributes: &Attributes, subject: &Value, arguments: &[Value]| {
-            event_sum_transform(attributes, subject, arguments)
-        },
-    )?;
-    let nonzero: Transform = Box::new(
-        alloc,
-        |attributes: &Attributes, subject: &Value, arguments: &[Value]| {
-            event_nonzero_transform(attributes, subject, arguments)
-        },
-    )?;
-    let seen: Transform = Box::new(
-        alloc,
-        |attributes: &Attributes, subject: &Value, arguments: &[Value]| {
-            event_seen_transform(attributes, subject, arguments)
-        },
-    )?;
-    let mut table = TransformTable::new(alloc);
-    let (Ok(()), Ok(()), Ok(()), Ok(()), Ok(()), Ok(())) = (
-        table.push(alloc, "versionCompare", version),
-        table.push(alloc, "date", date),
-        table.push(alloc, "bucketSample", bucket),
-        table.push(alloc, "eventSum", sum),
-        table.push(alloc, "eventCountNonZero", nonzero),
-        table.push(alloc, "eventLastSeen", seen),
+) -> RunStatus {
+    let (Ok(version), Ok(date), Ok(bucket), Ok(sum), Ok(nonzero), Ok(seen)) = (
+        Box::new(
+            alloc,
+            |attributes: &Attributes, subject: &Value, arguments: &[Value]| {
+                version_transform(attributes, subject, arguments)
+            },
+        ),
+        Box::new(
+            alloc,
+            |attributes: &Attributes, subject: &Value, arguments: &[Value]| {
+                date_transform(attributes, subject, arguments)
+            },
+        ),
+        Box::new(
+            alloc,
+            move |attributes: &Attributes, subject: &Value, arguments: &[Value]| {
+                bucket_transform(alloc, attributes, subject, arguments)
+            },
+        ),
+        Box::new(
+            alloc,
+            |attributes: &Attributes, subject: &Value, arguments: &[Value]| {
+                event_sum_transform(attributes, subject, arguments)
+            },
+        ),
+        Box::new(
+            alloc,
+            |attributes: &Attributes, subject: &Value, arguments: &[Value]| {
+                event_nonzero_transform(attributes, subject, arguments)
+            },
+        ),
+        Box::new(
+            alloc,
+            |attributes: &Attributes, subject: &Value, arguments: &[Value]| {
+                event_seen_transform(attributes, subject, arguments)
+            },
+        ),
     ) else {
-        return Ok(RunStatus::OutOfMemory);
+        return RunStatus::OutOfMemory;
     };
-    let moment = moment.min(LAST_MOMENT);
-    Ok(nimbus(alloc, words, moment, &table, source, shelf, host))
+    let mut table = TransformTable::new(alloc);
+    put(alloc, &mut table, "versionCompare", version);
+    put(alloc, &mut table, "date", date);
+    put(alloc, &mut table, "bucketSample", bucket);
+    put(alloc, &mut table, "eventSum", sum);
+    put(alloc, &mut table, "eventCountNonZero", nonzero);
+    put(alloc, &mut table, "eventLastSeen", seen);
+    if table.names() != STANDARD_NAMES {
+        return RunStatus::OutOfMemory;
+    }
+    answer_with(alloc, words, moment, &table, source, shelf, host)
+}
+
+// The same with a table that has them.
+fn answer_with(
+    alloc: Global,
+    words: &[String],
+    moment: u64,
+    table: &TransformTable,
+    source: &mut MemSource,
+    shelf: &mut MemShelf,
+    host: &mut FailingHost,
+) -> RunStatus
+    requires table { HasStandardNames table.now }
+{
+    nimbus(
+        alloc,
+        words,
+        moment.min(LAST_MOMENT),
+        table,
+        source,
+        shelf,
+        host,
+    )
 }

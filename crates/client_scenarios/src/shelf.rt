@@ -1,4 +1,5 @@
 //! The files of scenarios.
+use crate::line::Line;
 use crate::part::Part;
 use crate::text::{add_number, add_text, add_value};
 use host_model::MemShelf;
@@ -54,14 +55,13 @@ fn put_file(
 // Adds the payload of the records at the head of these lines.
 fn add_payload(alloc: Global, bytes: &mut Vec<u8>, lines: &str) -> Result<(), AllocError> {
     bytes.extend_from_slice(b"{\"data\":[")?;
-    let start = bytes.len();
-    let mut behind = lines;
-    for line in lines.lines() {
-        behind = behind.split_once('\n').map_or("", |(_, rest)| rest);
-        let Some(part) = Part::of(line) else {
+    let (start, mut line) = (bytes.len(), Line::before(lines));
+    for text in lines.lines() {
+        line = line.next();
+        let Some(part) = Part::of(text) else {
             break;
         };
-        add_records(alloc, bytes, start, part, behind)?;
+        add_records(alloc, bytes, start, part, line.behind)?;
     }
     bytes.extend_from_slice(b"]}")
 }
@@ -156,7 +156,10 @@ fn add_branch(
     value: &[u8],
 ) -> Result<(), AllocError> {
     add_texts(bytes, &["{\"slug\":\"", slug, "\",\"ratio\":", ratio])?;
-    add_texts(bytes, &[",\"features\":[{\"featureId\":\"", feature, "\",\"value\":"])?;
+    add_texts(
+        bytes,
+        &[",\"features\":[{\"featureId\":\"", feature, "\",\"value\":"],
+    )?;
     bytes.extend_from_slice(value)?;
     add_texts(bytes, &["}]}"])
 }

@@ -1,4 +1,4 @@
-//! Calls of the program that stop at each call of what stands outside.
+//! Calls of the program that stop at a call of what stands outside.
 use crate::answers::{judge_answers, judge_status, status_of};
 use crate::directive::{Images, state_of};
 use crate::faults::{Calls, Faults};
@@ -6,10 +6,9 @@ use crate::host::{Failed, FailingHost};
 use crate::images::choices;
 use crate::line::Line;
 use crate::part::Part;
-use crate::program::{Call, call_program};
 use crate::tally::{Place, Tally};
-use crate::text::add_text;
 use crate::world::World;
+use session_run::RunStatus;
 use std::alloc::AllocError;
 
 /// A call of the program as the parts behind a line say, in which one call of what stands outside fails.
@@ -19,8 +18,8 @@ struct Stop<'a> {
     words: &'a str,
     calls: Calls,
     number: u64,
-    /// Whether the program doesn't come to the call that would fail.
-    past: bool,
+    /// How many calls the program makes, or at most makes where they are calls of the host.
+    count: u64,
 }
 
 impl World<'_> {
@@ -40,10 +39,10 @@ impl World<'_> {
                 words,
                 calls,
                 number,
-                past: number > count,
+                count,
             };
-            self.judge_stop(tally, place.in_turn(number), stop)?;
-            if tally.differs() {
+            let comes = self.judge_stop(tally, place.in_turn(number), stop)?;
+            if !comes || tally.differs() {
                 break;
             }
         }
@@ -55,22 +54,26 @@ impl World<'_> {
         tally: &mut Tally,
         place: Place<'_>,
         stop: Stop<'_>,
-    ) -> Result<(), AllocError> {
+    ) -> Result<bool, AllocError> {
         let faults = Faults::of(stop.calls, stop.number);
-        let mut script = Vec::new(self.alloc);
-        add_text(self.alloc, &mut script, stop.line.behind)?;
-        let mut source = self.outside.source(self.alloc, &script, faults)?;
         let mut host = self.outside.host(self.alloc, faults)?;
-        let stopped = Call {
-            words: stop.words,
-            moment: self.outside.moment,
-            files: &self.files,
-            failing: faults.shelf,
-        };
-        let status = call_program(self.alloc, stopped, &mut source, &mut host)?;
+        let status = self.call_over(&mut host, stop.words, stop.line.behind, faults)?;
+        self.judge_stopped(tally, place, stop, status, &host)
+    }
+
+    // Gives whether the program has come to the call that fails.
+    fn judge_stopped(
+        &self,
+        tally: &mut Tally,
+        place: Place<'_>,
+        stop: Stop<'_>,
+        status: RunStatus,
+        host: &FailingHost,
+    ) -> Result<bool, AllocError> {
         judge_status(self.alloc, tally, place, status, stop.status(host.failed()))?;
-        judge_answers(tally, place, host.said(), stop.line, stop.answers(&host))?;
-        self.judge_states(tally, place, stop, &host)
+        judge_answers(tally, place, host.said(), stop.line, stop.answers(host))?;
+        self.judge_states(tally, place, stop, host)?;
+        Ok(!stop.is_past(host.failed()))
     }
 
     // Tells what differs where a run over images isn't as the state that is to hold says, where there are states.
@@ -96,42 +99,59 @@ impl World<'_> {
         stop: Stop<'_>,
         host: &FailingHost,
     ) -> Result<(), AllocError> {
-        let answers = host.answers();
-        let (before, after) = (
-            state_at(stop.line, answers),
-            state_at(stop.line, answers.saturating_add(1)),
-        );
-        let state = match host.failed() {
-            Failed::No => before,
-            Failed::Say => after,
-            Failed::Disk if self.is_shown(place, host, before)? => before,
-            Failed::Disk => after,
-        };
+        let state = state_at(stop.line, host.answers());
         if state.number == stop.line.number {
             return Ok(());
         }
-        self.judge_image(tally, place.at(state.number), host, state)
+        let next = state_at(stop.line, host.answers().saturating_add(1));
+        match host.failed() {
+            Failed::No => self.judge_image(tally, place.at(state.number), host, state),
+            Failed::Say => self.judge_image(tally, place.at(next.number), host, next),
+            Failed::Disk => self.judge_either(tally, place, host, state, next),
+        }
+    }
+
+    // Tells what differs where a run over images is as neither of two states says.
+    fn judge_either(
+        &self,
+        tally: &mut Tally,
+        place: Place<'_>,
+        host: &FailingHost,
+        state: Line<'_>,
+        next: Line<'_>,
+    ) -> Result<(), AllocError> {
+        if self.is_shown(place, host, state)? {
+            return Ok(());
+        }
+        self.judge_image(tally, place.at(next.number), host, next)
     }
 }
 
 impl<'a> Stop<'a> {
+    // Whether the program hasn't come to the call that would fail, or isn't to come to it.
+    fn is_past(self, failed: Failed) -> bool {
+        match self.calls {
+            Calls::Source | Calls::Shelf => self.number > self.count,
+            _ => failed == Failed::No || self.number > self.count,
+        }
+    }
+
     // How the call is to end where this call of the host has failed.
     fn status(self, failed: Failed) -> &'a str {
-        if self.past {
+        if self.is_past(failed) {
             return status_of(self.line);
         }
-        match (self.calls, failed) {
-            (Calls::Source, Failed::No) => "SourceFault",
-            (Calls::Shelf, Failed::No) => "ShelfFault",
-            (Calls::Write | Calls::Sync | Calls::Host, Failed::Disk) => "DiskFault",
-            (Calls::Say | Calls::Host, Failed::Say) => "SayFault",
-            _ => "another call",
+        match self.calls {
+            Calls::Source => "SourceFault",
+            Calls::Shelf => "ShelfFault",
+            _ if failed == Failed::Say => "SayFault",
+            _ => "DiskFault",
         }
     }
 
     // How many answers are to be said: none where the source fails, and else those before the call that has failed.
     fn answers(self, host: &FailingHost) -> u64 {
-        if self.past {
+        if self.is_past(host.failed()) {
             return u64::MAX;
         }
         match self.calls {

@@ -3,11 +3,7 @@ use crate::part::{Part, TextPart};
 use std::alloc::{AllocError, Global};
 
 /// Adds the text that the parts at the head of these lines make.
-pub(crate) fn add_text(
-    alloc: Global,
-    text: &mut Vec<u8>,
-    lines: &str,
-) -> Result<(), AllocError> {
+pub(crate) fn add_text(alloc: Global, text: &mut Vec<u8>, lines: &str) -> Result<(), AllocError> {
     for line in lines.lines() {
         match Part::of(line) {
             Some(Part::Text(part)) => add_part(alloc, text, part)?,
@@ -19,11 +15,7 @@ pub(crate) fn add_text(
 }
 
 /// Adds the value that stands behind a line of records.
-pub(crate) fn add_value(
-    alloc: Global,
-    text: &mut Vec<u8>,
-    lines: &str,
-) -> Result<(), AllocError> {
+pub(crate) fn add_value(alloc: Global, text: &mut Vec<u8>, lines: &str) -> Result<(), AllocError> {
     for line in lines.lines() {
         match Part::of(line) {
             Some(Part::Text(part)) => add_part(alloc, text, part)?,

@@ -2,6 +2,7 @@
 use crate::directive::{Directive, file_of};
 use crate::line::Line;
 use crate::part::Part;
+use crate::shelf::File;
 use crate::tally::{Place, Tally};
 use crate::world::World;
 use std::alloc::{AllocError, Global};
@@ -22,12 +23,23 @@ pub(crate) fn play(
     only: &str,
 ) -> Result<(), AllocError> {
     let mut world = World::new(alloc)?;
-    share_files(&mut world, theme.shared)?;
-    play_lines(&mut world, tally, theme, only)?;
+    play_over(&mut world, tally, theme, only)
+}
+
+fn play_over<'a>(
+    world: &mut World<'a>,
+    tally: &mut Tally,
+    theme: Theme<'a>,
+    only: &str,
+) -> Result<(), AllocError> {
+    add_files(&mut world.files, theme.shared)?;
+    world.share();
+    play_lines(world, tally, theme, only)?;
     tally.end_theme(theme.name)
 }
 
-fn share_files<'a>(world: &mut World<'a>, text: &'a str) -> Result<(), AllocError> {
+// Adds the files that a text writes down.
+fn add_files<'a>(files: &mut Vec<File<'a>>, text: &'a str) -> Result<(), AllocError> {
     let mut line = Line::before(text);
     for _ in text.lines() {
         line = line.next();
@@ -35,10 +47,14 @@ fn share_files<'a>(world: &mut World<'a>, text: &'a str) -> Result<(), AllocErro
             continue;
         };
         if let Some(file) = file_of(directive, line.behind) {
-            world.files.push(file)?;
+            add_file(files, file)?;
         }
     }
-    world.share();
+    Ok(())
+}
+
+fn add_file<'a>(files: &mut Vec<File<'a>>, file: File<'a>) -> Result<(), AllocError> {
+    files.push(file)?;
     Ok(())
 }
 
@@ -48,27 +64,41 @@ fn play_lines<'a>(
     theme: Theme<'a>,
     only: &str,
 ) -> Result<(), AllocError> {
-    let (mut line, mut scenario, mut takes_parts) = (Line::before(theme.text), "", false);
+    let (mut line, mut scenario, mut last) = (Line::before(theme.text), "", None);
     for _ in theme.text.lines() {
         line = line.next();
-        let place = Place::new(theme.name, scenario, line.number);
-        match read_heading(line, takes_parts) {
-            Heading::Part => {}
-            Heading::Other => tally.differ(place, line.text.as_bytes(), b"a line of a scenario")?,
+        let heading = read_heading(line, last);
+        match heading {
             Heading::Scenario(name) => {
                 scenario = name;
-                takes_parts = false;
-                begin(world, tally, Place::new(theme.name, name, line.number), only)?;
+                last = None;
             }
-            Heading::Line(directive) => {
-                takes_parts = directive.takes_parts();
-                if tally.is_playing() {
-                    play_line(world, tally, place, line, directive)?;
-                }
-            }
+            Heading::Line(directive) => last = Some(directive),
+            Heading::Part | Heading::Other => {}
         }
+        let place = Place::new(theme.name, scenario, line.number);
+        play_heading(world, tally, place, line, heading, only)?;
     }
     Ok(())
+}
+
+fn play_heading<'a>(
+    world: &mut World<'a>,
+    tally: &mut Tally,
+    place: Place<'a>,
+    line: Line<'a>,
+    heading: Heading<'a>,
+    only: &str,
+) -> Result<(), AllocError> {
+    match heading {
+        Heading::Part => Ok(()),
+        Heading::Scenario(_) => begin(world, tally, place, only),
+        Heading::Line(directive) if tally.is_playing() => {
+            play_line(world, tally, place, line, directive)
+        }
+        Heading::Line(_) => Ok(()),
+        Heading::Other => tally.differ(place, line.text.as_bytes(), b"a line of a scenario"),
+    }
 }
 
 /// What a line is.
@@ -80,17 +110,23 @@ enum Heading<'a> {
     Other,
 }
 
-fn read_heading<'a>(line: Line<'a>, takes_parts: bool) -> Heading<'a> {
-    match Part::of(line.text) {
-        Some(Part::Nothing) => return Heading::Part,
-        Some(_) if takes_parts => return Heading::Part,
-        Some(_) => return Heading::Other,
-        None => {}
+// What a line is behind this heading.
+fn read_heading<'a>(line: Line<'a>, last: Option<Directive<'a>>) -> Heading<'a> {
+    if let Some(part) = Part::of(line.text) {
+        return part_heading(part, last);
     }
     match Directive::of(line.text) {
         Some(Directive::Begin(name)) => Heading::Scenario(name),
         Some(directive) => Heading::Line(directive),
         None => Heading::Other,
+    }
+}
+
+fn part_heading<'a>(part: Part<'a>, last: Option<Directive<'a>>) -> Heading<'a> {
+    match (part, last) {
+        (Part::Nothing, _) => Heading::Part,
+        (part, Some(directive)) if directive.takes(part) => Heading::Part,
+        _ => Heading::Other,
     }
 }
 
@@ -118,15 +154,17 @@ fn play_line<'a>(
     directive: Directive<'a>,
 ) -> Result<(), AllocError> {
     if let Some(file) = file_of(directive, line.behind) {
-        world.files.push(file)?;
+        return add_file(&mut world.files, file);
     }
     match directive {
-        Directive::Change(change) => world.outside.change(change),
-        Directive::Side(side, digits) => world.write_side(side, digits, line)?,
-        Directive::Call(words) => world.call(tally, place, line, words)?,
-        Directive::Again(words) => world.call_again(tally, place, line, words)?,
-        Directive::Check(check) => world.judge(tally, place, line, check)?,
-        _ => {}
+        Directive::Change(change) => {
+            world.outside.change(change);
+            Ok(())
+        }
+        Directive::Side(side, digits) => world.write_side(side, digits, line),
+        Directive::Call(words) => world.call(tally, place, line, words),
+        Directive::Again(words) => world.call_again(tally, place, line, words),
+        Directive::Check(check) => world.judge(tally, place, line, check),
+        _ => Ok(()),
     }
-    Ok(())
 }

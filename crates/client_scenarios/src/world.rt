@@ -14,6 +14,7 @@ use std::alloc::{AllocError, Global};
 
 /// The call by which the usual store is made, and what it says.
 const USUAL: &str = "init 5a8f0b1e-7c3d-4e2a-9b6c-0123456789ab";
+
 const USUAL_ANSWER: &[u8] = b"ready 5a8f0b1e-7c3d-4e2a-9b6c-0123456789ab\n";
 
 /// What a scenario has done so far.
@@ -24,13 +25,12 @@ pub(crate) struct World<'a> {
     pub(crate) files: Vec<File<'a>>,
     shared: usize,
     pub(crate) outside: Outside,
-    /// The last call: its source and its host as it has left them, its status, the sides before it, and what the call
-    /// before it has said.
+    /// The last call: its source and its host as it has left them, its status, the length of the left side before it, and
+    /// what the call before it has said.
     source: MemSource,
     pub(crate) host: FailingHost,
     pub(crate) status: RunStatus,
-    pub(crate) left_before: Vec<u8>,
-    pub(crate) right_before: Vec<u8>,
+    pub(crate) length_before: usize,
     pub(crate) said_before: Vec<u8>,
 }
 
@@ -48,8 +48,7 @@ impl<'a> World<'a> {
             source,
             host,
             status: RunStatus::Done,
-            left_before: Vec::new(alloc),
-            right_before: Vec::new(alloc),
+            length_before: 0,
             said_before: Vec::new(alloc),
         })
     }
@@ -60,14 +59,9 @@ impl<'a> World<'a> {
     }
 
     /// Begins a scenario, over the usual store.
-    pub(crate) fn begin(
-        &mut self,
-        tally: &mut Tally,
-        place: Place<'_>,
-    ) -> Result<(), AllocError> {
+    pub(crate) fn begin(&mut self, tally: &mut Tally, place: Place<'_>) -> Result<(), AllocError> {
         self.files.truncate(self.shared);
         self.outside.begin();
-        self.source = self.outside.source(self.alloc, b"", Faults::none())?;
         self.call_words(USUAL, Faults::none())?;
         tally.judge_text(place, self.host.said(), USUAL_ANSWER)
     }
@@ -115,10 +109,36 @@ impl<'a> World<'a> {
 
     // The source becomes one of the script behind a line.
     fn write_source(&mut self, line: Line<'_>, faults: Faults) -> Result<(), AllocError> {
-        let mut script = Vec::new(self.alloc);
-        add_text(self.alloc, &mut script, line.behind)?;
-        self.source = self.outside.source(self.alloc, &script, faults)?;
+        self.source = self.source_of(line.behind, faults)?;
         Ok(())
+    }
+
+    // A source of the script at the head of these lines.
+    fn source_of(&self, lines: &str, faults: Faults) -> Result<MemSource, AllocError> {
+        let mut script = Vec::new(self.alloc);
+        add_text(self.alloc, &mut script, lines)?;
+        self.outside.source(self.alloc, &script, faults)
+    }
+
+    /// Calls the program with the script at the head of these lines.
+    pub(crate) fn call_over(
+        &self,
+        host: &mut FailingHost,
+        words: &str,
+        lines: &str,
+        faults: Faults,
+    ) -> Result<RunStatus, AllocError> {
+        let mut source = self.source_of(lines, faults)?;
+        call_program(self.alloc, self.call_of(words, faults), &mut source, host)
+    }
+
+    fn call_of<'b>(&'b self, words: &'b str, faults: Faults) -> Call<'b> {
+        Call {
+            words,
+            moment: self.outside.moment,
+            files: &self.files,
+            failing: faults.shelf,
+        }
     }
 
     // Calls the program over the source, and takes over what it has left.
@@ -126,18 +146,24 @@ impl<'a> World<'a> {
         self.said_before.clear();
         self.said_before.extend_from_slice(self.host.said())?;
         self.find_host(faults)?;
-        let call_of_words = Call {
+        self.play(words, faults)?;
+        self.take_over()
+    }
+
+    fn play(&mut self, words: &str, faults: Faults) -> Result<(), AllocError> {
+        let call = Call {
             words,
             moment: self.outside.moment,
             files: &self.files,
             failing: faults.shelf,
         };
-        self.status = call_program(self.alloc, call_of_words, &mut self.source, &mut self.host)?;
-        self.take_over()
+        self.status = call_program(self.alloc, call, &mut self.source, &mut self.host)?;
+        Ok(())
     }
 
     // The host is one with the sides, or the one that the last call has left.
     fn find_host(&mut self, faults: Faults) -> Result<(), AllocError> {
+        self.length_before = self.outside.left.len();
         if self.outside.take_stays() {
             self.host.go_on(faults);
             return Ok(());
@@ -148,10 +174,8 @@ impl<'a> World<'a> {
 
     // The sides are now as the call has left them.
     fn take_over(&mut self) -> Result<(), AllocError> {
-        let left = self.host.image(self.alloc, Side::Left, Choice::New)?;
-        self.left_before = std::mem::replace(&mut self.outside.left, left);
-        let right = self.host.image(self.alloc, Side::Right, Choice::New)?;
-        self.right_before = std::mem::replace(&mut self.outside.right, right);
+        self.outside.left = self.host.image(self.alloc, Side::Left, Choice::New)?;
+        self.outside.right = self.host.image(self.alloc, Side::Right, Choice::New)?;
         Ok(())
     }
 
