@@ -3,41 +3,23 @@
 //! what was found and what was wanted. `scenario` says how one is written.
 #![tactic(auto)]
 
+mod chains;
+mod judging;
+mod linked;
 mod modules;
 mod refusals;
 mod scenario;
 mod single_files;
 mod tables;
+mod trees;
 mod values;
 
-use scenario::Scenario;
+use judging::judge_lines;
 use std::io;
 
-// Does what one line says, and tells what was found where that isn't wanted.
-fn step(rt: &HostRuntime, scenario: &mut Scenario, line: &str) -> anyhow::Result<()> {
-    if let Some(name) = line.strip_prefix("== ") {
-        tell(rt, scenario)?;
-        return scenario.begin(rt.alloc(), name);
-    }
-    if let Some(difference) = scenario.does(rt.alloc(), line)? {
-        println!(rt; "{}: {}", scenario.name(), difference.as_str())?;
-    }
-    Ok(())
-}
-
-// Tells that the scenario passes, where there is one and it does.
-fn tell(rt: &HostRuntime, scenario: &Scenario) -> anyhow::Result<()> {
-    if !scenario.name().is_empty() && scenario.passes() {
-        println!(rt; "{}: passed", scenario.name())?;
-    }
-    Ok(())
-}
-
-fn main(rt: HostRuntime) -> anyhow::Result<()> {
-    let input = io::read_to_string(rt.alloc(), rt.reader())?;
-    let mut scenario = Scenario::new(rt.alloc())?;
-    for line in input.lines() {
-        step(&rt, &mut scenario, line)?;
-    }
-    tell(&rt, &scenario)
+fn main(rt: HostRuntime) -> io::Result<()> {
+    let text = io::read_to_string(rt.alloc(), rt.reader())?;
+    let mut report = String::new(rt.alloc());
+    judge_lines(rt.alloc(), &text, &mut report)?;
+    print!(rt; "{report}")
 }

@@ -1,114 +1,123 @@
 //! Modules that JSON texts are, and the first fault of those that are none.
-use crate::tables::{add_names, tree_of, with_strokes};
-use anyhow::{Context, Result};
+use crate::trees::{add_names, tree_of};
 use fml_reader::{Import, Module, ModuleFault, ModuleRefusal, read_module};
-use fml_types::{ByName, FeatureDefinition, Text};
-use row_tables::word;
+use fml_types::{ByName, DefaultEntry, FeatureDefinition, Text};
+use json_tree::Tree;
+use row_tables::{Fault, add_texts};
 use std::alloc::{AllocError, Global};
 
-/// `ok`, or the path at which the text's module is refused.
-pub(crate) fn module_verdict(alloc: Global, text: &str) -> Result<String> {
-    let read = read_module(alloc, &tree_of(alloc, text)?);
-    match read {
-        Ok(_) => word(alloc, "ok"),
-        Err(fault) => fault_text(alloc, &fault),
-    }
+/// Writes `ok`, or the path at which the text's module is refused.
+pub(crate) fn find_module(alloc: Global, text: &[u8], found: &mut String) -> Result<(), Fault> {
+    let tree = tree_of(alloc, text)?;
+    find_module_in(alloc, &tree, found)
 }
 
-fn fault_text(alloc: Global, fault: &ModuleFault) -> Result<String> {
-    match fault {
-        ModuleFault::Refused(ModuleRefusal::BadShape(path)) => {
-            Ok(format!(in alloc; "at \"{}\"", path.as_str())?)
+fn find_module_in(alloc: Global, tree: &Tree, found: &mut String) -> Result<(), Fault> {
+    match read_module(alloc, tree) {
+        Ok(_) => Ok(found.push_str("ok")?),
+        Err(ModuleFault::Refused(ModuleRefusal::BadShape(path))) => {
+            Ok(add_texts(found, &["at \"", path.as_str(), "\""])?)
         }
-        ModuleFault::OutOfMemory => word(alloc, "OutOfMemory"),
+        Err(ModuleFault::OutOfMemory) => Err(Fault::OutOfMemory),
     }
 }
 
-fn module_of(alloc: Global, text: &str) -> Result<Module> {
-    let read = read_module(alloc, &tree_of(alloc, text)?);
-    read.ok().context("no module is read")
+fn module_of(alloc: Global, text: &[u8]) -> Result<Module, Fault> {
+    let tree = tree_of(alloc, text)?;
+    match read_module(alloc, &tree) {
+        Ok(module) => Ok(module),
+        Err(_) => Err(Fault::NoRow),
+    }
 }
 
-/// The channels of a default of a feature, each with a stroke before it, or `any`.
-pub(crate) fn channels(alloc: Global, entry: &str) -> Result<String> {
+/// Writes the channels of a default of a feature, each with a stroke before it, or `any`.
+pub(crate) fn find_channels(alloc: Global, entry: &str, found: &mut String) -> Result<(), Fault> {
     let text = format!(in alloc; "{{\"features\":{{\"f\":{{\"defaults\":[{entry}]}}}}}}")?;
-    let module = module_of(alloc, text.as_str())?;
-    let feature = module.features.get("f").context("there is no feature")?;
-    Ok(first_channels(alloc, feature)?)
+    find_channels_in(alloc, text.as_bytes(), found)
 }
 
-fn first_channels(alloc: Global, feature: &FeatureDefinition) -> Result<String, AllocError> {
-    match feature.defaults.as_slice() {
-        [entry, ..] => match &entry.channels {
-            Some(names) => with_strokes(alloc, names.as_slice()),
-            None => String::from_str(alloc, "any"),
-        },
-        [] => String::from_str(alloc, "no default"),
+fn find_channels_in(alloc: Global, text: &[u8], found: &mut String) -> Result<(), Fault> {
+    let module = module_of(alloc, text)?;
+    match module.features.get("f") {
+        Some(feature) => Ok(add_channels(feature.defaults.as_slice(), found)?),
+        None => Err(Fault::NoRow),
     }
 }
 
-/// The names in each part of the module that a text is, each with a stroke before it. A feature that several experiments may
-/// have has a star behind it.
-pub(crate) fn parts(alloc: Global, text: &str) -> Result<String> {
-    let module = module_of(alloc, text)?;
-    Ok(parts_text(alloc, &module)?)
+fn add_channels(entries: &[DefaultEntry], found: &mut String) -> Result<(), AllocError> {
+    match entries {
+        [entry, ..] => match &entry.channels {
+            Some(names) => add_names(found, names.as_slice()),
+            None => found.push_str("any"),
+        },
+        [] => found.push_str("no default"),
+    }
 }
 
-fn parts_text(alloc: Global, module: &Module) -> Result<String, AllocError> {
-    let mut text = String::new(alloc);
-    add_part(&mut text, "channels", module.channels.as_slice())?;
-    add_part(&mut text, " includes", module.includes.as_slice())?;
-    add_imports(alloc, &mut text, module.imports.as_slice())?;
-    add_keys(&mut text, " enums", &module.enums)?;
-    add_keys(&mut text, " types/enums", &module.types_enums)?;
-    add_keys(&mut text, " objects", &module.objects)?;
-    add_keys(&mut text, " types/objects", &module.types_objects)?;
-    add_features(&mut text, &module.features)?;
-    Ok(text)
+/// Writes the names in each part of the module that a text is, each with a stroke before it. A feature that several experiments
+/// may have has a star behind it.
+pub(crate) fn find_parts(alloc: Global, text: &[u8], found: &mut String) -> Result<(), Fault> {
+    let module = module_of(alloc, text)?;
+    Ok(add_parts(&module, found)?)
+}
+
+fn add_parts(module: &Module, found: &mut String) -> Result<(), AllocError> {
+    add_part(found, "channels", module.channels.as_slice())?;
+    add_part(found, " includes", module.includes.as_slice())?;
+    add_imports(found, module.imports.as_slice())?;
+    add_keys(found, " enums", &module.enums)?;
+    add_keys(found, " types/enums", &module.types_enums)?;
+    add_keys(found, " objects", &module.objects)?;
+    add_keys(found, " types/objects", &module.types_objects)?;
+    add_features(found, module.features.as_slice())
 }
 
 // Adds the name of a part, and the texts that are in it.
-fn add_part(text: &mut String, part: &str, names: &[Text]) -> Result<(), AllocError> {
-    text.push_str(part)?;
-    add_names(text, names)
+fn add_part(found: &mut String, part: &str, names: &[Text]) -> Result<(), AllocError> {
+    found.push_str(part)?;
+    add_names(found, names)
 }
 
 // Adds each import's path and channel, and the features that it has entries for, each with their number.
-fn add_imports(alloc: Global, text: &mut String, imports: &[Import]) -> Result<(), AllocError> {
-    text.push_str(" imports")?;
+fn add_imports(found: &mut String, imports: &[Import]) -> Result<(), AllocError> {
+    found.push_str(" imports")?;
     for import in imports {
-        let path = import.path.as_str();
-        let channel = import.channel.as_str();
-        let named = format!(in alloc; "|{path} {channel}")?;
-        text.push_str(named.as_str())?;
-        for (feature, entries) in import.features.as_slice() {
-            let feature = feature.as_str();
-            let count = entries.len();
-            let counted = format!(in alloc; " {feature} {count}")?;
-            text.push_str(counted.as_str())?;
-        }
+        add_import(found, import)?;
     }
     Ok(())
+}
+
+fn add_import(found: &mut String, import: &Import) -> Result<(), AllocError> {
+    let (path, channel) = (import.path.as_str(), import.channel.as_str());
+    add_texts(found, &["|", path, " ", channel])?;
+    for (feature, entries) in import.features.as_slice() {
+        add_counted(found, feature.as_str(), entries.len())?;
+    }
+    Ok(())
+}
+
+fn add_counted(found: &mut String, feature: &str, count: usize) -> Result<(), AllocError> {
+    add_texts(found, &[" ", feature])?;
+    write!(found, " {count}")
 }
 
 // Adds the name of a part, and the names of the entries that are in it.
-fn add_keys<T>(text: &mut String, part: &str, entries: &ByName<T>) -> Result<(), AllocError> {
-    text.push_str(part)?;
+fn add_keys<T>(found: &mut String, part: &str, entries: &ByName<T>) -> Result<(), AllocError> {
+    found.push_str(part)?;
     for (name, _) in entries.as_slice() {
-        text.push_str("|")?;
-        text.push_str(name.as_str())?;
+        add_texts(found, &["|", name.as_str()])?;
     }
     Ok(())
 }
 
-fn add_features(text: &mut String, features: &ByName<FeatureDefinition>) -> Result<(), AllocError> {
-    text.push_str(" features")?;
-    for (name, feature) in features.as_slice() {
-        text.push_str("|")?;
-        text.push_str(name.as_str())?;
-        if feature.allows_coenrollment {
-            text.push_str("*")?;
-        }
+fn add_features(
+    found: &mut String,
+    features: &[(Text, FeatureDefinition)],
+) -> Result<(), AllocError> {
+    found.push_str(" features")?;
+    for (name, feature) in features {
+        let star = if feature.allows_coenrollment { "*" } else { "" };
+        add_texts(found, &["|", name.as_str(), star])?;
     }
     Ok(())
 }

@@ -1,42 +1,40 @@
 //! What linking refuses files for.
 use fml_link::LinkRefusal;
+use row_tables::add_texts;
 use sequences::Text;
-use std::alloc::{AllocError, Global};
+use std::alloc::AllocError;
 
-/// The refusal's name and what it names.
-pub(crate) fn refusal_text(alloc: Global, refusal: &LinkRefusal) -> anyhow::Result<String> {
-    Ok(match refusal {
-        LinkRefusal::DuplicateName(name) => named(alloc, "DuplicateName", name)?,
-        LinkRefusal::UnknownType(name) => named(alloc, "UnknownType", name)?,
-        LinkRefusal::EndlessObject(name) => named(alloc, "EndlessObject", name)?,
-        LinkRefusal::ObjectTooLarge(name) => named(alloc, "ObjectTooLarge", name)?,
-        LinkRefusal::UnknownChannel => String::from_str(alloc, "UnknownChannel")?,
-        LinkRefusal::UnknownImport(path) => named(alloc, "UnknownImport", path)?,
-        LinkRefusal::UnknownOverride(name) => named(alloc, "UnknownOverride", name)?,
-        refusal => file_refusal(alloc, refusal)?,
-    })
-}
-
-// What a file that is read is refused for.
-fn file_refusal(alloc: Global, refusal: &LinkRefusal) -> Result<String, AllocError> {
+/// Adds the refusal's name and what it names.
+pub(crate) fn add_refusal(refusal: &LinkRefusal, found: &mut String) -> Result<(), AllocError> {
     match refusal {
-        LinkRefusal::AbsentFile(name) => named(alloc, "AbsentFile", name),
-        LinkRefusal::FileTooLarge(name, length) => {
-            let name = name.as_str();
-            format!(in alloc; "FileTooLarge {name} {length}")
-        }
-        LinkRefusal::NotJson(name) => named(alloc, "NotJson", name),
-        LinkRefusal::BadShape(name, path) => {
-            let name = name.as_str();
-            let path = path.as_str();
-            format!(in alloc; "BadShape {name} {path}")
-        }
-        LinkRefusal::ImportClash(name) => named(alloc, "ImportClash", name),
-        _ => String::from_str(alloc, "TooManyFiles"),
+        LinkRefusal::DuplicateName(name) => add_named("DuplicateName", name, found),
+        LinkRefusal::UnknownType(name) => add_named("UnknownType", name, found),
+        LinkRefusal::EndlessObject(name) => add_named("EndlessObject", name, found),
+        LinkRefusal::ObjectTooLarge(name) => add_named("ObjectTooLarge", name, found),
+        LinkRefusal::UnknownChannel => found.push_str("UnknownChannel"),
+        LinkRefusal::UnknownImport(path) => add_named("UnknownImport", path, found),
+        LinkRefusal::UnknownOverride(name) => add_named("UnknownOverride", name, found),
+        refusal => add_file_refusal(refusal, found),
     }
 }
 
-fn named(alloc: Global, fault: &str, name: &Text) -> Result<String, AllocError> {
-    let name = name.as_str();
-    format!(in alloc; "{fault} {name}")
+// Adds what a file that is read is refused for.
+fn add_file_refusal(refusal: &LinkRefusal, found: &mut String) -> Result<(), AllocError> {
+    match refusal {
+        LinkRefusal::AbsentFile(name) => add_named("AbsentFile", name, found),
+        LinkRefusal::FileTooLarge(name, length) => {
+            add_named("FileTooLarge", name, found)?;
+            write!(found, " {length}")
+        }
+        LinkRefusal::NotJson(name) => add_named("NotJson", name, found),
+        LinkRefusal::BadShape(name, path) => {
+            add_texts(found, &["BadShape ", name.as_str(), " ", path.as_str()])
+        }
+        LinkRefusal::ImportClash(name) => add_named("ImportClash", name, found),
+        _ => found.push_str("TooManyFiles"),
+    }
+}
+
+fn add_named(fault: &str, name: &Text, found: &mut String) -> Result<(), AllocError> {
+    add_texts(found, &[fault, " ", name.as_str()])
 }

@@ -1,4 +1,4 @@
-//! A scenario as far as it is done.
+//! What a scenario's lines do.
 //!
 //! | Line | Meaning |
 //! |---|---|
@@ -7,6 +7,7 @@
 //! | `> TEXT` | the text goes on with this one and a line feed |
 //! | `>> TEXT` | the text goes on with this one |
 //! | `repeat COUNT TEXT` | the text goes on with this one, so many times |
+//! | `byte NUMBER COUNT` | the text goes on with this byte, so many times |
 //! | `chain START END FIELD` | the text goes on with the objects `oSTART` up to before `oEND`, of which each has the field `f`; in its type and its default each `*` stands for the next object's name |
 //! | `clear` | the text becomes empty |
 //! | `file NAME` | the text becomes a file, and is empty then |
@@ -38,201 +39,170 @@
 //! | `defaults` | `ok`, or the first of its defaults that doesn't fit |
 //! | `single` | the text of its single file |
 //! | `reread` | `same` where that file alone gives a manifest of the same single file |
-use crate::modules::{channels, module_verdict, parts};
-use crate::refusals::refusal_text;
-use crate::single_files::{reread_text, single_text};
-use crate::tables::{
-    add_chain, has_height, has_weight, linked_names, spelled_type, table_of, table_verdict,
-};
-use crate::values::{
-    default_text, default_verdict, kind_text, laid_feature, laid_text, takes_and_fits,
-};
-use anyhow::Context;
-use fml_link::{LinkFault, link};
-use fml_types::{Manifest, without_spaces};
+use crate::chains::add_chain;
+use crate::linked::{find_link, find_linked};
+use crate::modules::{find_channels, find_module, find_parts};
+use crate::tables::{find_grounding, find_height, find_weight, table_of};
+use crate::values::{find_fit, find_kind, find_laid, find_spaces, find_type};
+use fml_types::Manifest;
 use host_model::MemShelf;
-use plain_text::read_number;
-use row_tables::{cut, displayed, word};
-use std::alloc::Global;
+use row_tables::{Fault, Piece, cut, number};
+use std::alloc::{AllocError, Global};
+use std::str::from_utf8;
 
+/// What the lines of a scenario have made so far.
 #[derive(Drop)]
 pub(crate) struct Scenario {
-    name: String,
-    passes: bool,
-    text: String,
+    text: Vec<u8>,
     shelf: MemShelf,
     /// What was linked last.
     manifest: Option<Manifest>,
 }
 
 impl Scenario {
-    pub(crate) fn new(alloc: Global) -> anyhow::Result<Scenario> {
+    pub(crate) fn new(alloc: Global) -> Result<Scenario, AllocError> {
         Ok(Scenario {
-            name: String::new(alloc),
-            passes: true,
-            text: String::new(alloc),
+            text: Vec::new(alloc),
             shelf: MemShelf::new(alloc, &[])?,
             manifest: None,
         })
     }
-
-    pub(crate) fn name(&self) -> &str {
-        &self.name
-    }
-
-    /// Whether all was so far as it is wanted.
-    pub(crate) fn passes(&self) -> bool {
-        self.passes
-    }
-
-    pub(crate) fn begin(&mut self, alloc: Global, name: &str) -> anyhow::Result<()> {
-        *self = Scenario::new(alloc)?;
-        self.name = String::from_str(alloc, name)?;
-        Ok(())
-    }
-
-    /// Does what a line says, and gives what differs from what is wanted.
-    pub(crate) fn does(&mut self, alloc: Global, line: &str) -> anyhow::Result<Option<String>> {
-        if line.is_empty() || line.starts_with('#') {
-            return Ok(None);
-        }
-        let (word, rest) = cut(line);
-        if self.prepares(alloc, word, rest)? {
-            return Ok(None);
-        }
-        let (row, wanted) = line
-            .split_once(" = ")
-            .context("a row has nothing that is wanted")?;
-        let found = self.find(alloc, row)?;
-        if found.as_str() == wanted {
-            return Ok(None);
-        }
-        self.passes = false;
-        let found = found.as_str();
-        Ok(Some(format!(in alloc; "{row}: found {found}, wanted {wanted}")?))
-    }
-
-    // Does what a line says that is no row, and tells whether it is one.
-    fn prepares(&mut self, alloc: Global, word: &str, rest: &str) -> anyhow::Result<bool> {
-        match word {
-            ">" => {
-                self.text.push_str(rest)?;
-                self.text.push_str("\n")?;
-            }
-            ">>" => self.text.push_str(rest)?,
-            "repeat" => self.repeat(rest)?,
-            "chain" => add_chain(alloc, &mut self.text, rest)?,
-            "clear" => self.text = String::new(alloc),
-            "file" => self.file(alloc, rest)?,
-            "fails" => self.shelf = MemShelf::new(alloc, &[number(rest)?])?,
-            _ => return Ok(false),
-        }
-        Ok(true)
-    }
-
-    fn repeat(&mut self, words: &str) -> anyhow::Result<()> {
-        let (count, text) = cut(words);
-        for _ in 0..number(count)? {
-            self.text.push_str(text)?;
-        }
-        Ok(())
-    }
-
-    fn file(&mut self, alloc: Global, name: &str) -> anyhow::Result<()> {
-        self.shelf.add(alloc, name, self.text.as_bytes())?;
-        self.text = String::new(alloc);
-        Ok(())
-    }
-
-    // What is found of a row.
-    fn find(&mut self, alloc: Global, row: &str) -> anyhow::Result<String> {
-        let (word, rest) = cut(row);
-        match word {
-            "type" => spelled_type(alloc, rest),
-            "spaces" => spaces_text(alloc, rest),
-            "grounded" => table_verdict(alloc, &self.text),
-            "height" => has_height(alloc, &self.text, rest),
-            "weight" => has_weight(alloc, &self.text, rest),
-            "module" if rest.is_empty() => module_verdict(alloc, &self.text),
-            "module" => module_verdict(alloc, rest),
-            "channels" => channels(alloc, rest),
-            "parts" => parts(alloc, &self.text),
-            "link" => self.link(alloc, rest),
-            _ => self.find_value(alloc, word, rest),
-        }
-    }
-
-    // What is found of a row on trees and values of the table, or else on the manifest that was linked last.
-    fn find_value(&self, alloc: Global, word: &str, rest: &str) -> anyhow::Result<String> {
-        match word {
-            "tree" | "value" | "lay" => find_by_table(alloc, &self.text, word, rest),
-            _ => {
-                let manifest = self.manifest.as_ref().context("nothing is linked")?;
-                find_linked(alloc, manifest, word, rest)
-            }
-        }
-    }
-
-    fn link(&mut self, alloc: Global, words: &str) -> anyhow::Result<String> {
-        let (name, channel) = cut(words);
-        match link(alloc, &mut self.shelf, name, channel) {
-            Ok(manifest) => {
-                let is_for_it = manifest.channel.as_str() == channel;
-                self.manifest = Some(manifest);
-                word(alloc, if is_for_it { "ok" } else { "another channel" })
-            }
-            Err(LinkFault::Refused(refusal)) => refusal_text(alloc, &refusal),
-            Err(LinkFault::ShelfFault) => word(alloc, "ShelfFault"),
-            Err(LinkFault::OutOfMemory) => word(alloc, "OutOfMemory"),
-        }
-    }
 }
 
-// What stands between the spaces around a text, with a stroke on each side.
-fn spaces_text(alloc: Global, text: &str) -> anyhow::Result<String> {
-    let text = without_spaces(text.as_bytes());
-    Ok(format!(in alloc; "|{}|", text.escape_ascii())?)
-}
-
-// What is found of a row on trees and values of the table of these lines.
-fn find_by_table(alloc: Global, lines: &str, word: &str, rest: &str) -> anyhow::Result<String> {
-    let types = table_of(alloc, lines)?;
-    match word {
-        "tree" => takes_and_fits(alloc, &types, rest),
-        "value" => kind_text(alloc, &types, rest),
-        _ => laid_text(alloc, &types, rest),
-    }
-}
-
-// What is found of a row on the manifest that was linked last.
-fn find_linked(
+/// Does what a line says that is no row, and tells whether it is one.
+pub(crate) fn prepare(
     alloc: Global,
-    manifest: &Manifest,
-    kind: &str,
+    scenario: &mut Scenario,
+    word: &str,
     rest: &str,
-) -> anyhow::Result<String> {
-    match kind {
-        "coenrolling" => linked_names(alloc, manifest),
-        "place" => place_text(alloc, manifest, rest),
-        "enum" => word(alloc, word_of(manifest.types.enums.get(rest).is_some())),
-        "default" => default_text(alloc, manifest, rest),
-        "laid" => laid_feature(alloc, manifest, rest),
-        "defaults" => default_verdict(alloc, manifest),
-        "single" => Ok(single_text(alloc, manifest)?),
-        "reread" => reread_text(alloc, manifest),
-        _ => word(alloc, "no such row"),
+) -> Result<bool, AllocError> {
+    match word {
+        "clear" => Ok(clear(&mut scenario.text)),
+        "chain" => add_chain(alloc, &mut scenario.text, rest),
+        "file" => put_file(alloc, &mut scenario.shelf, &mut scenario.text, rest),
+        "fails" => empty_shelf(alloc, &mut scenario.shelf, rest),
+        _ => add_piece(&mut scenario.text, word, rest),
     }
 }
 
-fn place_text(alloc: Global, manifest: &Manifest, name: &str) -> anyhow::Result<String> {
-    let place = manifest.features.place(name).context("no such feature")?;
-    displayed(alloc, &place)
+fn clear(text: &mut Vec<u8>) -> bool {
+    text.clear();
+    true
 }
 
-pub(crate) fn number(text: &str) -> anyhow::Result<u64> {
-    read_number(text.as_bytes()).context("no number stands where one is wanted")
+fn put_file(
+    alloc: Global,
+    shelf: &mut MemShelf,
+    text: &mut Vec<u8>,
+    name: &str,
+) -> Result<bool, AllocError> {
+    shelf.add(alloc, name, text)?;
+    Ok(clear(text))
 }
 
-pub(crate) fn word_of(truth: bool) -> &'static str {
-    if truth { "yes" } else { "no" }
+fn empty_shelf(alloc: Global, shelf: &mut MemShelf, call: &str) -> Result<bool, AllocError> {
+    match number(call) {
+        Some(call) => {
+            *shelf = MemShelf::new(alloc, &[call])?;
+            Ok(true)
+        }
+        None => Ok(false),
+    }
+}
+
+fn add_piece(text: &mut Vec<u8>, word: &str, rest: &str) -> Result<bool, AllocError> {
+    match Piece::of(word, rest) {
+        Some(piece) => {
+            piece.add_to(text)?;
+            Ok(true)
+        }
+        None => Ok(false),
+    }
+}
+
+/// Writes what is found of a row.
+pub(crate) fn find(
+    alloc: Global,
+    scenario: &mut Scenario,
+    row: &str,
+    found: &mut String,
+) -> Result<(), Fault> {
+    let (word, rest) = cut(row);
+    match word {
+        "link" => find_link(
+            alloc,
+            &mut scenario.shelf,
+            &mut scenario.manifest,
+            rest,
+            found,
+        ),
+        "type" => find_type(alloc, rest, found),
+        "spaces" => find_spaces(rest, found),
+        "channels" => find_channels(alloc, rest, found),
+        "module" if !rest.is_empty() => find_module(alloc, rest.as_bytes(), found),
+        "module" => find_module(alloc, &scenario.text, found),
+        "parts" => find_parts(alloc, &scenario.text, found),
+        "grounded" | "height" | "weight" | "tree" | "value" | "lay" => {
+            find_by_text(alloc, &scenario.text, word, rest, found)
+        }
+        _ => find_by_manifest(alloc, &scenario.manifest, word, rest, found),
+    }
+}
+
+fn find_by_text(
+    alloc: Global,
+    text: &[u8],
+    word: &str,
+    rest: &str,
+    found: &mut String,
+) -> Result<(), Fault> {
+    match from_utf8(text) {
+        Ok(rows) => find_by_rows(alloc, rows, word, rest, found),
+        Err(_) => Err(Fault::NoRow),
+    }
+}
+
+fn find_by_rows(
+    alloc: Global,
+    rows: &str,
+    word: &str,
+    rest: &str,
+    found: &mut String,
+) -> Result<(), Fault> {
+    match word {
+        "grounded" => find_grounding(alloc, rows, found),
+        "height" => find_height(alloc, rows, rest, found),
+        "weight" => find_weight(alloc, rows, rest, found),
+        _ => find_by_table(alloc, rows, word, rest, found),
+    }
+}
+
+// Writes what is found of a row on trees and values of the table of these lines.
+fn find_by_table(
+    alloc: Global,
+    rows: &str,
+    word: &str,
+    rest: &str,
+    found: &mut String,
+) -> Result<(), Fault> {
+    let types = table_of(alloc, rows)?;
+    match word {
+        "tree" => find_fit(alloc, &types, rest, found),
+        "value" => find_kind(alloc, &types, rest, found),
+        _ => find_laid(alloc, &types, rest, found),
+    }
+}
+
+// Writes what is found of a row on the manifest that was linked last.
+fn find_by_manifest(
+    alloc: Global,
+    manifest: &Option<Manifest>,
+    word: &str,
+    rest: &str,
+    found: &mut String,
+) -> Result<(), Fault> {
+    match manifest {
+        Some(manifest) => find_linked(alloc, manifest, word, rest, found),
+        None => Err(Fault::NoRow),
+    }
 }

@@ -1,32 +1,50 @@
 //! Manifests as single files.
-use anyhow::{Context, Result};
+use crate::trees::add_tree;
 use fml_imports::single;
 use fml_link::link;
 use fml_types::Manifest;
 use host_model::MemShelf;
-use json_tree::write;
-use row_tables::word;
+use row_tables::Fault;
 use std::alloc::{AllocError, Global};
 
 const NAME: &str = "single.json";
 
-/// The text of the manifest's single file.
-pub(crate) fn single_text(alloc: Global, manifest: &Manifest) -> Result<String, AllocError> {
+/// Writes the text of the manifest's single file.
+pub(crate) fn find_single(
+    alloc: Global,
+    manifest: &Manifest,
+    found: &mut String,
+) -> Result<(), AllocError> {
     let tree = single(alloc, manifest)?;
-    Ok(write(alloc, &tree)?.into_string())
+    add_tree(alloc, &tree, found)
 }
 
-/// `same` where a shelf with that file alone gives a manifest of the same single file, or else the text of that one's.
-pub(crate) fn reread_text(alloc: Global, manifest: &Manifest) -> Result<String> {
-    let text = single_text(alloc, manifest)?;
+/// Writes `same` where a shelf with that file alone gives a manifest of the same single file, or else the text of that one's.
+pub(crate) fn find_rereading(
+    alloc: Global,
+    manifest: &Manifest,
+    found: &mut String,
+) -> Result<(), Fault> {
+    let mut text = String::new(alloc);
+    find_single(alloc, manifest, &mut text)?;
+    find_again(alloc, text.as_str(), manifest.channel.as_str(), found)
+}
+
+fn find_again(alloc: Global, text: &str, channel: &str, found: &mut String) -> Result<(), Fault> {
+    let again = linked_again(alloc, text, channel)?;
+    find_single(alloc, &again, found)?;
+    if found.as_str() == text {
+        found.clear();
+        found.push_str("same")?;
+    }
+    Ok(())
+}
+
+fn linked_again(alloc: Global, text: &str, channel: &str) -> Result<Manifest, Fault> {
     let mut shelf = MemShelf::new(alloc, &[])?;
     shelf.add(alloc, NAME, text.as_bytes())?;
-    let linked = link(alloc, &mut shelf, NAME, manifest.channel.as_str());
-    let again = linked.ok().context("the single file doesn't link")?;
-    let found = single_text(alloc, &again)?;
-    if found == text {
-        word(alloc, "same")
-    } else {
-        Ok(found)
+    match link(alloc, &mut shelf, NAME, channel) {
+        Ok(manifest) => Ok(manifest),
+        Err(_) => Err(Fault::NoRow),
     }
 }

@@ -1,300 +1,248 @@
-//! Texts of types, tables of objects, and how high and how heavy objects are.
-use crate::scenario::number;
-use anyhow::Context;
+//! Tables of objects, and how high and how heavy objects are.
+use crate::trees::{tree_of, type_of};
 use fml_types::{
-    ByName, EnumDefinition, Field, FieldType, GroundFault, Key, Manifest, ObjectDefinition, Text,
-    TypeTable, Ungrounded, coenrolling_features, grounded, read_type,
+    ByName, EnumDefinition, Field, GroundFault, ObjectDefinition, Text, TypeTable, Ungrounded,
+    grounded,
 };
-use json_tree::{Tree, read};
-use row_tables::{cut, word};
+use json_tree::Tree;
+use row_tables::{Fault, add_texts, cut, number};
 use std::alloc::{AllocError, Global};
 
-pub(crate) fn type_of(alloc: Global, text: &str) -> anyhow::Result<FieldType> {
-    read_type(alloc, text).ok().context("no type is read")
-}
-
-pub(crate) fn tree_of(alloc: Global, text: &str) -> anyhow::Result<Tree> {
-    read(alloc, text.as_bytes()).ok().context("no tree is read")
-}
-
-/// The text of the type that a text is, without spaces.
-pub(crate) fn spelled_type(alloc: Global, text: &str) -> anyhow::Result<String> {
-    match read_type(alloc, text) {
-        Ok(of) => Ok(spelled(alloc, &of)?),
-        Err(_) => word(alloc, "no type"),
-    }
-}
-
-fn spelled(alloc: Global, of: &FieldType) -> Result<String, AllocError> {
-    match of {
-        FieldType::Boolean => String::from_str(alloc, "Boolean"),
-        FieldType::Int => String::from_str(alloc, "Int"),
-        FieldType::String => String::from_str(alloc, "String"),
-        FieldType::Text => String::from_str(alloc, "Text"),
-        FieldType::Image => String::from_str(alloc, "Image"),
-        FieldType::Option(inner) => {
-            let inside = spelled(alloc, inner.get())?;
-            format!(in alloc; "Option<{inside}>")
-        }
-        FieldType::List(inner) => {
-            let inside = spelled(alloc, inner.get())?;
-            format!(in alloc; "List<{inside}>")
-        }
-        FieldType::Map(key, inner) => {
-            let inside = spelled(alloc, inner.get())?;
-            let name = key_name(key);
-            format!(in alloc; "Map<{name},{inside}>")
-        }
-        FieldType::Named(name) => String::from_str(alloc, name.as_str()),
-    }
-}
-
-fn key_name(key: &Key) -> &str {
-    match key {
-        Key::String => "String",
-        Key::Named(name) => name.as_str(),
-    }
-}
-
-// ---- tables
-
 /// The table of objects that the lines are, with the enum `Side` of `left` and `right`.
-pub(crate) fn table_of(alloc: Global, rows: &str) -> anyhow::Result<TypeTable> {
+pub(crate) fn table_of(alloc: Global, rows: &str) -> Result<TypeTable, Fault> {
+    let objects = objects_of(alloc, rows)?;
     Ok(TypeTable {
         enums: sides(alloc)?,
-        objects: objects_of(alloc, rows)?,
+        objects,
     })
 }
 
 fn sides(alloc: Global) -> Result<ByName<EnumDefinition>, AllocError> {
-    let mut variants = ByName::new(alloc);
-    variants.insert(Text::new(alloc, "right")?, ())?;
-    variants.insert(Text::new(alloc, "left")?, ())?;
     let mut enums = ByName::new(alloc);
-    enums.insert(Text::new(alloc, "Side")?, EnumDefinition { variants })?;
+    add_side(alloc, &mut enums)?;
     Ok(enums)
 }
 
-fn objects_of(alloc: Global, rows: &str) -> anyhow::Result<ByName<ObjectDefinition>> {
-    let mut reading = Reading::new(alloc);
+fn add_side(alloc: Global, enums: &mut ByName<EnumDefinition>) -> Result<(), AllocError> {
+    let mut variants = ByName::new(alloc);
+    add_variant(alloc, "right", &mut variants)?;
+    add_variant(alloc, "left", &mut variants)?;
+    enums.insert(Text::new(alloc, "Side")?, EnumDefinition { variants })?;
+    Ok(())
+}
+
+fn add_variant(alloc: Global, name: &str, variants: &mut ByName<()>) -> Result<(), AllocError> {
+    variants.insert(Text::new(alloc, name)?, ())?;
+    Ok(())
+}
+
+// The fields of one object stand one after the other.
+fn objects_of(alloc: Global, rows: &str) -> Result<ByName<ObjectDefinition>, Fault> {
+    let mut objects = ByName::new(alloc);
+    read_objects(alloc, rows, &mut objects)?;
+    Ok(objects)
+}
+
+fn read_objects(
+    alloc: Global,
+    rows: &str,
+    objects: &mut ByName<ObjectDefinition>,
+) -> Result<(), Fault> {
+    let mut name = String::new(alloc);
+    let mut fields = ByName::new(alloc);
+    read_rows(alloc, rows, objects, &mut name, &mut fields)
+}
+
+// The object whose fields come now has this name, and these fields are read. Before the first it has no name.
+fn read_rows(
+    alloc: Global,
+    rows: &str,
+    objects: &mut ByName<ObjectDefinition>,
+    name: &mut String,
+    fields: &mut ByName<Field>,
+) -> Result<(), Fault> {
     for row in rows.lines() {
-        reading.read(alloc, row)?;
+        read_row(alloc, row, objects, name, fields)?;
     }
-    reading.close(alloc)?;
-    Ok(reading.objects)
+    Ok(close(alloc, objects, name, fields)?)
 }
 
-// Objects as far as they are read. The fields of one object stand one after the other.
-#[derive(Drop)]
-struct Reading {
-    objects: ByName<ObjectDefinition>,
-    // The object whose fields come now, and those that are read. Before the first it has no name.
-    name: String,
-    fields: ByName<Field>,
+fn read_row(
+    alloc: Global,
+    row: &str,
+    objects: &mut ByName<ObjectDefinition>,
+    name: &mut String,
+    fields: &mut ByName<Field>,
+) -> Result<(), Fault> {
+    let (owner, rest) = row.split_once('/').ok_or(Fault::NoRow)?;
+    if name.as_str() != owner {
+        close(alloc, objects, name, fields)?;
+        name.clear();
+        name.push_str(owner)?;
+    }
+    add_field(alloc, rest, fields)
 }
 
-impl Reading {
-    fn new(alloc: Global) -> Reading {
-        Reading {
-            objects: ByName::new(alloc),
-            name: String::new(alloc),
-            fields: ByName::new(alloc),
-        }
+// The object has the fields that are read, and there are none then.
+fn close(
+    alloc: Global,
+    objects: &mut ByName<ObjectDefinition>,
+    name: &str,
+    fields: &mut ByName<Field>,
+) -> Result<(), AllocError> {
+    let fields = std::mem::replace(fields, ByName::new(alloc));
+    if name.is_empty() {
+        return Ok(());
     }
-
-    fn read(&mut self, alloc: Global, row: &str) -> anyhow::Result<()> {
-        let (owner, rest) = row.split_once('/').context("no object is named")?;
-        if self.name.as_str() != owner {
-            self.close(alloc)?;
-            self.name = String::from_str(alloc, owner)?;
-        }
-        add_field(alloc, &mut self.fields, rest)
-    }
-
-    // The object has the fields that are read, and there are none then.
-    fn close(&mut self, alloc: Global) -> Result<(), AllocError> {
-        let fields = std::mem::replace(&mut self.fields, ByName::new(alloc));
-        if self.name.is_empty() {
-            return Ok(());
-        }
-        let name = Text::new(alloc, self.name.as_str())?;
-        self.objects.insert(name, ObjectDefinition { fields })?;
-        Ok(())
-    }
+    objects.insert(Text::new(alloc, name)?, ObjectDefinition { fields })?;
+    Ok(())
 }
 
 // Adds the field that `FIELD/TYPE/DEFAULT` is.
-fn add_field(alloc: Global, fields: &mut ByName<Field>, row: &str) -> anyhow::Result<()> {
-    let (name, rest) = row.split_once('/').context("no field is named")?;
-    let (of, default) = rest.split_once('/').context("no type is named")?;
-    let field = Field {
-        field_type: type_of(alloc, of)?,
-        default: default_of(alloc, default)?,
-    };
+fn add_field(alloc: Global, row: &str, fields: &mut ByName<Field>) -> Result<(), Fault> {
+    let (name, rest) = row.split_once('/').ok_or(Fault::NoRow)?;
+    let (of, default) = rest.split_once('/').ok_or(Fault::NoRow)?;
+    let field = field_of(alloc, of, default)?;
     fields.insert(Text::new(alloc, name)?, field)?;
     Ok(())
 }
 
+fn field_of(alloc: Global, of: &str, default: &str) -> Result<Field, Fault> {
+    let field_type = type_of(alloc, of)?;
+    Ok(Field {
+        field_type,
+        default: default_of(alloc, default)?,
+    })
+}
+
 // The default of a text, which is none where nothing stands there.
-fn default_of(alloc: Global, text: &str) -> anyhow::Result<Option<Tree>> {
+fn default_of(alloc: Global, text: &str) -> Result<Option<Tree>, Fault> {
     if text.is_empty() {
         return Ok(None);
     }
-    Ok(Some(tree_of(alloc, text)?))
+    Ok(Some(tree_of(alloc, text.as_bytes())?))
 }
 
-/// Adds the objects that `START END FIELD` says.
-pub(crate) fn add_chain(alloc: Global, rows: &mut String, words: &str) -> anyhow::Result<()> {
-    let (start, rest) = words.split_once(' ').context("a chain has no end")?;
-    let (end, field) = rest.split_once(' ').context("a chain has no field")?;
-    for place in number(start)?..number(end)? {
-        add_chained(alloc, rows, place, field)?;
-    }
-    Ok(())
-}
-
-// Adds the object of this number, whose field names the next one.
-fn add_chained(
-    alloc: Global,
-    rows: &mut String,
-    place: u64,
-    field: &str,
-) -> Result<(), AllocError> {
-    let owner = format!(in alloc; "o{place}/f/")?;
-    rows.push_str(owner.as_str())?;
-    let next = format!(in alloc; "o{}", place.saturating_add(1))?;
-    add_with_name(rows, field, next.as_str())
-}
-
-// Adds a text in which each `*` stands for the name, and a line feed.
-fn add_with_name(rows: &mut String, text: &str, name: &str) -> Result<(), AllocError> {
-    let mut is_first = true;
-    for part in text.split('*') {
-        if !is_first {
-            rows.push_str(name)?;
-        }
-        rows.push_str(part)?;
-        is_first = false;
-    }
-    rows.push_str("\n")?;
-    Ok(())
-}
-
-/// `ok`, or what the table of these lines is refused for.
-pub(crate) fn table_verdict(alloc: Global, rows: &str) -> anyhow::Result<String> {
-    let verdict = grounded(alloc, &table_of(alloc, rows)?);
-    match verdict {
-        Ok(()) => word(alloc, "ok"),
-        Err(fault) => Ok(fault_text(alloc, &fault)?),
+/// Writes `ok`, or what the table of these lines is refused for.
+pub(crate) fn find_grounding(alloc: Global, rows: &str, found: &mut String) -> Result<(), Fault> {
+    let types = table_of(alloc, rows)?;
+    match grounded(alloc, &types) {
+        Ok(()) => Ok(found.push_str("ok")?),
+        Err(fault) => Ok(add_fault(&fault, found)?),
     }
 }
 
-fn fault_text(alloc: Global, fault: &GroundFault) -> Result<String, AllocError> {
+fn add_fault(fault: &GroundFault, found: &mut String) -> Result<(), AllocError> {
     match fault {
         GroundFault::Refused(Ungrounded::EndlessObject(name)) => {
-            format!(in alloc; "endless {}", name.as_str())
+            add_texts(found, &["endless ", name.as_str()])
         }
         GroundFault::Refused(Ungrounded::ObjectTooLarge(name)) => {
-            format!(in alloc; "large {}", name.as_str())
+            add_texts(found, &["large ", name.as_str()])
         }
-        GroundFault::OutOfMemory => String::from_str(alloc, "OutOfMemory"),
+        GroundFault::OutOfMemory => found.push_str("OutOfMemory"),
     }
 }
 
 // ---- heights and weights
 
-// `yes` where the table of these lines has this verdict, or else the verdict.
-fn yes_where(alloc: Global, rows: &str, wanted: &str) -> anyhow::Result<String> {
-    let found = table_verdict(alloc, rows)?;
-    if found.as_str() == wanted {
-        return word(alloc, "yes");
+// Puts `yes` in the place of what is found where it is this.
+fn say_yes_where(found: &mut String, wanted: &str) -> Result<(), AllocError> {
+    if found.as_str() != wanted {
+        return Ok(());
     }
-    Ok(found)
+    found.clear();
+    found.push_str("yes")
 }
 
-/// Whether an object has this height, of which 33 stands for each that is too high. Row: the name, and the height.
+/// Writes whether an object has this height, of which 33 stands for each that is too high. Row: the name, and the height.
 ///
 /// A tower stands on such an object, 10, so 11 is one higher, and so on up to 42. The first that is too high, above 32, tells
 /// the height.
-pub(crate) fn has_height(alloc: Global, rows: &str, words: &str) -> anyhow::Result<String> {
+pub(crate) fn find_height(
+    alloc: Global,
+    rows: &str,
+    words: &str,
+    found: &mut String,
+) -> Result<(), Fault> {
     let (name, height) = cut(words);
-    let first = 43u64.saturating_sub(number(height)?);
-    let tower = tower_on(alloc, rows, name)?;
-    let wanted = format!(in alloc; "endless {first}")?;
-    yes_where(alloc, tower.as_str(), wanted.as_str())
+    let height = number(height).ok_or(Fault::NoRow)?;
+    find_tower(alloc, rows, name, found)?;
+    let wanted = format!(in alloc; "endless {}", 43u64.saturating_sub(height))?;
+    Ok(say_yes_where(found, wanted.as_str())?)
 }
 
-// The rows of a table, and before them those of a tower on a copy of an object.
-fn tower_on(alloc: Global, rows: &str, name: &str) -> Result<String, AllocError> {
+fn find_tower(alloc: Global, rows: &str, name: &str, found: &mut String) -> Result<(), Fault> {
     let mut tower = String::new(alloc);
-    add_copy(&mut tower, rows, name)?;
+    add_tower(rows, name, &mut tower)?;
+    find_grounding(alloc, tower.as_str(), found)
+}
+
+// Adds the rows of a table, and before them those of a tower on a copy of an object.
+fn add_tower(rows: &str, name: &str, tower: &mut String) -> Result<(), AllocError> {
+    add_copy(tower, rows, name)?;
     for place in 10..42u64 {
-        let row = format!(in alloc; "{}/f/{place}/\n", place + 1)?;
-        tower.push_str(row.as_str())?;
+        add_floor(tower, place)?;
     }
-    tower.push_str(rows)?;
-    Ok(tower)
+    tower.push_str(rows)
+}
+
+// Adds an object that needs the one of this number.
+fn add_floor(tower: &mut String, place: u64) -> Result<(), AllocError> {
+    write!(tower, "{}/f/", place.saturating_add(1))?;
+    write!(tower, "{place}/\n")
 }
 
 // Adds the rows of an object as those of the object 10.
 fn add_copy(tower: &mut String, rows: &str, name: &str) -> Result<(), AllocError> {
     for row in rows.lines() {
-        if let Some(("", field)) = row.strip_prefix(name).and_then(|rest| rest.split_once('/')) {
-            tower.push_str("10/")?;
-            tower.push_str(field)?;
-            tower.push_str("\n")?;
+        let (owner, field) = row.split_once('/').unwrap_or(("", ""));
+        if owner == name {
+            add_texts(tower, &["10/", field, "\n"])?;
         }
     }
     Ok(())
 }
 
-/// Whether an object has this weight. Row: the name, and the weight.
+/// Writes whether an object has this weight. Row: the name, and the weight.
 ///
 /// Beside it stand 1, which needs it and weighs 16,384 then, and 2, which weighs one more, and that is too much.
-pub(crate) fn has_weight(alloc: Global, rows: &str, words: &str) -> anyhow::Result<String> {
+pub(crate) fn find_weight(
+    alloc: Global,
+    rows: &str,
+    words: &str,
+    found: &mut String,
+) -> Result<(), Fault> {
     let (name, weight) = cut(words);
-    let length = 16_292u64.saturating_sub(number(weight)?);
+    let length = 16_292u64.saturating_sub(number(weight).ok_or(Fault::NoRow)?);
+    find_heavy(alloc, rows, name, length, found)?;
+    Ok(say_yes_where(found, "large 2")?)
+}
+
+fn find_heavy(
+    alloc: Global,
+    rows: &str,
+    name: &str,
+    length: u64,
+    found: &mut String,
+) -> Result<(), Fault> {
     let mut heavy = String::new(alloc);
-    add_named(&mut heavy, "1", length, name)?;
-    add_named(&mut heavy, "2", length.saturating_add(1), name)?;
-    heavy.push_str(rows)?;
-    yes_where(alloc, heavy.as_str(), "large 2")
+    add_heavy(rows, name, length, &mut heavy)?;
+    find_grounding(alloc, heavy.as_str(), found)
+}
+
+fn add_heavy(rows: &str, name: &str, length: u64, heavy: &mut String) -> Result<(), AllocError> {
+    add_named(heavy, "1", length, name)?;
+    add_named(heavy, "2", length.saturating_add(1), name)?;
+    heavy.push_str(rows)
 }
 
 // Adds an object that needs this one, by a field whose name has so many bytes. It weighs 92 more than these and the one that
 // it needs.
 fn add_named(rows: &mut String, name: &str, length: u64, needed: &str) -> Result<(), AllocError> {
-    rows.push_str(name)?;
-    rows.push_str("/")?;
+    add_texts(rows, &[name, "/"])?;
     for _ in 0..length {
         rows.push_str("x")?;
     }
-    rows.push_str("/")?;
-    rows.push_str(needed)?;
-    rows.push_str("/\n")?;
-    Ok(())
-}
-
-// ---- features that several experiments may have
-
-/// These features of a manifest, each with a stroke before it.
-pub(crate) fn linked_names(alloc: Global, manifest: &Manifest) -> anyhow::Result<String> {
-    let names = coenrolling_features(alloc, manifest)?;
-    Ok(with_strokes(alloc, names.as_slice())?)
-}
-
-/// The names, each with a stroke before it.
-pub(crate) fn with_strokes(alloc: Global, names: &[Text]) -> Result<String, AllocError> {
-    let mut text = String::new(alloc);
-    add_names(&mut text, names)?;
-    Ok(text)
-}
-
-/// Adds the names, each with a stroke before it.
-pub(crate) fn add_names(text: &mut String, names: &[Text]) -> Result<(), AllocError> {
-    for name in names {
-        text.push_str("|")?;
-        text.push_str(name.as_str())?;
-    }
-    Ok(())
+    add_texts(rows, &["/", needed, "/\n"])
 }

@@ -1,64 +1,143 @@
-//! Trees and values of types, and what is laid over them.
-use crate::scenario::word_of;
-use crate::tables::{tree_of, type_of};
-use anyhow::Context;
+//! Types, trees and values of types, and what is laid over them.
+use crate::trees::{add_tree, tree_of, type_of, word_of};
 use fml_merge::{DefaultFault, check_defaults, default_of, overlay, overlay_feature, zero};
-use fml_types::{FieldType, Manifest, TypeTable};
+use fml_types::{
+    FeatureDefinition, FieldType, Key, Manifest, TypeTable, read_type, without_spaces,
+};
 use fml_value::{Value, check, fits, takes, to_tree};
-use json_tree::{Tree, write};
-use row_tables::{cut, word};
+use json_tree::Tree;
+use row_tables::{Fault, add_bytes, add_texts, cut};
 use std::alloc::{AllocError, Global};
 
-// The type and the text behind it in a row.
-fn typed_row<'a>(alloc: Global, row: &'a str) -> anyhow::Result<(FieldType, &'a str)> {
-    let (of, rest) = row.split_once(": ").context("a row has no type")?;
-    Ok((type_of(alloc, of)?, rest))
+/// Writes the text of the type that a text is, without spaces.
+pub(crate) fn find_type(alloc: Global, text: &str, found: &mut String) -> Result<(), Fault> {
+    match read_type(alloc, text) {
+        Ok(of) => Ok(add_type(&of, found)?),
+        Err(_) => Ok(found.push_str("no type")?),
+    }
 }
 
-/// Whether a type takes a tree, and whether the tree fits it.
-pub(crate) fn takes_and_fits(
+fn add_type(of: &FieldType, found: &mut String) -> Result<(), AllocError> {
+    match of {
+        FieldType::Boolean => found.push_str("Boolean"),
+        FieldType::Int => found.push_str("Int"),
+        FieldType::String => found.push_str("String"),
+        FieldType::Text => found.push_str("Text"),
+        FieldType::Image => found.push_str("Image"),
+        FieldType::Option(inner) => {
+            found.push_str("Option<")?;
+            add_type(inner.get(), found)?;
+            found.push_str(">")
+        }
+        FieldType::List(inner) => {
+            found.push_str("List<")?;
+            add_type(inner.get(), found)?;
+            found.push_str(">")
+        }
+        FieldType::Map(key, inner) => {
+            add_texts(found, &["Map<", key_name(key), ","])?;
+            add_type(inner.get(), found)?;
+            found.push_str(">")
+        }
+        FieldType::Named(name) => found.push_str(name.as_str()),
+    }
+}
+
+fn key_name(key: &Key) -> &str {
+    match key {
+        Key::String => "String",
+        Key::Named(name) => name.as_str(),
+    }
+}
+
+/// Writes what stands between the spaces around a text, with a stroke on each side.
+pub(crate) fn find_spaces(text: &str, found: &mut String) -> Result<(), Fault> {
+    found.push_str("|")?;
+    add_bytes(found, without_spaces(text.as_bytes()))?;
+    Ok(found.push_str("|")?)
+}
+
+// A type and a tree.
+#[derive(Drop)]
+struct TypedTree {
+    of: FieldType,
+    tree: Tree,
+}
+
+fn typed_tree(alloc: Global, row: &str) -> Result<TypedTree, Fault> {
+    let (of, text) = row.split_once(": ").ok_or(Fault::NoRow)?;
+    let tree = tree_of(alloc, text.as_bytes())?;
+    Ok(TypedTree {
+        of: type_of(alloc, of)?,
+        tree,
+    })
+}
+
+/// Writes whether a type takes a tree, and whether the tree fits it. Row: the type and the tree.
+pub(crate) fn find_fit(
     alloc: Global,
     types: &TypeTable,
     row: &str,
-) -> anyhow::Result<String> {
-    let (of, text) = typed_row(alloc, row)?;
-    let tree = tree_of(alloc, text)?;
-    let taken = word_of(takes(types, &of, &tree));
-    let fitting = word_of(fits(types, &of, &tree));
-    Ok(format!(in alloc; "takes {taken}, fits {fitting}")?)
+    found: &mut String,
+) -> Result<(), Fault> {
+    let typed = typed_tree(alloc, row)?;
+    Ok(add_fit(types, &typed.of, &typed.tree, found)?)
 }
 
-/// The kind of the value whose tree this is. Where a copy of the value has another tree, that tree.
-pub(crate) fn kind_text(alloc: Global, types: &TypeTable, row: &str) -> anyhow::Result<String> {
-    let (of, text) = typed_row(alloc, row)?;
-    let tree = tree_of(alloc, text)?;
-    Ok(kind_by(alloc, types, &of, &tree)?)
+fn add_fit(
+    types: &TypeTable,
+    of: &FieldType,
+    tree: &Tree,
+    found: &mut String,
+) -> Result<(), AllocError> {
+    let taken = word_of(takes(types, of, tree));
+    let fitting = word_of(fits(types, of, tree));
+    add_texts(found, &["takes ", taken, ", fits ", fitting])
 }
 
-fn kind_by(
+/// Writes the kind of the value whose tree this is. Where a copy of the value has another tree, that tree. Row: the type and the
+/// tree.
+pub(crate) fn find_kind(
+    alloc: Global,
+    types: &TypeTable,
+    row: &str,
+    found: &mut String,
+) -> Result<(), Fault> {
+    let typed = typed_tree(alloc, row)?;
+    Ok(add_kind(alloc, types, &typed.of, &typed.tree, found)?)
+}
+
+fn add_kind(
     alloc: Global,
     types: &TypeTable,
     of: &FieldType,
     tree: &Tree,
-) -> Result<String, AllocError> {
+    found: &mut String,
+) -> Result<(), AllocError> {
     match check(alloc, types, of, tree)? {
-        Some(value) => kind_of_copy(alloc, &value, tree),
-        None => String::from_str(alloc, "none"),
+        Some(value) => add_kind_of_copy(alloc, &value, tree, found),
+        None => found.push_str("none"),
     }
 }
 
-fn kind_of_copy(alloc: Global, value: &Value, tree: &Tree) -> Result<String, AllocError> {
-    let copy = value.clone()?;
-    let found = to_tree(alloc, &copy)?;
-    if found == *tree {
-        String::from_str(alloc, kind_of(value))
+fn add_kind_of_copy(
+    alloc: Global,
+    value: &Value,
+    tree: &Tree,
+    found: &mut String,
+) -> Result<(), AllocError> {
+    let copy = copy_tree(alloc, value)?;
+    if copy == *tree {
+        found.push_str(kind_of(value))
     } else {
-        text_of(alloc, &found)
+        add_tree(alloc, &copy, found)
     }
 }
 
-fn text_of(alloc: Global, tree: &Tree) -> Result<String, AllocError> {
-    Ok(write(alloc, tree)?.into_string())
+// The tree of a copy of the value.
+fn copy_tree(alloc: Global, value: &Value) -> Result<Tree, AllocError> {
+    let copy = value.clone()?;
+    to_tree(alloc, &copy)
 }
 
 fn kind_of(value: &Value) -> &str {
@@ -75,62 +154,107 @@ fn kind_of(value: &Value) -> &str {
     }
 }
 
-// The text of the value's tree.
-fn written(alloc: Global, value: &Value) -> Result<String, AllocError> {
-    text_of(alloc, &to_tree(alloc, value)?)
+// Adds the text of the value's tree.
+fn add_value(alloc: Global, value: &Value, found: &mut String) -> Result<(), AllocError> {
+    let tree = to_tree(alloc, value)?;
+    add_tree(alloc, &tree, found)
 }
 
-/// The tree that comes of it where a patch is laid over a value or over the type's zero.
-pub(crate) fn laid_text(alloc: Global, types: &TypeTable, row: &str) -> anyhow::Result<String> {
-    let (of, rest) = typed_row(alloc, row)?;
-    let (base, patch) = rest.split_once(": ").context("a row has no patch")?;
-    let patch = tree_of(alloc, patch)?;
-    let base = base_of(alloc, types, &of, base)?;
-    let value = overlay(alloc, types, &of, base, &patch)?;
-    Ok(written(alloc, &value)?)
+/// Writes the tree that comes of it where a patch is laid over a value or over the type's zero. Row: the type, the value's tree or
+/// `zero`, and the patch.
+pub(crate) fn find_laid(
+    alloc: Global,
+    types: &TypeTable,
+    row: &str,
+    found: &mut String,
+) -> Result<(), Fault> {
+    let (of, rest) = row.split_once(": ").ok_or(Fault::NoRow)?;
+    let of = type_of(alloc, of)?;
+    find_laid_of(alloc, types, &of, rest, found)
+}
+
+fn find_laid_of(
+    alloc: Global,
+    types: &TypeTable,
+    of: &FieldType,
+    rest: &str,
+    found: &mut String,
+) -> Result<(), Fault> {
+    let (base, patch) = rest.split_once(": ").ok_or(Fault::NoRow)?;
+    let patch = tree_of(alloc, patch.as_bytes())?;
+    find_laid_over(alloc, types, of, base, &patch, found)
+}
+
+fn find_laid_over(
+    alloc: Global,
+    types: &TypeTable,
+    of: &FieldType,
+    base: &str,
+    patch: &Tree,
+    found: &mut String,
+) -> Result<(), Fault> {
+    let base = base_of(alloc, types, of, base)?;
+    let value = overlay(alloc, types, of, base, patch)?;
+    Ok(add_value(alloc, &value, found)?)
 }
 
 // The value of a type whose tree this is, or the type's zero.
-fn base_of(alloc: Global, types: &TypeTable, of: &FieldType, text: &str) -> anyhow::Result<Value> {
+fn base_of(alloc: Global, types: &TypeTable, of: &FieldType, text: &str) -> Result<Value, Fault> {
     if text == "zero" {
         return Ok(zero(alloc, types, of)?);
     }
-    let value = check(alloc, types, of, &tree_of(alloc, text)?)?;
-    value.context("no value has the base")
+    let tree = tree_of(alloc, text.as_bytes())?;
+    check(alloc, types, of, &tree)?.ok_or(Fault::NoRow)
 }
 
-/// The tree of a feature's default.
-pub(crate) fn default_text(
+/// Writes the tree of a feature's default. Row: the name of the feature.
+pub(crate) fn find_default(
     alloc: Global,
     manifest: &Manifest,
     name: &str,
-) -> anyhow::Result<String> {
-    let feature = manifest.features.get(name).context("no such feature")?;
+    found: &mut String,
+) -> Result<(), Fault> {
+    let feature = manifest.features.get(name).ok_or(Fault::NoRow)?;
     let value = default_of(alloc, manifest, feature)?;
-    Ok(written(alloc, &value)?)
+    Ok(add_value(alloc, &value, found)?)
 }
 
-/// The tree of a feature's default with a patch laid over it. Row: the name of the feature, and the patch.
-pub(crate) fn laid_feature(
+/// Writes the tree of a feature's default with a patch laid over it. Row: the name of the feature, and the patch.
+pub(crate) fn find_laid_feature(
     alloc: Global,
     manifest: &Manifest,
     row: &str,
-) -> anyhow::Result<String> {
+    found: &mut String,
+) -> Result<(), Fault> {
     let (name, patch) = cut(row);
-    let feature = manifest.features.get(name).context("no such feature")?;
-    let patch = tree_of(alloc, patch)?;
-    let value = default_of(alloc, manifest, feature)?;
-    let value = overlay_feature(alloc, manifest, feature, value, &patch)?;
-    Ok(written(alloc, &value)?)
+    let feature = manifest.features.get(name).ok_or(Fault::NoRow)?;
+    let patch = tree_of(alloc, patch.as_bytes())?;
+    Ok(add_laid_feature(alloc, manifest, feature, &patch, found)?)
 }
 
-/// `ok`, or the owner and the place of the first default that doesn't fit.
-pub(crate) fn default_verdict(alloc: Global, manifest: &Manifest) -> anyhow::Result<String> {
+fn add_laid_feature(
+    alloc: Global,
+    manifest: &Manifest,
+    feature: &FeatureDefinition,
+    patch: &Tree,
+    found: &mut String,
+) -> Result<(), AllocError> {
+    let value = default_of(alloc, manifest, feature)?;
+    let value = overlay_feature(alloc, manifest, feature, value, patch)?;
+    add_value(alloc, &value, found)
+}
+
+/// Writes `ok`, or the owner and the place of the first default that doesn't fit.
+pub(crate) fn find_defaults(
+    alloc: Global,
+    manifest: &Manifest,
+    found: &mut String,
+) -> Result<(), Fault> {
     match check_defaults(alloc, manifest) {
-        Ok(()) => word(alloc, "ok"),
+        Ok(()) => Ok(found.push_str("ok")?),
         Err(DefaultFault::BadDefault { owner, place }) => {
-            Ok(format!(in alloc; "{} {}", owner.as_str(), place.as_str())?)
+            Ok(add_texts(found, &[owner.as_str(), " ", place.as_str()])?)
         }
-        Err(DefaultFault::OutOfMemory) => word(alloc, "OutOfMemory"),
+        Err(DefaultFault::OutOfMemory) => Err(Fault::OutOfMemory),
     }
 }

@@ -1,0 +1,120 @@
+//! Scenarios one after the other, and what is told of them.
+use crate::scenario::{Scenario, find, prepare};
+use row_tables::{Fault, add_texts, cut};
+use std::alloc::{AllocError, Global};
+
+// The name of the scenario, and whether all was so far as it is wanted.
+#[derive(Drop)]
+struct Verdict {
+    name: String,
+    passes: bool,
+}
+
+/// Does what each line says, and tells of each scenario that it passes, or what differs from what is wanted.
+pub(crate) fn judge_lines(
+    alloc: Global,
+    text: &str,
+    report: &mut String,
+) -> Result<(), AllocError> {
+    let mut verdict = Verdict {
+        name: String::new(alloc),
+        passes: true,
+    };
+    judge_all(alloc, text, &mut verdict, report)?;
+    tell(&verdict, report)
+}
+
+fn judge_all(
+    alloc: Global,
+    text: &str,
+    verdict: &mut Verdict,
+    report: &mut String,
+) -> Result<(), AllocError> {
+    let mut scenario = Scenario::new(alloc)?;
+    let mut found = String::new(alloc);
+    for line in text.lines() {
+        judge_line(alloc, line, &mut scenario, verdict, &mut found, report)?;
+    }
+    Ok(())
+}
+
+fn judge_line(
+    alloc: Global,
+    line: &str,
+    scenario: &mut Scenario,
+    verdict: &mut Verdict,
+    found: &mut String,
+    report: &mut String,
+) -> Result<(), AllocError> {
+    if line.is_empty() || line.starts_with('#') {
+        return Ok(());
+    }
+    let (word, rest) = cut(line);
+    if word == "==" {
+        tell(verdict, report)?;
+        begin(verdict, rest)?;
+        *scenario = Scenario::new(alloc)?;
+        return Ok(());
+    }
+    if prepare(alloc, scenario, word, rest)? {
+        return Ok(());
+    }
+    found.clear();
+    verdict.passes &= judge(alloc, line, scenario, &verdict.name, found, report)?;
+    Ok(())
+}
+
+fn begin(verdict: &mut Verdict, name: &str) -> Result<(), AllocError> {
+    verdict.passes = true;
+    verdict.name.clear();
+    verdict.name.push_str(name)
+}
+
+// Tells that the scenario passes, where there is one and it does.
+fn tell(verdict: &Verdict, report: &mut String) -> Result<(), AllocError> {
+    if verdict.name.is_empty() || !verdict.passes {
+        return Ok(());
+    }
+    add_texts(report, &[verdict.name.as_str(), ": passed\n"])
+}
+
+// Whether what is found of a row is what is wanted. Else it is told.
+fn judge(
+    alloc: Global,
+    line: &str,
+    scenario: &mut Scenario,
+    name: &str,
+    found: &mut String,
+    report: &mut String,
+) -> Result<bool, AllocError> {
+    let (row, wanted) = line.split_once(" = ").unwrap_or((line, ""));
+    match find(alloc, scenario, row, found) {
+        Ok(()) if found.as_str() == wanted => Ok(true),
+        Ok(()) => differs(name, row, found, wanted, report),
+        Err(Fault::NoRow) => differs(name, row, "no row of its kind", wanted, report),
+        Err(Fault::OutOfMemory) => differs(name, row, "no memory", wanted, report),
+    }
+}
+
+fn differs(
+    name: &str,
+    row: &str,
+    found: &str,
+    wanted: &str,
+    report: &mut String,
+) -> Result<bool, AllocError> {
+    add_texts(
+        report,
+        &[
+            name,
+            ": ",
+            row,
+            ": found ",
+            found,
+            ", wanted ",
+            wanted,
+            "\n",
+        ],
+    )?;
+    Ok(false)
+}
