@@ -42,7 +42,7 @@
 //! | `fresh ID COUNT` | the rows' batch has so many bytes, and is that of a new store with this id |
 use crate::inputs::InputCall;
 use crate::stores::Call;
-use crate::text::{count, cut, number, side};
+use crate::text::{byte, count, cut, number, side};
 use host_model::{Choice, Side};
 
 #[derive(Clone, Copy)]
@@ -213,9 +213,9 @@ fn opens<'a>(word: &str, rest: &'a str) -> Option<Expectation<'a>> {
     if word == "cut" {
         return Some(Expectation::Opens(side(name)?, Alteration::Cut(first, last), rest));
     }
-    let (byte, answer) = cut(rest);
-    let byte = u8::try_from(number(byte)?).ok()?;
-    Some(Expectation::Opens(side(name)?, Alteration::Byte(first, last, byte), answer))
+    let (word, answer) = cut(rest);
+    let alteration = Alteration::Byte(first, last, byte(word)?);
+    Some(Expectation::Opens(side(name)?, alteration, answer))
 }
 
 fn images_of(name: &str) -> Option<Images> {
@@ -241,9 +241,9 @@ fn of_state<'a>(word: &str, rest: &'a str) -> Option<Expectation<'a>> {
 }
 
 fn damage_in<'a>(word: &str, rest: &'a str) -> Option<Damage<'a>> {
-    let (place, byte) = cut(rest);
+    let (place, value) = cut(rest);
     match word {
-        "altered" => Some(Damage::Altered(count(place)?, u8::try_from(number(byte)?).ok()?)),
+        "altered" => Some(Damage::Altered(count(place)?, byte(value)?)),
         "shortened" => Some(Damage::Shortened(count(rest)?)),
         "lengthened" => Some(Damage::Lengthened(rest)),
         _ => None,

@@ -1,6 +1,6 @@
 //! Calls with a payload on journals and pairs.
-use crate::hosts::{ScenarioHost, number_text};
-use crate::text::{Answer, payload_of};
+use crate::hosts::ScenarioHost;
+use crate::text::{add_number, payload_of};
 use gate_journal::{AppendFault, Frame, FrameFault, Journal};
 use pair_store::{MAX_WHOLE, PairStore};
 use std::alloc::{AllocError, Global};
@@ -16,12 +16,17 @@ impl Reply {
     fn of(is_done: bool) -> Reply {
         Reply::Word(if is_done { "Ok" } else { "Failed" })
     }
+}
 
-    pub(crate) fn text(self, alloc: Global) -> Answer {
-        match self {
-            Reply::Word(word) => word.as_bytes().to_vec(alloc),
-            Reply::Number(number) => number_text(alloc, number),
-        }
+/// Adds what such a call answers.
+pub(crate) fn add_reply(
+    alloc: Global,
+    reply: Reply,
+    answer: &mut Vec<u8>,
+) -> Result<(), AllocError> {
+    match reply {
+        Reply::Word(word) => answer.extend_from_slice(word.as_bytes()),
+        Reply::Number(number) => add_number(alloc, number, answer),
     }
 }
 

@@ -1,7 +1,7 @@
 //! The host of a scenario, and calls on it, on sources and on shelves.
 ghost use Rattle.std.specs.Prelude.{[], ◌^◌, ◌-◌};
 
-use crate::text::{Answer, bytes_of, count, cut, number, side};
+use crate::text::{add_done, add_number, bytes_of, count, cut, number, side};
 use host_model::{Choice, DiskFailed, Host, MemHost, SayFailed, Side};
 use std::alloc::{AllocError, Global};
 
@@ -48,7 +48,12 @@ impl ScenarioHost {
     }
 
     /// What a crash may leave on a side.
-    pub(crate) fn image(&self, alloc: Global, side: Side, choice: Choice) -> Answer {
+    pub(crate) fn image(
+        &self,
+        alloc: Global,
+        side: Side,
+        choice: Choice,
+    ) -> Result<Vec<u8>, AllocError> {
         self.memory.image(alloc, side, choice)
     }
 
@@ -152,53 +157,73 @@ impl<'a> HostCall<'a> {
             _ => None,
         }
     }
+}
 
-    /// Makes the call, and gives its answer.
-    pub(crate) fn answer(self, alloc: Global, host: &mut ScenarioHost) -> Answer {
-        match self {
-            HostCall::Length(side) => match host.len(side) {
-                Ok(length) => number_text(alloc, length),
-                Err(DiskFailed) => b"Failed".to_vec(alloc),
-            },
-            HostCall::Read(side, at, room) => {
-                let mut piece = vec![in alloc; b'-'; room.min(64)]?;
-                let answer = host.read(side, at, &mut piece);
-                read_text(alloc, answer.ok(), &piece)
-            }
-            HostCall::Write(side, at, bytes) => {
-                let bytes = bytes_of(alloc, bytes)?;
-                done_text(alloc, host.write_at(side, at, &bytes).is_ok())
-            }
-            HostCall::Sync(side) => done_text(alloc, host.sync(side).is_ok()),
-            HostCall::Say(bytes) => {
-                let bytes = bytes_of(alloc, bytes)?;
-                done_text(alloc, host.say(&bytes).is_ok())
-            }
-        }
+/// Makes a call on a host, and adds its answer.
+pub(crate) fn call_host(
+    alloc: Global,
+    host: &mut ScenarioHost,
+    call: HostCall<'_>,
+    answer: &mut Vec<u8>,
+) -> Result<(), AllocError> {
+    match call {
+        HostCall::Length(side) => match host.len(side) {
+            Ok(length) => add_number(alloc, length, answer),
+            Err(DiskFailed) => add_done(false, answer),
+        },
+        HostCall::Read(side, at, room) => read(alloc, host, side, at, room, answer),
+        HostCall::Write(side, at, bytes) => write(alloc, host, side, at, bytes, answer),
+        HostCall::Sync(side) => add_done(host.sync(side).is_ok(), answer),
+        HostCall::Say(bytes) => say(alloc, host, bytes, answer),
     }
 }
 
-/// Whether a call answers `Ok`.
-pub(crate) fn done_text(alloc: Global, is_done: bool) -> Answer {
-    if is_done {
-        b"Ok".to_vec(alloc)
-    } else {
-        b"Failed".to_vec(alloc)
+fn read(
+    alloc: Global,
+    host: &mut ScenarioHost,
+    side: Side,
+    at: u64,
+    room: usize,
+    answer: &mut Vec<u8>,
+) -> Result<(), AllocError> {
+    let mut piece = vec![in alloc; b'-'; room.min(64)]?;
+    let placed = host.read(side, at, &mut piece).ok();
+    add_read(alloc, placed, &piece, answer)
+}
+
+fn write(
+    alloc: Global,
+    host: &mut ScenarioHost,
+    side: Side,
+    at: u64,
+    bytes: &str,
+    answer: &mut Vec<u8>,
+) -> Result<(), AllocError> {
+    let bytes = bytes_of(alloc, bytes)?;
+    add_done(host.write_at(side, at, &bytes).is_ok(), answer)
+}
+
+fn say(
+    alloc: Global,
+    host: &mut ScenarioHost,
+    bytes: &str,
+    answer: &mut Vec<u8>,
+) -> Result<(), AllocError> {
+    let bytes = bytes_of(alloc, bytes)?;
+    add_done(host.say(&bytes).is_ok(), answer)
+}
+
+/// Adds how many bytes a read has placed, and the whole piece.
+pub(crate) fn add_read(
+    alloc: Global,
+    placed: Option<usize>,
+    piece: &[u8],
+    answer: &mut Vec<u8>,
+) -> Result<(), AllocError> {
+    match placed {
+        Some(count) => add_number(alloc, count as u64, answer)?,
+        None => add_done(false, answer)?,
     }
-}
-
-/// How many bytes a read has placed, and the whole piece.
-pub(crate) fn read_text(alloc: Global, placed: Option<usize>, piece: &[u8]) -> Answer {
-    let mut text = match placed {
-        Some(count) => number_text(alloc, count as u64)?,
-        None => b"Failed".to_vec(alloc)?,
-    };
-    text.push(b' ')?;
-    text.extend_from_slice(piece)?;
-    Ok(text)
-}
-
-/// A number in decimal digits.
-pub(crate) fn number_text(alloc: Global, number: u64) -> Answer {
-    Ok(format!(in alloc; "{number}")?.into_bytes())
+    answer.extend_from_slice(b" ")?;
+    answer.extend_from_slice(piece)
 }

@@ -1,6 +1,6 @@
 //! Calls on sources and on shelves.
-use crate::hosts::{done_text, read_text};
-use crate::text::{Answer, bytes_of, count, cut, number};
+use crate::hosts::add_read;
+use crate::text::{add_done, bytes_of, count, cut, number};
 use host_model::{MemShelf, MemSource, Shelf, ShelfAnswer, Source};
 use std::alloc::{AllocError, Global};
 
@@ -40,45 +40,78 @@ impl<'a> InputCall<'a> {
 impl Inputs {
     /// An empty source and an empty shelf.
     pub(crate) fn new(alloc: Global) -> Result<Inputs, AllocError> {
+        let source = MemSource::new(alloc, b"", 1, &[])?;
         Ok(Inputs {
-            source: MemSource::new(alloc, b"", 1, &[])?,
+            source,
             shelf: MemShelf::new(alloc, &[])?,
         })
     }
+}
 
-    /// Makes the call, and gives its answer.
-    pub(crate) fn answer(&mut self, alloc: Global, call: InputCall<'_>) -> Answer {
-        match call {
-            InputCall::Source(piece, failing, bytes) => {
-                let bytes = bytes_of(alloc, bytes)?;
-                self.source = MemSource::new(alloc, &bytes, piece.max(1), &[failing])?;
-                done_text(alloc, true)
-            }
-            InputCall::Pull(room) => {
-                let mut piece = vec![in alloc; b'-'; room.min(64)]?;
-                let answer = self.source.read(&mut piece);
-                read_text(alloc, answer.ok(), &piece)
-            }
-            InputCall::Shelf(failing) => {
-                self.shelf = MemShelf::new(alloc, &[failing])?;
-                done_text(alloc, true)
-            }
-            InputCall::File(name, bytes) => {
-                let bytes = bytes_of(alloc, bytes)?;
-                self.shelf.add(alloc, name, &bytes)?;
-                done_text(alloc, true)
-            }
-            InputCall::Take(name) => taken(alloc, self.shelf.take(alloc, name)),
+/// Makes a call on the source or the shelf, and adds its answer.
+pub(crate) fn call_inputs(
+    alloc: Global,
+    inputs: &mut Inputs,
+    call: InputCall<'_>,
+    answer: &mut Vec<u8>,
+) -> Result<(), AllocError> {
+    match call {
+        InputCall::Source(piece, failing, bytes) => {
+            set_source(alloc, &mut inputs.source, piece, failing, bytes)?;
+            add_done(true, answer)
         }
+        InputCall::Pull(room) => pull(alloc, &mut inputs.source, room, answer),
+        InputCall::Shelf(failing) => {
+            inputs.shelf = MemShelf::new(alloc, &[failing])?;
+            add_done(true, answer)
+        }
+        InputCall::File(name, bytes) => {
+            add_file(alloc, &mut inputs.shelf, name, bytes)?;
+            add_done(true, answer)
+        }
+        InputCall::Take(name) => add_taken(inputs.shelf.take(alloc, name), answer),
     }
 }
 
-fn taken(alloc: Global, answer: ShelfAnswer) -> Answer {
-    match answer {
-        ShelfAnswer::Bytes(file) => file.as_slice().to_vec(alloc),
-        ShelfAnswer::Absent => b"Absent".to_vec(alloc),
-        ShelfAnswer::TooLarge(_) => b"TooLarge".to_vec(alloc),
-        ShelfAnswer::Failed => b"Failed".to_vec(alloc),
-        ShelfAnswer::OutOfMemory => b"OutOfMemory".to_vec(alloc),
+fn set_source(
+    alloc: Global,
+    source: &mut MemSource,
+    piece: usize,
+    failing: u64,
+    bytes: &str,
+) -> Result<(), AllocError> {
+    let bytes = bytes_of(alloc, bytes)?;
+    *source = MemSource::new(alloc, &bytes, piece.max(1), &[failing])?;
+    Ok(())
+}
+
+fn pull(
+    alloc: Global,
+    source: &mut MemSource,
+    room: usize,
+    answer: &mut Vec<u8>,
+) -> Result<(), AllocError> {
+    let mut piece = vec![in alloc; b'-'; room.min(64)]?;
+    let placed = source.read(&mut piece).ok();
+    add_read(alloc, placed, &piece, answer)
+}
+
+fn add_file(
+    alloc: Global,
+    shelf: &mut MemShelf,
+    name: &str,
+    bytes: &str,
+) -> Result<(), AllocError> {
+    let bytes = bytes_of(alloc, bytes)?;
+    shelf.add(alloc, name, &bytes)
+}
+
+fn add_taken(taken: ShelfAnswer, answer: &mut Vec<u8>) -> Result<(), AllocError> {
+    match taken {
+        ShelfAnswer::Bytes(file) => answer.extend_from_slice(file.as_slice()),
+        ShelfAnswer::Absent => answer.extend_from_slice(b"Absent"),
+        ShelfAnswer::TooLarge(_) => answer.extend_from_slice(b"TooLarge"),
+        ShelfAnswer::Failed => answer.extend_from_slice(b"Failed"),
+        ShelfAnswer::OutOfMemory => answer.extend_from_slice(b"OutOfMemory"),
     }
 }

@@ -8,47 +8,20 @@ mod directive;
 mod framed;
 mod hosts;
 mod inputs;
+mod judging;
+mod row_stores;
 mod scenario;
 mod states;
 mod stores;
+mod telling;
 mod text;
 
-use directive::Directive;
-use scenario::Scenario;
 use std::io;
+use telling::tell_all;
 
-// Does what one line says, and tells what differs from what is wanted.
-fn step(rt: &HostRuntime, scenario: &mut Scenario, line: &str) -> anyhow::Result<()> {
-    let Some(directive) = Directive::of(line) else {
-        println!(rt; "no line of a scenario: {line}")?;
-        return Ok(());
-    };
-    if matches!(&directive, Directive::Begin(_)) {
-        tell(rt, scenario)?;
-    }
-    if let Some(found) = scenario.does(rt.alloc(), directive)? {
-        println!(rt;
-            "{}: {line}: found {}",
-            scenario.name(),
-            found.escape_ascii()
-        )?;
-    }
-    Ok(())
-}
-
-// Tells that the scenario passes, where there is one and it does.
-fn tell(rt: &HostRuntime, scenario: &Scenario) -> anyhow::Result<()> {
-    if !scenario.name().is_empty() && scenario.passes() {
-        println!(rt; "{}: passed", scenario.name())?;
-    }
-    Ok(())
-}
-
-fn main(rt: HostRuntime) -> anyhow::Result<()> {
-    let input = io::read_to_string(rt.alloc(), rt.reader())?;
-    let mut scenario = Scenario::new(rt.alloc())?;
-    for line in input.lines() {
-        step(&rt, &mut scenario, line)?;
-    }
-    tell(&rt, &scenario)
+fn main(rt: HostRuntime) -> io::Result<()> {
+    let text = io::read_to_string(rt.alloc(), rt.reader())?;
+    let mut report = String::new(rt.alloc());
+    tell_all(rt.alloc(), &text, &mut report)?;
+    print!(rt; "{report}")
 }

@@ -1,10 +1,10 @@
 //! A scenario as far as it is done.
-use crate::batches::batch_again;
-use crate::directive::{Alteration, Damage, Directive, Expectation, Form, Images};
+use crate::batches::add_batch_again;
+use crate::directive::Directive;
 use crate::hosts::ScenarioHost;
-use crate::inputs::Inputs;
-use crate::states::{change, changed, fresh, made, migrated, spelled, spelling};
-use crate::stores::{Call, Layer, Stores};
+use crate::inputs::{Inputs, call_inputs};
+use crate::states::{add_change, add_migration};
+use crate::stores::{Call, Layer, Stores, call_store, open_store};
 use crate::text::bytes_of;
 use host_model::{Choice, Side};
 use std::alloc::{AllocError, Global};
@@ -12,35 +12,31 @@ use std::alloc::{AllocError, Global};
 /// How many bytes a side may have, unless a scenario says another number.
 const ROOM: usize = 4096;
 
-const CHOICES: [Choice; 3] = [Choice::Old, Choice::New, Choice::Torn];
-
-/// What is found, where it isn't what is wanted.
-pub(crate) type Difference = Result<Option<Vec<u8>>, AllocError>;
-
+/// What the lines of a scenario have made so far.
 #[derive(Drop)]
 pub(crate) struct Scenario {
-    name: String,
-    passes: bool,
     host: ScenarioHost,
-    room: usize,
+    /// How many bytes a side may have.
+    pub(crate) room: usize,
     stores: Stores,
     inputs: Inputs,
     /// The host on which a call was stopped last, if no call followed it.
     stopped: Option<ScenarioHost>,
-    layer: Layer,
-    answer: Vec<u8>,
+    /// The layer that was called last.
+    pub(crate) layer: Layer,
+    /// What the last call has answered.
+    pub(crate) answer: Vec<u8>,
     /// The rows of a state, of which so many stood there before the first scenario.
-    rows: Vec<String>,
+    pub(crate) rows: Vec<String>,
     shared: usize,
 }
 
 impl Scenario {
     /// Nothing is done. The rows that come now are those of each scenario.
     pub(crate) fn new(alloc: Global) -> Result<Scenario, AllocError> {
+        let host = ScenarioHost::new(alloc, b"", b"", ROOM, None)?;
         Ok(Scenario {
-            name: String::new(alloc),
-            passes: true,
-            host: ScenarioHost::new(alloc, b"", b"", ROOM, None)?,
+            host,
             room: ROOM,
             stores: Stores::new(),
             inputs: Inputs::new(alloc)?,
@@ -52,222 +48,133 @@ impl Scenario {
         })
     }
 
-    pub(crate) fn name(&self) -> &str {
-        &self.name
-    }
-
-    /// Whether all was so far as it is wanted.
-    pub(crate) fn passes(&self) -> bool {
-        self.passes
-    }
-
-    /// Does what a line says, and gives what is found where something else is wanted.
-    pub(crate) fn does(&mut self, alloc: Global, directive: Directive<'_>) -> Difference {
-        match directive {
-            Directive::Nothing => {}
-            Directive::Begin(name) => self.begin(alloc, name)?,
-            Directive::Room(room) => self.empty(alloc, room)?,
-            Directive::Endless => self.host = ScenarioHost::endless(alloc)?,
-            Directive::Anew => self.host = self.copy(alloc, None)?,
-            Directive::Side(side, bytes) => self.replace(alloc, side, bytes)?,
-            Directive::Fails(call) => self.host = self.copy(alloc, Some(call))?,
-            Directive::Stop(number, call) => self.stop(alloc, number, call)?,
-            Directive::Call(call) => self.call(alloc, call)?,
-            Directive::Input(call) => self.answer = self.inputs.answer(alloc, call)?,
-            Directive::Batch(bytes) => self.answer = batch_again(alloc, bytes)?,
-            Directive::Change(changes) => self.answer = change(alloc, &self.rows, changes)?,
-            Directive::Migration(changes) => self.answer = migrated(alloc, &self.rows, changes)?,
-            Directive::Row(line) => self.rows.push(String::from_str(alloc, line)?)?,
-            Directive::NoRows => self.rows.truncate(0),
-            Directive::Expect(wanted) => return self.judge(alloc, wanted),
-        }
-        Ok(None)
-    }
-
-    fn begin(&mut self, alloc: Global, name: &str) -> Result<(), AllocError> {
-        if self.name.is_empty() {
+    /// Begins a scenario: the first one, or another.
+    pub(crate) fn begin(&mut self, alloc: Global, is_first: bool) -> Result<(), AllocError> {
+        if is_first {
             self.shared = self.rows.len();
         }
-        self.name = String::from_str(alloc, name)?;
-        self.passes = true;
-        self.inputs = Inputs::new(alloc)?;
-        self.answer = Vec::new(alloc);
         self.rows.truncate(self.shared);
-        self.empty(alloc, ROOM)
+        self.answer.clear();
+        self.inputs = Inputs::new(alloc)?;
+        empty(alloc, self, ROOM)
     }
 
-    fn empty(&mut self, alloc: Global, room: usize) -> Result<(), AllocError> {
-        self.host = ScenarioHost::new(alloc, b"", b"", room, None)?;
-        self.room = room;
-        self.stores = Stores::new();
-        self.stopped = None;
-        Ok(())
-    }
-
-    // A side has these bytes, and the other one what it had.
-    fn replace(&mut self, alloc: Global, side: Side, bytes: &str) -> Result<(), AllocError> {
-        let bytes = bytes_of(alloc, bytes)?;
-        let (left, right) = match side {
-            Side::Left => (bytes, self.host.image(alloc, Side::Right, Choice::New)?),
-            Side::Right => (self.host.image(alloc, Side::Left, Choice::New)?, bytes),
-        };
-        self.host = ScenarioHost::new(alloc, &left, &right, self.room, None)?;
-        self.stopped = None;
-        Ok(())
-    }
-
-    // A host with what reads of this one give, whose call of this number fails.
-    fn copy(&self, alloc: Global, failing: Option<u64>) -> Result<ScenarioHost, AllocError> {
-        copy_of(
-            alloc,
-            &self.host,
-            (Choice::New, Choice::New),
-            self.room,
-            failing,
-        )
-    }
-
-    fn call(&mut self, alloc: Global, call: Call<'_>) -> Result<(), AllocError> {
-        self.stopped = None;
-        if let Some(layer) = call.layer() {
-            self.layer = layer;
-        }
-        self.host.count_anew();
-        self.answer = self.stores.answer(alloc, &mut self.host, call)?;
-        Ok(())
-    }
-
-    // Makes a call on a copy, where the host's call of this number fails.
-    fn stop(&mut self, alloc: Global, number: u64, call: Call<'_>) -> Result<(), AllocError> {
-        if let Some(layer) = call.layer() {
-            self.layer = layer;
-        }
-        let mut opened = self.copy(alloc, None)?;
-        let mut stores = Stores::new();
-        let _answer = stores.open(alloc, &mut opened, self.layer)?;
-        let mut copy = self.copy(alloc, Some(number))?;
-        self.answer = stores.answer(alloc, &mut copy, call)?;
-        self.stopped = Some(copy);
-        Ok(())
-    }
-
-    // The host that was called last.
-    fn last_host(&self) -> &ScenarioHost {
+    /// The host that was called last.
+    pub(crate) fn last_host(&self) -> &ScenarioHost {
         match &self.stopped {
             Some(host) => host,
             None => &self.host,
         }
     }
+}
 
-    // What is found where it isn't what is wanted.
-    fn judge(&mut self, alloc: Global, wanted: Expectation<'_>) -> Difference {
-        let found = self.difference(alloc, wanted)?;
-        if found.is_some() {
-            self.passes = false;
+/// Does what a line says.
+pub(crate) fn act(
+    alloc: Global,
+    scenario: &mut Scenario,
+    directive: Directive<'_>,
+) -> Result<(), AllocError> {
+    match directive {
+        Directive::Call(call) => call_last(alloc, scenario, call),
+        Directive::Stop(number, call) => stop(alloc, scenario, number, call),
+        Directive::Room(room) => empty(alloc, scenario, room),
+        Directive::Endless => end_host(alloc, &mut scenario.host),
+        Directive::Anew => renew(alloc, &mut scenario.host, scenario.room, None),
+        Directive::Fails(call) => renew(alloc, &mut scenario.host, scenario.room, Some(call)),
+        Directive::Side(side, bytes) => {
+            scenario.stopped = None;
+            replace(alloc, &mut scenario.host, scenario.room, side, bytes)
         }
-        Ok(found)
-    }
-
-    fn difference(&self, alloc: Global, wanted: Expectation<'_>) -> Difference {
-        match wanted {
-            Expectation::Gives(answer) => differs(alloc, &self.answer, answer),
-            Expectation::Wrote(count) => other_number(alloc, self.last_host().writes().0, count),
-            Expectation::Ends(place) => other_number(alloc, self.last_host().writes().1, place),
-            Expectation::Image(choice, side, bytes) => {
-                let image = self.last_host().image(alloc, side, choice)?;
-                differs(alloc, &image, bytes)
-            }
-            Expectation::Leaves(left, right, answer) => {
-                self.judge_images(alloc, left, right, answer)
-            }
-            Expectation::Said(text) => differs(alloc, self.last_host().said(), text),
-            Expectation::Opens(side, alteration, answer) => {
-                self.judge_altered(alloc, side, alteration, answer)
-            }
-            Expectation::Rows(form, changes) => self.judge_changed(alloc, form, changes),
-            Expectation::Damaged(damage) => {
-                let bytes = damaged(alloc, spelling(alloc, &self.rows)?, damage)?;
-                differs(
-                    alloc,
-                    spelled(alloc, &bytes, &bytes)?.as_bytes(),
-                    "NotAState",
-                )
-            }
-            Expectation::Fresh(id, count) => self.judge_fresh(alloc, id, count),
+        Directive::Row(line) => add_row(alloc, line, &mut scenario.rows),
+        Directive::NoRows => {
+            scenario.rows.truncate(0);
+            Ok(())
         }
+        _ => answer(alloc, scenario, directive),
     }
+}
 
-    // What the changed rows are.
-    fn judge_changed(&self, alloc: Global, form: Form, changes: &str) -> Difference {
-        let lines = changed(alloc, &self.rows, changes)?;
-        match form {
-            Form::State => judge_rows(alloc, &lines, &lines, "state"),
-            Form::Former => judge_rows(alloc, &lines, &self.rows, "state"),
-            Form::NoState => judge_rows(alloc, &lines, &lines, "NotAState"),
+// Gives the answer of a call on the inputs, a batch, a change or a migration.
+fn answer(
+    alloc: Global,
+    scenario: &mut Scenario,
+    directive: Directive<'_>,
+) -> Result<(), AllocError> {
+    scenario.answer.clear();
+    let (rows, answer) = (scenario.rows.as_slice(), &mut scenario.answer);
+    match directive {
+        Directive::Input(call) => call_inputs(alloc, &mut scenario.inputs, call, answer),
+        Directive::Batch(bytes) => add_batch_again(alloc, bytes, answer),
+        Directive::Change(changes) => add_change(alloc, rows, changes, answer),
+        Directive::Migration(changes) => add_migration(alloc, rows, changes, answer),
+        _ => Ok(()),
+    }
+}
+
+fn add_row(alloc: Global, line: &str, rows: &mut Vec<String>) -> Result<(), AllocError> {
+    let line = String::from_str(alloc, line)?;
+    rows.push(line)?;
+    Ok(())
+}
+
+fn empty(alloc: Global, scenario: &mut Scenario, room: usize) -> Result<(), AllocError> {
+    scenario.room = room;
+    scenario.stores = Stores::new();
+    scenario.stopped = None;
+    scenario.host = ScenarioHost::new(alloc, b"", b"", room, None)?;
+    Ok(())
+}
+
+fn end_host(alloc: Global, host: &mut ScenarioHost) -> Result<(), AllocError> {
+    *host = ScenarioHost::endless(alloc)?;
+    Ok(())
+}
+
+// The host has what reads of it give, and its call of this number fails.
+fn renew(
+    alloc: Global,
+    host: &mut ScenarioHost,
+    room: usize,
+    failing: Option<u64>,
+) -> Result<(), AllocError> {
+    *host = copy_of(alloc, host, (Choice::New, Choice::New), room, failing)?;
+    Ok(())
+}
+
+// A side has these bytes, and the other one what it had.
+fn replace(
+    alloc: Global,
+    host: &mut ScenarioHost,
+    room: usize,
+    side: Side,
+    bytes: &str,
+) -> Result<(), AllocError> {
+    let bytes = bytes_of(alloc, bytes)?;
+    *host = replaced(alloc, host, room, side, &bytes)?;
+    Ok(())
+}
+
+fn replaced(
+    alloc: Global,
+    host: &ScenarioHost,
+    room: usize,
+    side: Side,
+    bytes: &[u8],
+) -> Result<ScenarioHost, AllocError> {
+    match side {
+        Side::Left => {
+            let right = host.image(alloc, Side::Right, Choice::New)?;
+            ScenarioHost::new(alloc, bytes, &right, room, None)
         }
-    }
-
-    // Opens each pair of images, and gives the first other answer.
-    fn judge_images(&self, alloc: Global, left: Images, right: Images, wanted: &str) -> Difference {
-        for of_left in CHOICES {
-            for of_right in CHOICES {
-                if left.has(of_left) && right.has(of_right) {
-                    let mut host = copy_of(
-                        alloc,
-                        self.last_host(),
-                        (of_left, of_right),
-                        self.room,
-                        None,
-                    )?;
-                    let found = Stores::new().open(alloc, &mut host, self.layer)?;
-                    if let Some(found) = differs(alloc, &found, wanted)? {
-                        return Ok(Some(found));
-                    }
-                }
-            }
-        }
-        Ok(None)
-    }
-
-    // Opens the sides, one of which is altered, for each number of a range, and gives the first number with another answer.
-    fn judge_altered(
-        &self,
-        alloc: Global,
-        side: Side,
-        alteration: Alteration,
-        wanted: &str,
-    ) -> Difference {
-        let (first, last) = alteration.range();
-        for number in first..=last {
-            let mut left = self.last_host().image(alloc, Side::Left, Choice::New)?;
-            let mut right = self.last_host().image(alloc, Side::Right, Choice::New)?;
-            match side {
-                Side::Left => alteration.alter(&mut left, number),
-                Side::Right => alteration.alter(&mut right, number),
-            }
-            let mut host = ScenarioHost::new(alloc, &left, &right, self.room, None)?;
-            let answer = Stores::new().open(alloc, &mut host, self.layer)?;
-            if let Some(found) = differs(alloc, &answer, wanted)? {
-                let found = found.escape_ascii();
-                return Ok(Some(format!(in alloc; "{found} at {number}")?.into_bytes()));
-            }
-        }
-        Ok(None)
-    }
-
-    fn judge_fresh(&self, alloc: Global, id: &str, count: usize) -> Difference {
-        let bytes = spelling(alloc, &self.rows)?;
-        let found = fresh(alloc, id)?;
-        if found == bytes && found.len() == count {
-            Ok(None)
-        } else {
-            Ok(Some(found))
+        Side::Right => {
+            let left = host.image(alloc, Side::Left, Choice::New)?;
+            ScenarioHost::new(alloc, &left, bytes, room, None)
         }
     }
 }
 
-// A host with these images of another one, whose call of this number fails.
-fn copy_of(
+/// A host with these images of another one, whose call of this number fails.
+pub(crate) fn copy_of(
     alloc: Global,
     host: &ScenarioHost,
     choices: (Choice, Choice),
@@ -279,43 +186,52 @@ fn copy_of(
     ScenarioHost::new(alloc, &left, &right, room, failing)
 }
 
-// What is found, where it isn't what the text spells.
-fn differs(alloc: Global, found: &[u8], wanted: &str) -> Difference {
-    let wanted = bytes_of(alloc, wanted)?;
-    if found == wanted.as_slice() {
-        Ok(None)
-    } else {
-        Ok(Some(found.to_vec(alloc)?))
-    }
+fn call_last(alloc: Global, scenario: &mut Scenario, call: Call<'_>) -> Result<(), AllocError> {
+    scenario.stopped = None;
+    scenario.layer = call.layer().unwrap_or(scenario.layer);
+    scenario.host.count_anew();
+    scenario.answer.clear();
+    call_store(
+        alloc,
+        &mut scenario.stores,
+        &mut scenario.host,
+        call,
+        &mut scenario.answer,
+    )
 }
 
-fn other_number(alloc: Global, found: u64, wanted: u64) -> Difference {
-    if found == wanted {
-        Ok(None)
-    } else {
-        Ok(Some(format!(in alloc; "{found}")?.into_bytes()))
-    }
+// Makes a call on a copy, where the host's call of this number fails.
+fn stop(
+    alloc: Global,
+    scenario: &mut Scenario,
+    number: u64,
+    call: Call<'_>,
+) -> Result<(), AllocError> {
+    scenario.layer = call.layer().unwrap_or(scenario.layer);
+    let mut copy = copy_of(
+        alloc,
+        &scenario.host,
+        (Choice::New, Choice::New),
+        scenario.room,
+        Some(number),
+    )?;
+    let mut stores = opened_on_copy(alloc, &scenario.host, scenario.room, scenario.layer)?;
+    scenario.answer.clear();
+    let called = call_store(alloc, &mut stores, &mut copy, call, &mut scenario.answer);
+    scenario.stopped = Some(copy);
+    called
 }
 
-// The bytes of a batch to which this was done.
-fn damaged(alloc: Global, bytes: Vec<u8>, damage: Damage<'_>) -> Result<Vec<u8>, AllocError> {
-    let mut bytes = bytes;
-    match damage {
-        Damage::Altered(place, byte) => Alteration::Byte(place, place, byte).alter(
-            &mut bytes, place,
-        ),
-        Damage::Shortened(count) => bytes.truncate(count),
-        Damage::Lengthened(more) => bytes.extend_from_slice(&bytes_of(alloc, more)?)?,
-    }
-    Ok(bytes)
-}
-
-// Reads the rows of lines through their batch and by themselves: a state that they make has the other rows.
-fn judge_rows(alloc: Global, lines: &[String], rows: &[String], wanted: &str) -> Difference {
-    let bytes = spelling(alloc, lines)?;
-    let found = spelled(alloc, &bytes, &spelling(alloc, rows)?)?;
-    if found != wanted {
-        return Ok(Some(found.as_bytes().to_vec(alloc)?));
-    }
-    differs(alloc, made(alloc, lines, rows)?.as_bytes(), wanted)
+// What is opened on a copy of the host.
+fn opened_on_copy(
+    alloc: Global,
+    host: &ScenarioHost,
+    room: usize,
+    layer: Layer,
+) -> Result<Stores, AllocError> {
+    let mut copy = copy_of(alloc, host, (Choice::New, Choice::New), room, None)?;
+    let mut stores = Stores::new();
+    let mut answer = Vec::new(alloc);
+    open_store(alloc, &mut stores, &mut copy, layer, &mut answer)?;
+    Ok(stores)
 }

@@ -1,21 +1,16 @@
-//! Calls on journals, pairs and row stores.
-ghost use Rattle.std.specs.Prelude.{◌≤◌, length, IfOk, IsTrue};
-ghost use Rattle.gate_journal.specs.declared.frame.TheConstants.{MAX_PAYLOAD};
-ghost use Rattle.pair_store.specs.declared.mark.TheConstants.{MAX_WHOLE};
-ghost use Rattle.row_batches.specs.Batch.{applied, batch_text, whole_of};
-ghost use Rattle.row_store.specs.Ready.{IsReadyFor};
-
-use crate::batches::{bytes_of_rows, read_batch};
-use crate::framed::{JournalFramed, PairFramed, frame_of, on_journal, on_pair};
-use crate::hosts::{HostCall, ScenarioHost, done_text, number_text};
-use crate::text::{Answer, bytes_of, cut, number, side};
-use gate_journal::{Frame, Journal, MAX_PAYLOAD};
+//! Calls on journals and pairs, and which store a call is for.
+use crate::framed::{
+    JournalFramed, PairFramed, add_reply, frame_of, on_journal as reply_of_journal,
+    on_pair as reply_of_pair,
+};
+use crate::hosts::{HostCall, ScenarioHost, call_host};
+use crate::row_stores::{add_all, add_value, commit, make_rows, open_rows, open_state, prepare};
+use crate::text::{add_done, add_fault, add_number, byte, cut, side};
+use gate_journal::{Frame, Journal};
 use host_model::Side;
 use pair_store::{MAX_WHOLE, PairStore};
-use row_batches::Batch;
-use row_store::{Ready, RowStore};
+use row_store::RowStore;
 use sequences::Sequence;
-use state_codec::{CodecFault, state_of};
 use std::alloc::{AllocError, Global};
 
 /// The journal, the pair and the row store of a scenario, where it has one.
@@ -27,7 +22,7 @@ pub(crate) struct Stores {
 }
 
 /// A layer that keeps a list, a map or a state on sides.
-#[derive(Clone, Copy, Debug, PartialEq, Eq)]
+#[derive(Clone, Copy)]
 pub(crate) enum Layer {
     Journal,
     Pair,
@@ -94,11 +89,7 @@ fn journal_call<'a>(call: &str, rest: &'a str) -> Option<Call<'a>> {
     let (name, behind) = cut(rest);
     let (generation, first) = cut(behind);
     match call {
-        "make" => Some(Call::JournalMake(
-            side(name)?,
-            u8::try_from(number(generation)?).ok()?,
-            first,
-        )),
+        "make" => Some(Call::JournalMake(side(name)?, byte(generation)?, first)),
         "open" => Some(Call::JournalOpen(side(name)?)),
         "append" => Some(Call::JournalFramed(JournalFramed::Append, rest)),
         "close" => Some(Call::JournalClose(side(name)?)),
@@ -141,273 +132,245 @@ impl Stores {
             rows: None,
         }
     }
+}
 
-    /// Makes a call, and gives its answer.
-    pub(crate) fn answer(
-        &mut self,
-        alloc: Global,
-        host: &mut ScenarioHost,
-        call: Call<'_>,
-    ) -> Answer {
-        match call {
-            Call::Host(call) => call.answer(alloc, host),
-            Call::JournalMake(side, generation, first) => {
-                self.make_journal(alloc, host, side, generation, first)
-            }
-            Call::JournalOpen(side) => self.open_journal(alloc, host, side),
-            Call::JournalFramed(call, payload) => self.on_journal(alloc, host, call, payload),
-            Call::JournalClose(side) => done_text(alloc, Journal::close(host, side).is_ok()),
-            Call::JournalGeneration => self.generation(alloc),
-            Call::PairMake(first) => self.make_pair(alloc, host, first),
-            Call::PairOpen => self.open_pair(alloc, host),
-            Call::PairFramed(call, payload) => self.on_pair(alloc, host, call, payload),
-            Call::RowsMake(changes) => make_rows(alloc, host, changes),
-            Call::RowsOpen => self.open_rows(alloc, host),
-            Call::RowsPrepare(changes) => self.prepare(alloc, changes),
-            Call::RowsCommit(changes) => self.commit(alloc, host, changes),
-            Call::RowsGet(key) => self.get(alloc, key),
-            Call::RowsAll => self.all_rows(alloc),
-            Call::RowsState => self.open_state(alloc, host),
+/// Makes a call, and adds its answer.
+pub(crate) fn call_store(
+    alloc: Global,
+    stores: &mut Stores,
+    host: &mut ScenarioHost,
+    call: Call<'_>,
+    answer: &mut Vec<u8>,
+) -> Result<(), AllocError> {
+    match call {
+        Call::Host(call) => call_host(alloc, host, call, answer),
+        Call::PairMake(first) => make_pair(alloc, &mut stores.pair, host, first, answer),
+        Call::PairOpen => open_pair(alloc, &mut stores.pair, host, answer),
+        Call::PairFramed(call, payload) => {
+            call_pair(alloc, &mut stores.pair, host, call, payload, answer)
         }
+        Call::RowsMake(changes) => make_rows(alloc, host, changes, answer),
+        Call::RowsOpen
+        | Call::RowsPrepare(_)
+        | Call::RowsCommit(_)
+        | Call::RowsGet(_)
+        | Call::RowsAll
+        | Call::RowsState => call_rows(alloc, &mut stores.rows, host, call, answer),
+        _ => call_journal(alloc, &mut stores.journal, host, call, answer),
     }
+}
 
-    /// Opens what stands on the sides, and gives the answer.
-    pub(crate) fn open(&mut self, alloc: Global, host: &mut ScenarioHost, layer: Layer) -> Answer {
-        match layer {
-            Layer::Journal => self.open_journal(alloc, host, Side::Left),
-            Layer::Pair => self.open_pair(alloc, host),
-            Layer::Rows => self.open_rows(alloc, host),
-            Layer::State => self.open_state(alloc, host),
+fn call_journal(
+    alloc: Global,
+    journal: &mut Option<Journal>,
+    host: &mut ScenarioHost,
+    call: Call<'_>,
+    answer: &mut Vec<u8>,
+) -> Result<(), AllocError> {
+    match call {
+        Call::JournalMake(side, generation, first) => {
+            make_journal(alloc, journal, host, side, generation, first, answer)
         }
-    }
-
-    fn make_journal(
-        &mut self,
-        alloc: Global,
-        host: &mut ScenarioHost,
-        side: Side,
-        generation: u8,
-        first: &str,
-    ) -> Answer {
-        let Some(first) = frame_of(alloc, first)? else {
-            return b"TooLong".to_vec(alloc);
-        };
-        if generation > 2 || first.bytes() > MAX_WHOLE as u64 {
-            return b"no such making".to_vec(alloc);
+        Call::JournalOpen(side) => open_journal(alloc, journal, host, side, answer),
+        Call::JournalFramed(call, payload) => {
+            call_on_journal(alloc, journal, host, call, payload, answer)
         }
-        self.journal = Journal::make(host, side, generation, &first).ok();
-        done_text(alloc, self.journal.is_some())
+        Call::JournalClose(side) => add_done(Journal::close(host, side).is_ok(), answer),
+        _ => add_generation(alloc, journal, answer),
     }
+}
 
-    fn open_journal(&mut self, alloc: Global, host: &mut ScenarioHost, side: Side) -> Answer {
-        match Journal::open(alloc, host, side) {
-            Ok((journal, payloads)) => {
-                let mut text = number_text(alloc, u64::from(journal.generation()))?;
-                self.journal = Some(journal);
-                add_payloads(&mut text, &payloads)?;
-                Ok(text)
-            }
-            Err(fault) => Ok(format!(in alloc; "{fault:?}")?.into_bytes()),
+fn call_rows(
+    alloc: Global,
+    rows: &mut Option<RowStore>,
+    host: &mut ScenarioHost,
+    call: Call<'_>,
+    answer: &mut Vec<u8>,
+) -> Result<(), AllocError> {
+    match call {
+        Call::RowsOpen => open_rows(alloc, rows, host, answer),
+        Call::RowsPrepare(changes) => prepare(alloc, rows, changes, answer),
+        Call::RowsCommit(changes) => commit(alloc, rows, host, changes, answer),
+        Call::RowsGet(key) => add_value(alloc, rows, key, answer),
+        Call::RowsState => open_state(alloc, rows, host, answer),
+        _ => add_all(rows, answer),
+    }
+}
+
+/// Opens what stands on the sides, and adds the answer.
+pub(crate) fn open_store(
+    alloc: Global,
+    stores: &mut Stores,
+    host: &mut ScenarioHost,
+    layer: Layer,
+    answer: &mut Vec<u8>,
+) -> Result<(), AllocError> {
+    match layer {
+        Layer::Journal => open_journal(alloc, &mut stores.journal, host, Side::Left, answer),
+        Layer::Pair => open_pair(alloc, &mut stores.pair, host, answer),
+        Layer::Rows => open_rows(alloc, &mut stores.rows, host, answer),
+        Layer::State => open_state(alloc, &mut stores.rows, host, answer),
+    }
+}
+
+fn make_journal(
+    alloc: Global,
+    journal: &mut Option<Journal>,
+    host: &mut ScenarioHost,
+    side: Side,
+    generation: u8,
+    first: &str,
+    answer: &mut Vec<u8>,
+) -> Result<(), AllocError> {
+    match frame_of(alloc, first)? {
+        None => answer.extend_from_slice(b"TooLong"),
+        Some(first) if generation > 2 || first.bytes() > MAX_WHOLE as u64 => {
+            answer.extend_from_slice(b"no such making")
         }
-    }
-
-    fn on_journal(
-        &mut self,
-        alloc: Global,
-        host: &mut ScenarioHost,
-        call: JournalFramed,
-        payload: &str,
-    ) -> Answer {
-        match (&mut self.journal, frame_of(alloc, payload)?) {
-            (Some(journal), Some(frame)) => on_journal(host, journal, call, &frame).text(alloc),
-            (None, _) => b"no journal".to_vec(alloc),
-            (_, None) => b"TooLong".to_vec(alloc),
-        }
-    }
-
-    fn generation(&self, alloc: Global) -> Answer {
-        match &self.journal {
-            Some(journal) => number_text(alloc, u64::from(journal.generation())),
-            None => b"no journal".to_vec(alloc),
-        }
-    }
-
-    fn make_pair(&mut self, alloc: Global, host: &mut ScenarioHost, first: &str) -> Answer {
-        let Some(first) = frame_of(alloc, first)? else {
-            return b"TooLong".to_vec(alloc);
-        };
-        if first.bytes() > MAX_WHOLE as u64 {
-            return b"TooLong".to_vec(alloc);
-        }
-        self.pair = PairStore::make(host, &first).ok();
-        done_text(alloc, self.pair.is_some())
-    }
-
-    fn open_pair(&mut self, alloc: Global, host: &mut ScenarioHost) -> Answer {
-        match PairStore::open(alloc, host) {
-            Ok((pair, payloads)) => {
-                self.pair = Some(pair);
-                let mut text = b"has".to_vec(alloc)?;
-                add_payloads(&mut text, &payloads)?;
-                Ok(text)
-            }
-            Err(fault) => Ok(format!(in alloc; "{fault:?}")?.into_bytes()),
-        }
-    }
-
-    fn on_pair(
-        &mut self,
-        alloc: Global,
-        host: &mut ScenarioHost,
-        call: PairFramed,
-        payload: &str,
-    ) -> Answer {
-        match (&mut self.pair, frame_of(alloc, payload)?) {
-            (Some(pair), Some(frame)) => on_pair(host, pair, call, &frame).text(alloc),
-            (None, _) => b"no pair".to_vec(alloc),
-            (_, None) => b"TooLong".to_vec(alloc),
-        }
-    }
-
-    fn open_rows(&mut self, alloc: Global, host: &mut ScenarioHost) -> Answer {
-        match RowStore::open(alloc, host) {
-            Ok(rows) => {
-                self.rows = Some(rows);
-                self.all_rows(alloc)
-            }
-            Err(fault) => Ok(format!(in alloc; "{fault:?}")?.into_bytes()),
-        }
-    }
-
-    // Opens the rows, and tells whether they are a state's.
-    fn open_state(&mut self, alloc: Global, host: &mut ScenarioHost) -> Answer {
-        match RowStore::open(alloc, host) {
-            Ok(rows) => {
-                let answer = match state_of(alloc, rows.rows()) {
-                    Ok(_) => b"state".to_vec(alloc),
-                    Err(CodecFault::NotAState) => b"NotAState".to_vec(alloc),
-                    Err(CodecFault::OutOfMemory) => Err(AllocError),
-                };
-                self.rows = Some(rows);
-                answer
-            }
-            Err(fault) => Ok(format!(in alloc; "{fault:?}")?.into_bytes()),
-        }
-    }
-
-    fn all_rows(&self, alloc: Global) -> Answer {
-        match &self.rows {
-            Some(rows) => bytes_of_rows(alloc, rows.rows()),
-            None => b"no rows".to_vec(alloc),
-        }
-    }
-
-    fn get(&self, alloc: Global, key: &str) -> Answer {
-        let key = bytes_of(alloc, key)?;
-        match &self.rows {
-            Some(rows) => match rows.get(&key) {
-                Some(value) => value.to_vec(alloc),
-                None => b"none".to_vec(alloc),
-            },
-            None => b"no rows".to_vec(alloc),
-        }
-    }
-
-    // Makes a batch ready, and lets it go.
-    fn prepare(&mut self, alloc: Global, changes: &str) -> Answer {
-        let Some(rows) = &mut self.rows else {
-            return b"no rows".to_vec(alloc);
-        };
-        match ready_in(alloc, rows, changes) {
-            Ok(_) => b"Ok".to_vec(alloc),
-            Err(unready) => unready.text(alloc),
-        }
-    }
-
-    // Makes a batch ready, and commits it.
-    fn commit(&mut self, alloc: Global, host: &mut ScenarioHost, changes: &str) -> Answer {
-        let Some(rows) = &mut self.rows else {
-            return b"no rows".to_vec(alloc);
-        };
-        match ready_in(alloc, rows, changes) {
-            Ok(ready) => done_text(alloc, rows.commit(host, ready).is_ok()),
-            Err(unready) => unready.text(alloc),
+        Some(first) => {
+            *journal = Journal::make(host, side, generation, &first).ok();
+            add_done(journal.is_some(), answer)
         }
     }
 }
 
-// Why a batch was not made ready.
-#[derive(Clone, Copy)]
-enum Unready {
-    NoBatch,
-    TooLong,
-    // `prepare` was refused memory.
-    OutOfMemory,
-    // The scenario was.
-    NoScenario,
-}
-
-impl From<AllocError> for Unready {
-    fn from(_: AllocError) -> Self {
-        Unready::NoScenario
-    }
-}
-
-impl Unready {
-    fn text(self, alloc: Global) -> Answer {
-        match self {
-            Unready::NoBatch => b"no batch".to_vec(alloc),
-            Unready::TooLong => b"TooLong".to_vec(alloc),
-            Unready::OutOfMemory => b"OutOfMemory".to_vec(alloc),
-            Unready::NoScenario => Err(AllocError),
+fn open_journal(
+    alloc: Global,
+    journal: &mut Option<Journal>,
+    host: &mut ScenarioHost,
+    side: Side,
+    answer: &mut Vec<u8>,
+) -> Result<(), AllocError> {
+    match Journal::open(alloc, host, side) {
+        Ok((opened, payloads)) => {
+            let generation = opened.generation();
+            *journal = Some(opened);
+            add_opened(alloc, generation, payloads.as_slice(), answer)
         }
+        Err(fault) => add_fault(alloc, &fault, answer),
     }
 }
 
-// Makes a batch ready.
-fn ready_in(alloc: Global, rows: &mut RowStore, changes: &str) -> Result<Ready, Unready>
-    ensures { IfOk result (λ ready. IsReadyFor rows.new ready) }
-{
-    let Some(batch) = read_batch(alloc, changes)? else {
-        return Err(Unready::NoBatch);
-    };
-    if !fits(alloc, rows, &batch)? {
-        return Err(Unready::TooLong);
-    }
-    match rows.prepare(alloc, &batch) {
-        Ok(ready) => Ok(ready),
-        Err(AllocError) => Err(Unready::OutOfMemory),
+fn add_opened(
+    alloc: Global,
+    generation: u8,
+    payloads: &[Sequence<u8>],
+    answer: &mut Vec<u8>,
+) -> Result<(), AllocError> {
+    add_number(alloc, u64::from(generation), answer)?;
+    add_payloads(payloads, answer)
+}
+
+fn call_on_journal(
+    alloc: Global,
+    journal: &mut Option<Journal>,
+    host: &mut ScenarioHost,
+    call: JournalFramed,
+    payload: &str,
+    answer: &mut Vec<u8>,
+) -> Result<(), AllocError> {
+    match journal {
+        Some(journal) => match frame_of(alloc, payload)? {
+            Some(frame) => add_journal_reply(alloc, journal, host, call, &frame, answer),
+            None => answer.extend_from_slice(b"TooLong"),
+        },
+        None => answer.extend_from_slice(b"no journal"),
     }
 }
 
-// Makes a row store of the puts behind a clear.
-fn make_rows(alloc: Global, host: &mut ScenarioHost, changes: &str) -> Answer {
-    let Some(whole) = read_batch(alloc, changes)? else {
-        return b"no batch".to_vec(alloc);
-    };
-    if !whole.is_clear() || whole.size() > MAX_WHOLE as u128 {
-        return b"no such making".to_vec(alloc);
-    }
-    match RowStore::make(alloc, host, &whole) {
-        Ok(()) => b"Ok".to_vec(alloc),
-        Err(fault) => Ok(format!(in alloc; "{fault:?}")?.into_bytes()),
+fn add_journal_reply(
+    alloc: Global,
+    journal: &mut Journal,
+    host: &mut ScenarioHost,
+    call: JournalFramed,
+    frame: &Frame,
+    answer: &mut Vec<u8>,
+) -> Result<(), AllocError> {
+    let reply = reply_of_journal(host, journal, call, frame);
+    add_reply(alloc, reply, answer)
+}
+
+fn add_generation(
+    alloc: Global,
+    journal: &Option<Journal>,
+    answer: &mut Vec<u8>,
+) -> Result<(), AllocError> {
+    match journal {
+        Some(journal) => add_number(alloc, u64::from(journal.generation()), answer),
+        None => answer.extend_from_slice(b"no journal"),
     }
 }
 
-// Whether a batch and the whole of the rows behind it are short enough.
-fn fits(alloc: Global, rows: &RowStore, batch: &Batch) -> Result<bool, AllocError>
-    ensures size { IfOk result (λ fits. IsTrue fits → length (batch_text batch.now) ≤ MAX_PAYLOAD) }
-    ensures whole_size { IfOk result (λ fits. IsTrue fits → length (batch_text (whole_of (applied batch.now rows.now.rows))) ≤ MAX_WHOLE) }
-{
-    let whole = batch.whole_after(alloc, rows.rows())?;
-    Ok(batch.size() <= MAX_PAYLOAD as u128 && whole.len() <= MAX_WHOLE)
+fn make_pair(
+    alloc: Global,
+    pair: &mut Option<PairStore>,
+    host: &mut ScenarioHost,
+    first: &str,
+    answer: &mut Vec<u8>,
+) -> Result<(), AllocError> {
+    match frame_of(alloc, first)? {
+        Some(first) if first.bytes() <= MAX_WHOLE as u64 => {
+            *pair = PairStore::make(host, &first).ok();
+            add_done(pair.is_some(), answer)
+        }
+        _ => answer.extend_from_slice(b"TooLong"),
+    }
+}
+
+fn open_pair(
+    alloc: Global,
+    pair: &mut Option<PairStore>,
+    host: &mut ScenarioHost,
+    answer: &mut Vec<u8>,
+) -> Result<(), AllocError> {
+    match PairStore::open(alloc, host) {
+        Ok((opened, payloads)) => {
+            *pair = Some(opened);
+            add_has(payloads.as_slice(), answer)
+        }
+        Err(fault) => add_fault(alloc, &fault, answer),
+    }
+}
+
+fn add_has(payloads: &[Sequence<u8>], answer: &mut Vec<u8>) -> Result<(), AllocError> {
+    answer.extend_from_slice(b"has")?;
+    add_payloads(payloads, answer)
+}
+
+fn call_pair(
+    alloc: Global,
+    pair: &mut Option<PairStore>,
+    host: &mut ScenarioHost,
+    call: PairFramed,
+    payload: &str,
+    answer: &mut Vec<u8>,
+) -> Result<(), AllocError> {
+    match pair {
+        Some(pair) => match frame_of(alloc, payload)? {
+            Some(frame) => add_pair_reply(alloc, pair, host, call, &frame, answer),
+            None => answer.extend_from_slice(b"TooLong"),
+        },
+        None => answer.extend_from_slice(b"no pair"),
+    }
+}
+
+fn add_pair_reply(
+    alloc: Global,
+    pair: &mut PairStore,
+    host: &mut ScenarioHost,
+    call: PairFramed,
+    frame: &Frame,
+    answer: &mut Vec<u8>,
+) -> Result<(), AllocError> {
+    let reply = reply_of_pair(host, pair, call, frame);
+    add_reply(alloc, reply, answer)
 }
 
 // Adds the payloads, each behind a space.
-fn add_payloads(text: &mut Vec<u8>, payloads: &Sequence<Sequence<u8>>) -> Result<(), AllocError> {
-    for payload in payloads.as_slice() {
-        text.push(b' ')?;
-        text.extend_from_slice(payload.as_slice())?;
+fn add_payloads(payloads: &[Sequence<u8>], answer: &mut Vec<u8>) -> Result<(), AllocError> {
+    for payload in payloads {
+        answer.extend_from_slice(b" ")?;
+        answer.extend_from_slice(payload.as_slice())?;
     }
     Ok(())
 }
