@@ -11,3 +11,6 @@ pub mod Takings
 pub mod Enrolments
 pub mod Holdings
 pub mod Answered
+pub mod Alls
+pub mod Rising
+pub mod SoundEnrolments

@@ -16,3 +16,4 @@ pub mod Joining
 pub mod Least
 pub mod Transitions
 pub mod Laws
+pub mod SoundParts

@@ -12,7 +12,7 @@ use Rattle.state_codec.specs.declared.state_reading.Last.{Last}
 use Rattle.row_batches.specs.declared.store_row.StoreRow.{StoreRow}
 use Rattle.state_values.specs.Outcome.{◌>>=◌}
 use Rattle.state_values.specs.Reading.{slug_in, text_in, number_in, flag_in, participation_in, id_in, recipe_in, status_in}
-use Rattle.state_soundness.specs.SoundParts.{AreValidIf}
+use Rattle.enrol_states.specs.SoundParts.{AreValidIf}
 use Rattle.state_codec.specs.Folds.{folded, keeping}
 
 -- ---- rows

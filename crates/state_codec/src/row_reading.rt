@@ -3,7 +3,7 @@ ghost use Rattle.std.specs.Prelude.{◌≡◌, ◌↔◌, IfOk, IsErrOf, IsTrue}
 ghost use Rattle.recipe_reader.specs.Payloads.{AreValid};
 ghost use Rattle.enrol_states.specs.declared.state.State.{State};
 ghost use Rattle.state_codec.specs.Forms.{IsForm, IsLaterForm, IsOldLater, AreParts};
-ghost use Rattle.state_soundness.specs.SoundParts.{AreValidIf};
+ghost use Rattle.enrol_states.specs.SoundParts.{AreValidIf};
 ghost use Rattle.state_codec.specs.Reading.{before_id, from_id, is_of_id};
 ghost use Rattle.state_codec.specs.Sound.{IsSound};
 
@@ -13,9 +13,8 @@ use crate::row_making::bit;
 use crate::rows::{first_rows_of, later_rows, later_rows_of};
 use crate::size::state_size;
 use crate::state_reading::state_in;
-use enrol_states::State;
+use enrol_states::{State, is_consistent};
 use row_batches::StoreRow;
-use state_soundness::is_consistent;
 use state_values::CodecFault;
 use std::alloc::{AllocError, Global};
 

@@ -3,7 +3,7 @@ ghost use Rattle.std.specs.Prelude.{◌≡◌, IfOk};
 ghost use Rattle.recipe_reader.specs.Payloads.{AreValid};
 ghost use Rattle.state_codec.specs.Kinds.{letter};
 ghost use Rattle.state_values.specs.Outcome.{Gives};
-ghost use Rattle.state_soundness.specs.SoundParts.{AreValidIf};
+ghost use Rattle.enrol_states.specs.SoundParts.{AreValidIf};
 ghost use Rattle.state_codec.specs.Reading.{id_under, participation_under, version_under, number_under, flag_under, pending_if, lists_in, recipes_in, last_in, state_in, HaveValid};
 
 use crate::row_kind::RowKind;

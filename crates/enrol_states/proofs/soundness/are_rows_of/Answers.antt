@@ -1,8 +1,8 @@
 -- One row more.
 use Rattle.std.proofs.Common.{refl}
-use Rattle.state_soundness.specs.SoundParts.{IsRowOf}
-use Rattle.state_soundness.proofs.Alls.{all_more, all_taken}
-use Rattle.state_soundness.proofs.soundness.are_rows_of.Goals as goal
+use Rattle.enrol_states.specs.SoundParts.{IsRowOf}
+use Rattle.enrol_states.proofs.Alls.{all_more, all_taken}
+use Rattle.enrol_states.proofs.soundness.are_rows_of.Goals as goal
 
 pub loop-row-preserved : goal.loop-row-preserved
 loop-row-preserved c =

@@ -1,6 +1,6 @@
 -- A client that takes part.
-use Rattle.state_soundness.proofs.Enrolments.{enrolled_fits, may_be_enrolled_where}
-use Rattle.state_soundness.proofs.soundness.is_row_of.Goals as goal
+use Rattle.enrol_states.proofs.SoundEnrolments.{enrolled_fits, may_be_enrolled_where}
+use Rattle.enrol_states.proofs.soundness.is_row_of.Goals as goal
 
 pub returns-in-Enrolled : goal.returns-in-Enrolled
 returns-in-Enrolled c =

@@ -3,8 +3,8 @@ use Rattle.std.proofs.Common.{◌≡◌, List, ℕ, Option, Some, None, refl, sy
 use Rattle.std.specs.Prelude.{option_map}
 use Rattle.std.specs.Option.{is_some}
 use Rattle.recipe_reader.specs.Payloads.{recipe_with}
-use Rattle.state_soundness.proofs.Enrolments.{is_some-recipe_with}
-use Rattle.state_soundness.proofs.soundness.has_recipe.Goals as goal
+use Rattle.enrol_states.proofs.SoundEnrolments.{is_some-recipe_with}
+use Rattle.enrol_states.proofs.soundness.has_recipe.Goals as goal
 
 is_some-map : {A B : Type 0} (f : A → B) (o : Option A) → is_some (option_map f o) ≡ is_some o
 is_some-map f None = refl

@@ -8,11 +8,11 @@ ghost use Rattle.enrol_states.specs.Statuses.{IsSlug};
 ghost use Rattle.enrol_states.specs.Participation.{may_take_part};
 ghost use Rattle.enrol_states.specs.Recipes.{offers};
 ghost use Rattle.enrol_states.specs.Consistent.{IsConsistent, AreKept, ArePending};
-ghost use Rattle.state_soundness.specs.SoundParts.{AreValidIf, HasMoments, HasOptOuts, HasFeatures, HasRecipes, IsRowOf, HasRows, MayBeEnrolled};
+ghost use Rattle.enrol_states.specs.SoundParts.{AreValidIf, HasMoments, HasOptOuts, HasFeatures, HasRecipes, IsRowOf, HasRows, MayBeEnrolled};
 
-use enrol_states::{
-    LAST_MOMENT, MAX_OPTED_OUT, MAX_RECIPES, Row, State, Status, id_fits, is_exclusive, slug_fits,
-};
+use crate::exclusive::is_exclusive;
+use crate::state::{LAST_MOMENT, MAX_OPTED_OUT, MAX_RECIPES, Row, State, id_fits, slug_fits};
+use crate::status::Status;
 use plain_text::{Slug, is_name};
 use recipe_reader::Recipes;
 use sequences::Text;

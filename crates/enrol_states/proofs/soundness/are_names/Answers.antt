@@ -1,8 +1,8 @@
 -- One name more.
 use Rattle.std.proofs.Common.{List, ℕ, IsTrue, refl, ◌∙◌}
 use Rattle.plain_text.specs.Names.{is_name}
-use Rattle.state_soundness.proofs.Alls.{all_more, all_taken}
-use Rattle.state_soundness.proofs.soundness.are_names.Goals as goal
+use Rattle.enrol_states.proofs.Alls.{all_more, all_taken}
+use Rattle.enrol_states.proofs.soundness.are_names.Goals as goal
 
 abbrev IsName : List ℕ → Type 0
 IsName name = IsTrue (is_name name)

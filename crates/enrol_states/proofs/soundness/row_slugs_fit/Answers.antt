@@ -1,8 +1,8 @@
 -- One row more.
 use Rattle.enrol_states.specs.Statuses.{IsSlug}
 use Rattle.enrol_states.specs.declared.state.Row.{Row}
-use Rattle.state_soundness.proofs.Alls.{all_more, all_taken}
-use Rattle.state_soundness.proofs.soundness.row_slugs_fit.Goals as goal
+use Rattle.enrol_states.proofs.Alls.{all_more, all_taken}
+use Rattle.enrol_states.proofs.soundness.row_slugs_fit.Goals as goal
 
 abbrev HasSlug : Row → Type 0
 HasSlug row = IsSlug row.slug

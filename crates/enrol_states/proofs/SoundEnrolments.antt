@@ -10,7 +10,7 @@ use Rattle.enrol_states.specs.declared.state.Row.{Row}
 use Rattle.enrol_states.specs.declared.status.Status.{Status}
 use Rattle.enrol_states.specs.declared.status.Status.TheVariants.{Enrolled}
 use Rattle.enrol_states.specs.declared.status.EnrolledReason.{EnrolledReason}
-use Rattle.state_soundness.specs.SoundParts.{MayBeEnrolled, IsRowOf}
+use Rattle.enrol_states.specs.SoundParts.{MayBeEnrolled, IsRowOf}
 
 one_or_later : (b : Bool) (r : Recipe) (later : Option Recipe) (has : Bool) → is_some later ≡ has → is_some (if b then Some r else later) ≡ (b || has)
 one_or_later true r later has same = refl

@@ -1,6 +1,6 @@
 use Rattle.std.proofs.Common.{All, take}
 use Rattle.enrol_states.specs.Statuses.{IsSlug}
-use Rattle.state_soundness.proofs.soundness.slugs_fit.Given as goal
+use Rattle.enrol_states.proofs.soundness.slugs_fit.Given as goal
 
 abbrev pub invariant-loop-slug : goal.invariant-loop-slug
 invariant-loop-slug l = All IsSlug (take l.slug-index l.slugs)

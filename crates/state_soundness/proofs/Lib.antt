@@ -1,3 +1,0 @@
-pub mod Alls
-pub mod Rising
-pub mod Enrolments
