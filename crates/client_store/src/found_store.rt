@@ -71,6 +71,7 @@ impl FoundStore {
         ensures below { H.tells → MeetsAll H.Host host.old host.new (StaysBelow H.Host host.old) }
         ensures cost { H.tells → HasCost (repair_cost (H.reads host.old Left) (H.reads host.old Right)) (H.written host.old) (H.written host.new) result }
         ensures cause { IsErrOf result ClientFault.DiskFault → Rose (H.disk_faults host.old) (H.disk_faults host.new) }
+        ensures disk_quiet { ¬ IsErrOf result ClientFault.DiskFault → H.disk_faults host.new ≡ H.disk_faults host.old }
         ensures disk_faults { H.disk_faults host.old ≤ H.disk_faults host.new }
         ensures say_faults { H.say_faults host.new ≡ H.say_faults host.old }
     {
@@ -102,6 +103,7 @@ impl FoundStore {
         ensures place { IfOk result (λ store. place store.rows ≡ place_opened (needs_migration self.rows.rows) (place self.rows) self.state) }
         ensures cost { H.tells → HasCost (opening_bytes (needs_migration self.rows.rows) (place self.rows) self.state) (H.written host.old) (H.written host.new) result }
         ensures cause { IsErrOf result ClientFault.DiskFault → Rose (H.disk_faults host.old) (H.disk_faults host.new) }
+        ensures disk_quiet { ¬ IsErrOf result ClientFault.DiskFault → H.disk_faults host.new ≡ H.disk_faults host.old }
         ensures disk_faults { H.disk_faults host.old ≤ H.disk_faults host.new }
         ensures say_faults { H.say_faults host.new ≡ H.say_faults host.old }
     {
@@ -149,6 +151,7 @@ fn migrate<H: Host>(
     ensures place { OnOk result (place rows.new ≡ place_migrated (place rows.old) state.now) }
     ensures cost { H.tells → HasCost (migration_bytes (place rows.old) state.now) (H.written host.old) (H.written host.new) result }
     ensures cause { IsErrOf result ClientFault.DiskFault → Rose (H.disk_faults host.old) (H.disk_faults host.new) }
+    ensures disk_quiet { ¬ IsErrOf result ClientFault.DiskFault → H.disk_faults host.new ≡ H.disk_faults host.old }
     ensures disk_faults { H.disk_faults host.old ≤ H.disk_faults host.new }
     ensures say_faults { H.say_faults host.new ≡ H.say_faults host.old }
 {

@@ -80,6 +80,7 @@ impl RowStore {
 
         ensures cost { H.tells → HasCost (length (batch_text whole.now) + 17) (H.written host.old) (H.written host.new) result }
         ensures cause { IsErrOf result RowMakeFault.DiskFault → Rose (H.disk_faults host.old) (H.disk_faults host.new) }
+        ensures disk_quiet { ¬ IsErrOf result RowMakeFault.DiskFault → H.disk_faults host.new ≡ H.disk_faults host.old }
         ensures disk_faults { H.disk_faults host.old ≤ H.disk_faults host.new }
         ensures say_faults { H.say_faults host.new ≡ H.say_faults host.old }
     {
@@ -126,6 +127,7 @@ impl RowStore {
 
         ensures cost { H.tells → HasCost (repair_cost (H.reads host.old Left) (H.reads host.old Right)) (H.written host.old) (H.written host.new) result }
         ensures cause { IsErrOf result PairFault.DiskFault → Rose (H.disk_faults host.old) (H.disk_faults host.new) }
+        ensures disk_quiet { ¬ IsErrOf result PairFault.DiskFault → H.disk_faults host.new ≡ H.disk_faults host.old }
         ensures disk_faults { H.disk_faults host.old ≤ H.disk_faults host.new }
         ensures say_faults { H.say_faults host.new ≡ H.say_faults host.old }
     {
@@ -220,6 +222,7 @@ impl RowStore {
         ensures place { OnOk result (place self.new ≡ place_after ready (place self.old)) }
         ensures cost { H.tells → HasCost (commit_cost ready) (H.written host.old) (H.written host.new) result }
         ensures cause { HasCause (H.disk_faults host.old) (H.disk_faults host.new) result }
+        ensures disk_quiet { OnOk result (H.disk_faults host.new ≡ H.disk_faults host.old) }
         ensures say_faults { H.say_faults host.new ≡ H.say_faults host.old }
     {
         let Ready {
@@ -244,6 +247,7 @@ fn make_pair<H: Host>(host: &mut H, first: &Frame) -> Result<(), DiskFailed>
     ensures below { H.tells → MeetsAll H.Host host.old host.new (StaysBelow H.Host host.old) }
     ensures cost { H.tells → HasCost (length first.now + 17) (H.written host.old) (H.written host.new) result }
     ensures cause { HasCause (H.disk_faults host.old) (H.disk_faults host.new) result }
+    ensures disk_quiet { OnOk result (H.disk_faults host.new ≡ H.disk_faults host.old) }
     ensures say_faults { H.say_faults host.new ≡ H.say_faults host.old }
 {
     let _pair = PairStore::make(host, first)?;
