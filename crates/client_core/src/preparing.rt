@@ -133,7 +133,7 @@ impl Client {
             Command::Feature { name } => serving(alloc, self.state(), &self.session, name),
             Command::WriteManifest => writing_manifest(alloc, &self.session),
             Command::Event { name, count } => counting(alloc, self.state(), name, *count, now),
-            Command::Changes => listing_changes(alloc, self.state()),
+            Command::Changes => listing_changes(self.state()),
             Command::Confirm { number } => confirming(self.state(), *number),
             Command::SetPreference { name, value } => self.preferring(alloc, name, Some(value)),
             Command::ClearPreference { name } => self.preferring(alloc, name, None),
