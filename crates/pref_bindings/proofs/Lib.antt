@@ -17,3 +17,6 @@ pub mod Read
 pub mod FoundBindings
 pub mod BindingsRead
 pub mod BoundValues
+pub mod BindingOrder
+pub mod FeatureRanges
+pub mod SameSettings
