@@ -20,3 +20,4 @@ pub mod BoundValues
 pub mod BindingOrder
 pub mod FeatureRanges
 pub mod SameSettings
+pub mod HeldAll
