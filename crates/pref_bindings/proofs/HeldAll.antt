@@ -8,7 +8,7 @@ use Rattle.enrol_states.specs.Order.{Rise, AreAbove}
 use Rattle.enrol_states.proofs.Ordered.{above_trans, equal_texts, lesser_texts, turned_down}
 use Rattle.pref_bindings.specs.declared.preference.Hold.{Hold}
 use Rattle.pref_bindings.specs.declared.preference.Preference.{Preference}
-use Rattle.pref_bindings.specs.Preferences.{AreHeld, IsSound, found, holder_of, names_of}
+use Rattle.pref_bindings.specs.Preferences.{AreHeld, IsSound, holder_of, names_of}
 use Rattle.pref_bindings.specs.Changes.{Setting, is_held, held_by, joined, joined_at, joined_one}
 use Rattle.pref_bindings.proofs.Joins.{one_step}
 use Rattle.pref_bindings.proofs.Order.{turned_even}

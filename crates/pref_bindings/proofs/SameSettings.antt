@@ -1,5 +1,5 @@
 -- What a branch sets is the same in whatever order the bindings of its features are looked up.
-use Rattle.std.proofs.Common.{Ordering, ◌≡◌, ◌⊎◌, inl, inr, ℕ, Bool, true, false, cond, List, [], ◌∷◌, ◌++◌, map, Option, Some, None, Less, Equal, Greater, refl, sym, ap, ◌∙◌, subst}
+use Rattle.std.proofs.Common.{Ordering, ◌≡◌, ◌⊎◌, inl, inr, ℕ, Bool, true, false, cond, List, [], ◌∷◌, ◌++◌, Option, Some, None, Less, Equal, Greater, refl, sym, ap, ◌∙◌, subst}
 use Rattle.std.specs.Prelude.{◌||◌, bytes_eq, find, fold, option_and_then, option_map}
 use Rattle.std.specs.BTreeMap.{insert_entry, is_at}
 use Rattle.std.specs.BTreeSet.{insert_key}
@@ -20,7 +20,7 @@ use Rattle.enrol_states.proofs.Ordered.{same_texts, turned_down}
 use Rattle.enrol_states.proofs.OptOuts.{rise-insert}
 use Rattle.pref_bindings.specs.declared.bindings.Binding.{Binding}
 use Rattle.pref_bindings.specs.Bindings.{Differ, of_feature, preferences_of}
-use Rattle.pref_bindings.specs.Bound.{bound_value, in_order, set_by, setting_of, value_for, variable_of, with_setting}
+use Rattle.pref_bindings.specs.Bound.{bound_value, in_order, setting_of, value_for, variable_of, with_setting}
 use Rattle.pref_bindings.specs.Changes.{Setting}
 use Rattle.pref_bindings.proofs.Joins.{all_above, setting_rest, settings_names}
 

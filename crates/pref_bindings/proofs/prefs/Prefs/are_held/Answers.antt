@@ -1,5 +1,5 @@
 -- One more of which the name is held.
-use Rattle.std.proofs.Common.{◌≡◌, ◌+◌, ◌++◌, ◌∷◌, [], List, ℕ, Option, Some, None, true, not, take, sym, ap, subst, ◌∙◌, refl}
+use Rattle.std.proofs.Common.{◌≡◌, ◌+◌, ◌++◌, ◌∷◌, [], List, Option, Some, None, true, not, take, sym, ap, subst, ◌∙◌, refl}
 use Rattle.std.specs.Prelude.{option_map}
 use Rattle.std.specs.Option.{is_some}
 use Rattle.std.proofs.lemmas.List.{take_all, take_more}
