@@ -34,7 +34,7 @@ use std::alloc::Global;
 /// `fml_imports::single` gives it, links that file for the manifest's channel to an equal manifest,
 /// where the text has at most 4,194,304 bytes.
 ///
-/// `ShelfFault` comes only where the shelf failed in this call. Whatever comes, the shelf has been
+/// `ShelfFault` comes exactly where the shelf failed in this call. Whatever comes, the shelf has been
 /// asked for no file, or for some of which the first is the one of this name.
 #[tactic(auto, using(crate::proofs::Linked::fails_bind), unfolding(crate::specs::Linking::linked))]
 pub fn link<F: Shelf>(
@@ -50,6 +50,7 @@ pub fn link<F: Shelf>(
     ensures files { F.tells → (other : List ℕ) → F.file shelf.new other ≡ F.file shelf.old other }
     ensures cause { IsErrOf result LinkFault.ShelfFault → Rose (F.faults shelf.old) (F.faults shelf.new) }
     ensures faults { F.faults shelf.old ≤ F.faults shelf.new }
+    ensures quiet { ¬ IsErrOf result LinkFault.ShelfFault → F.faults shelf.new ≡ F.faults shelf.old }
     ensures asked { IsAskedFrom F.asks name.now shelf.old shelf.new }
 {
     let files = files_of(alloc, shelf, name, channel)?;

@@ -21,7 +21,7 @@ loop-place-init g c = record {
   modules = subst AreRead (sym c.new-files.ensures) (all_nil (λ (f : Linked). IsRead f.module));
   files = λ tells other. refl;
   asked = refl;
-  faults = omega arith;
+  quiet = refl;
 }
 
 pub returns-in-None-clause-reads : goal.returns-in-None-clause-reads
@@ -50,7 +50,7 @@ loop-place-preserved g c =
       modules = subst AreRead (sym pushed) (all_push (λ (f : Linked). IsRead f.module) files one c.loop-place.invariant.modules c.in_ok-file-in-Some.ensures.read);
       files = λ tells other. c.in_ok-file-in-Some.ensures.files tells other ∙ c.loop-place.invariant.files tells other;
       asked = asked_longer g.F.Shelf.asks c.args.shelf.now c.loop-place.shelf c.linked_file.new.shelf (named_by f.1 one.module) list longer c.loop-place.place f c.in-Some.ensures more c.loop-place.invariant.asked c.in_ok-file-in-Some.ensures.asked;
-      faults = omega (arith, c.loop-place.invariant.faults, c.in_ok-file-in-Some.ensures.faults);
+      quiet = c.in_ok-file-in-Some.ensures.quiet (λ is. absurd cc) ∙ c.loop-place.invariant.quiet;
     }
 
 pub returns-in_err-file-in-Some-clause-asked : goal.returns-in_err-file-in-Some-clause-asked

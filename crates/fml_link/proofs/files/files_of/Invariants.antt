@@ -17,5 +17,5 @@ invariant-loop-place g l = record {
   modules : AreRead l.files;
   files : g.F.Shelf.tells → (other : List ℕ) → g.F.Shelf.file l.shelf other ≡ g.F.Shelf.file l.fn.shelf other;
   asked : IsReached g.F.Shelf.asks l.fn.shelf (names (take l.place l.list.list)) l.shelf;
-  faults : g.F.Shelf.faults l.fn.shelf ≤ g.F.Shelf.faults l.shelf;
+  quiet : g.F.Shelf.faults l.shelf ≡ g.F.Shelf.faults l.fn.shelf;
 }
