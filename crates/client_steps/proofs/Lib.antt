@@ -21,3 +21,4 @@ pub mod Soundness
 pub mod ServedValues
 mod Trees
 mod SoundValues
+pub mod WrittenManifests

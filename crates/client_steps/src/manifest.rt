@@ -3,6 +3,7 @@ ghost use Rattle.std.specs.Prelude.{◌≡◌, ◌≤◌, List, ℕ, IfOk, IsErr
 ghost use Rattle.host_model.specs.Causes.{Rose};
 ghost use Rattle.fml_types.specs.Sound.{IsSoundManifest};
 ghost use Rattle.fml_link.specs.Asked.{IsAskedFrom};
+ghost use Rattle.fml_link.specs.Laws.{LinksBack};
 ghost use Rattle.fml_merge.specs.Faults.{bad_default};
 ghost use Rattle.client_state.specs.declared.client_state.ClientState.{ClientState};
 ghost use Rattle.client_steps.specs.declared.session.Session.{Session};
@@ -88,7 +89,8 @@ fn refusal_of(refusal: LinkRefusal) -> Answer
 
 /// A manifest that is linked, or the refusal of its first default that doesn't fit.
 fn checked(alloc: Global, manifest: Manifest) -> Result<Result<LinkedManifest, Answer>, AllocError>
-    requires { IsSoundManifest manifest }
+    requires sound { IsSoundManifest manifest }
+    requires back { LinksBack manifest }
     ensures { IfOk result (λ found. found ≡ where_fits manifest (bad_default manifest)) }
 {
     manifest.features.as_slice();
