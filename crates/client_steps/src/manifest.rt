@@ -37,6 +37,7 @@ pub fn setting_manifest<F: Shelf>(
     ensures asked { IsAskedFrom F.asks file.now shelf.old shelf.new }
     ensures cause { IsErrOf result StepFault.ShelfFault → Rose (F.faults shelf.old) (F.faults shelf.new) }
     ensures faults { F.faults shelf.old ≤ F.faults shelf.new }
+    ensures quiet { ¬ IsErrOf result StepFault.ShelfFault → F.faults shelf.new ≡ F.faults shelf.old }
 {
     match read_manifest(alloc, shelf, file, channel)? {
         Ok(manifest) => Ok(Asked::in_session(SessionChange::Manifest(manifest))),
@@ -57,6 +58,7 @@ fn read_manifest<F: Shelf>(
     ensures asked { IsAskedFrom F.asks name.now shelf.old shelf.new }
     ensures cause { IsErrOf result StepFault.ShelfFault → Rose (F.faults shelf.old) (F.faults shelf.new) }
     ensures faults { F.faults shelf.old ≤ F.faults shelf.new }
+    ensures quiet { ¬ IsErrOf result StepFault.ShelfFault → F.faults shelf.new ≡ F.faults shelf.old }
 {
     match link(alloc, shelf, name.as_str(), channel.as_str()) {
         Ok(manifest) => Ok(checked(alloc, manifest)?),
