@@ -31,3 +31,4 @@ mod Undone
 mod Values
 mod WordLists
 mod Writing
+mod WrittenManifests
