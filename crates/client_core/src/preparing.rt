@@ -66,6 +66,7 @@ impl Client {
         ensures files { F.tells → (name : List ℕ) → F.file shelf.new name ≡ F.file shelf.old name }
         ensures cause { IsErrOf result StepFault.ShelfFault → Rose (F.faults shelf.old) (F.faults shelf.new) }
         ensures faults { F.faults shelf.old ≤ F.faults shelf.new }
+        ensures quiet { ¬ IsErrOf result StepFault.ShelfFault → F.faults shelf.new ≡ F.faults shelf.old }
     {
         let asked = self.asked(alloc, command, now, table, shelf)?;
         Ok(self.done(alloc, asked)?)
@@ -95,6 +96,7 @@ impl Client {
         ensures files { F.tells → (name : List ℕ) → F.file shelf.new name ≡ F.file shelf.old name }
         ensures cause { IsErrOf result StepFault.ShelfFault → Rose (F.faults shelf.old) (F.faults shelf.new) }
         ensures faults { F.faults shelf.old ≤ F.faults shelf.new }
+        ensures quiet { ¬ IsErrOf result StepFault.ShelfFault → F.faults shelf.new ≡ F.faults shelf.old }
     {
         match command {
             Command::Manifest { file, channel } => setting_manifest(alloc, shelf, file, channel),

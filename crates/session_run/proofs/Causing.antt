@@ -1,9 +1,11 @@
 -- The cause of a fault, as that of the call that met it.
-use Rattle.std.proofs.Common.{◌≡◌, ◌≤◌, refl, sym, ◌∙◌, ap, subst, arith, Result, Ok, Err, IsErrAnd}
+use Rattle.std.proofs.Common.{◌≡◌, ◌≤◌, ℕ, List, refl, sym, ◌∙◌, ap, subst, arith, Result, Ok, Err, IsErrAnd}
 use Rattle.std.specs.Prelude.{IsErrOf}
 use Rattle.host_model.specs.Causes.{Rose}
 use Rattle.host_model.specs.declared.host.Host.{Ghosts}
 use Rattle.host_model.specs.declared.shelf.Shelf as shelves
+use Rattle.client_steps.specs.declared.faults.StepFault.{StepFault}
+use Rattle.client_steps.specs.declared.faults.StepFault.TheVariants as step
 use Rattle.client_store.specs.declared.faults.ClientFault.{ClientFault}
 use Rattle.client_store.specs.declared.faults.ClientFault.TheVariants as store
 use Rattle.client_store.specs.declared.faults.MakeFault.{MakeFault}
@@ -13,7 +15,7 @@ use Rattle.session_run.specs.declared.faults.RunFault.TheVariants as run
 use Rattle.session_run.specs.declared.status.RunStatus.{RunStatus}
 use Rattle.session_run.specs.declared.status.RunStatus.TheVariants.{Done, NoStore, AlreadyStore, BadStore, ShelfFault, DiskFault, SayFault, OutOfMemory}
 use Rattle.session_run.specs.FaultCauses.{IsStatusOf, HasHostCauses, HasShelfCauses}
-use Rattle.session_run.specs.Statuses.{of_run, of_store, of_making}
+use Rattle.session_run.specs.Statuses.{of_run, of_step, of_store, of_making}
 use Rattle.session_run.proofs.Ending.{err_is}
 
 -- each fault has its own status
@@ -40,9 +42,28 @@ status_is : (fault other : RunFault) → IsErrOf {T = Unit {0}} (Err fault) othe
 status_is fault other is = ap (λ (result : Result (Unit {0}) RunFault). of_run (the_fault result)) is
 
 module _ {F : Type 0} (f : shelves.Ghosts F) where
+  -- one call after the other
+  pub shelf_behind : (is : RunFault → Type 0) (old mid new : F) → f.faults mid ≡ f.faults old → (f.tells → (name : List ℕ) → f.file mid name ≡ f.file old name) → HasShelfCauses f is mid new → HasShelfCauses f is old new
+  shelf_behind is old mid new same files causes = record {
+    shelf = λ fault. omega (arith, same, causes.shelf fault);
+    quiet = λ other. causes.quiet other ∙ same;
+    later = omega (arith, same, causes.later);
+    files = λ tells name. causes.files tells name ∙ files tells name;
+  }
+
+  -- the shelf has not failed
+  pub unfailed_causes : (is : RunFault → Type 0) (old new : F) → (is run.ShelfFault → ⊥) → f.faults new ≡ f.faults old → (f.tells → (name : List ℕ) → f.file new name ≡ f.file old name) → HasShelfCauses f is old new
+  unfailed_causes is old new none same files = record { shelf = λ fault. absurd (none fault); quiet = λ other. same; later = omega (arith, same); files = files }
+
+  -- no step is prepared
+  pub unprepared_causes : {T : Type 0} (fault : StepFault) (old new : F) → (IsErrOf {T = T} (Err fault) step.ShelfFault → Rose (f.faults old) (f.faults new)) → (¬ IsErrOf {T = T} (Err fault) step.ShelfFault → f.faults new ≡ f.faults old)
+      → f.faults old ≤ f.faults new → (f.tells → (name : List ℕ) → f.file new name ≡ f.file old name) → HasShelfCauses f (IsErrOf {T = Unit {0}} (Err (of_step fault))) old new
+  unprepared_causes step.ShelfFault old new rose quiet later files = record { shelf = λ is. rose refl; quiet = λ other. absurd (other refl); later = later; files = files }
+  unprepared_causes step.OutOfMemory old new rose quiet later files = record { shelf = λ is. absurd cc; quiet = λ other. quiet (λ is. absurd cc); later = later; files = files }
+
   -- the shelf was not asked
   pub unasked_causes : (is : RunFault → Type 0) (shelf : F) → (is run.ShelfFault → ⊥) → HasShelfCauses f is shelf shelf
-  unasked_causes is shelf none = record { shelf = λ fault. absurd (none fault); later = omega arith; files = λ tells name. refl }
+  unasked_causes is shelf none = record { shelf = λ fault. absurd (none fault); quiet = λ other. refl; later = omega arith; files = λ tells name. refl }
 
   -- nor was it where the store was not opened
   pub unopened_causes : (fault : ClientFault) (shelf : F) → HasShelfCauses f (IsStatusOf (of_store fault)) shelf shelf
@@ -53,7 +74,12 @@ module _ {F : Type 0} (f : shelves.Ghosts F) where
 
   -- a run ends with the status of its lines' fault
   pub shelf_causes_of : (fault : RunFault) (old new : F) → HasShelfCauses f (IsErrOf {T = Unit {0}} (Err fault)) old new → HasShelfCauses f (IsStatusOf (of_run fault)) old new
-  shelf_causes_of fault old new causes = record { shelf = λ is. causes.shelf (ap Err (same_fault fault run.ShelfFault is)); later = causes.later; files = causes.files }
+  shelf_causes_of fault old new causes = record {
+    shelf = λ is. causes.shelf (ap Err (same_fault fault run.ShelfFault is));
+    quiet = λ other. causes.quiet (λ is. other (status_is fault run.ShelfFault is));
+    later = causes.later;
+    files = causes.files;
+  }
 
 module _ {H : Type 0} (h : Ghosts H) where
   module _ (old mid new : H) (disk : h.disk_faults old ≤ h.disk_faults mid) (say : h.say_faults mid ≡ h.say_faults old) where

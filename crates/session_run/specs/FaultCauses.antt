@@ -26,6 +26,8 @@ pub record HasHostCauses {H : Type 0} (h : Ghosts H) (is : RunFault → Type 0) 
 -- what it leaves of a shelf
 pub record HasShelfCauses {F : Type 0} (f : shelves.Ghosts F) (is : RunFault → Type 0) (old new : F) : Type 0 where
   pub shelf : is ShelfFault → Rose (f.faults old) (f.faults new)
+  -- the count is as before where no fault of the shelf has ended the call
+  pub quiet : ¬ is ShelfFault → f.faults new ≡ f.faults old
   pub later : f.faults old ≤ f.faults new
   -- no file is changed
   pub files : f.tells → (name : List ℕ) → f.file new name ≡ f.file old name

@@ -13,13 +13,13 @@ use Rattle.session_run.specs.declared.faults.RunFault.{RunFault}
 use Rattle.client_words.specs.Commands.{bytes_at}
 use Rattle.session_run.specs.Places.{all_bytes}
 use Rattle.session_run.specs.Steps.{RunState, run_of, begun, after, out}
-use Rattle.session_run.specs.FaultCauses.{HasHostCauses}
+use Rattle.session_run.specs.FaultCauses.{HasHostCauses, HasShelfCauses}
 use Rattle.session_run.specs.Files.{LinesAsked}
 use Rattle.session_run.specs.Moments.{AfterPrefix}
 use Rattle.session_run.specs.Runs.{LinesRan}
 use Rattle.session_run.specs.Writes.{IsBelowMark}
 use Rattle.session_run.proofs.Asking.{none_asked, asked_more, asked_all}
-use Rattle.session_run.proofs.Causing.{causes_behind}
+use Rattle.session_run.proofs.Causing.{causes_behind, shelf_behind}
 use Rattle.session_run.proofs.Ending.{err_is}
 use Rattle.session_run.proofs.Linking.{keeps_ended, keeps_done}
 use Rattle.session_run.proofs.Lining.{state_more, said_more, place_more, cost_more, most_more, changes_here, met_more, ends_more}
@@ -52,7 +52,7 @@ loop-span-init g c =
       cost = λ shelf_tells tells. omega arith;
       below = λ tells. below_unwritten h start (λ l r u met. g.met.H.Host.only_now start l r u tells met);
       below_now = λ tells. at_each h start start;
-      shelf_faults = omega arith;
+      shelf_faults = refl;
       disk_faults = omega arith;
       say_faults = refl;
     }
@@ -131,7 +131,7 @@ loop-span-preserved g c =
           (inv.place shelf_tells) (inv.cost shelf_tells tells) (done.ran shelf_tells tells).cost.exact;
       below = λ tells. below_all tells;
       below_now = λ tells. met_now h c.args.host.now new (IsBelowMark h c.args.host.now) (below_all tells) (g.met.H.Host.counts_now new) tells;
-      shelf_faults = omega (arith, inv.shelf_faults, done.shelf_causes.later);
+      shelf_faults = done.shelf_causes.quiet (λ is. absurd cc) ∙ inv.shelf_faults;
       disk_faults = omega (arith, inv.disk_faults, done.host_causes.disk_later);
       say_faults = done.host_causes.say_quiet (λ is. absurd cc) ∙ inv.say_faults;
     }
@@ -171,6 +171,14 @@ returns-in_err-run_line-clause-host_causes g c =
     let fault = c.in_err-run_line.field-0.0 in
     subst (λ (r : Result (Unit {0}) RunFault). HasHostCauses h (IsErrOf r) c.args.host.now new) (sym (err_is c.from_residual.result fault c.from_residual.ensures.1))
     (causes_behind h c.args.host.now c.loop-span.host new inv.disk_faults inv.say_faults (IsErrOf {T = Unit {0}} (Err fault)) c.in_err-run_line.ensures.host_causes)
+
+pub returns-in_err-run_line-clause-shelf_causes : goal.returns-in_err-run_line-clause-shelf_causes
+returns-in_err-run_line-clause-shelf_causes g c =
+    let f = g.F.Shelf in
+    let inv = c.loop-span.invariant in
+    let fault = c.in_err-run_line.field-0.0 in
+    subst (λ (r : Result (Unit {0}) RunFault). HasShelfCauses f (IsErrOf r) c.args.shelf.now c.run_line.new.shelf) (sym (err_is c.from_residual.result fault c.from_residual.ensures.1))
+    (shelf_behind f (IsErrOf {T = Unit {0}} (Err fault)) c.args.shelf.now c.loop-span.shelf c.run_line.new.shelf inv.shelf_faults inv.files c.in_err-run_line.ensures.shelf_causes)
 
 -- ---- what is kept
 

@@ -25,7 +25,7 @@ use Rattle.session_run.specs.Writes.{IsBelowMark}
 use Rattle.session_run.proofs.Opened.{unopened_before, store_not_done, run_finds, unopened_leaves, unopened_in, lines_find, lines_leave, ran_unbegun, ran_unreached, ran_opened}
 use Rattle.session_run.proofs.Asking.{none_asked, lines_unasked}
 use Rattle.session_run.proofs.Belonging.{lines_are_of, lines_open, store_is_of}
-use Rattle.session_run.proofs.Causing.{unopened_causes, shelf_causes_of, host_causes_of, done_causes, opening_causes}
+use Rattle.session_run.proofs.Causing.{unfailed_causes, unopened_causes, shelf_causes_of, host_causes_of, done_causes, opening_causes}
 use Rattle.session_run.proofs.Judging.{run_judges}
 use Rattle.session_run.proofs.Linking.{goes_on_from, goes_on_as}
 use Rattle.session_run.proofs.Starting.{same_start}
@@ -258,6 +258,11 @@ pub returns-in-Ok-run_lines-clause-host_causes : goal.returns-in-Ok-run_lines-cl
 returns-in-Ok-run_lines-clause-host_causes g c =
     let causes = c.in-Ok-run_lines.ensures.host_causes in
     done_causes g.H.Host c.args.host.now c.run_lines.new.host (omega (arith, c.open.ensures.disk_faults, causes.disk_later)) (causes.say_quiet (λ is. absurd cc) ∙ c.open.ensures.say_faults)
+
+pub returns-in-Ok-run_lines-clause-shelf_causes : goal.returns-in-Ok-run_lines-clause-shelf_causes
+returns-in-Ok-run_lines-clause-shelf_causes g c =
+    let causes = c.in-Ok-run_lines.ensures.shelf_causes in
+    unfailed_causes g.F.Shelf (IsStatusOf Done) c.args.shelf.now c.run_lines.new.shelf (λ is. absurd cc) (causes.quiet (λ is. absurd cc)) causes.files
 
 pub returns-in-Ok-open-clause-shelf_causes : goal.returns-in-Ok-open-clause-shelf_causes
 returns-in-Ok-open-clause-shelf_causes g c =
