@@ -58,8 +58,8 @@ impl Client {
         // A value that is answered of a feature has the feature's type.
         ensures typed { IfOk result (λ prepared. IsTyped (state_of self.old) (session_of self.old) command.now (answer_in prepared)) }
 
-        // `context`, `bind` and `fetch` ask the shelf for their file, and for no other. `manifest` asks for its file first, or for none,
-        // and then for those that it includes or imports, of which nothing is said here. Each other command asks for none.
+        // `context`, `bind` and `fetch` ask the shelf for their file, and for no other. `manifest` asks for no file, or for the first ones
+        // of the list of its manifest's files, each of them once. Each other command asks for none.
         ensures asked { HasAsked F.Shelf command.now shelf.old shelf.new }
         ensures unasked { names_file command.now ≡ false → shelf.new ≡ shelf.old }
         ensures shelf_fault { IsErrOf result StepFault.ShelfFault → IsTrue (names_file command.now) }

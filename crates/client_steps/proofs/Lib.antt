@@ -22,3 +22,4 @@ pub mod ServedValues
 mod Trees
 mod SoundValues
 pub mod WrittenManifests
+pub mod AskedFiles

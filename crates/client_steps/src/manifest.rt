@@ -34,7 +34,7 @@ pub fn setting_manifest<F: Shelf>(
         → asked_outcome s session asked ≡ setting_manifest s session (manifest_of (F.file shelf.old) file.now channel.now)) }
     ensures follows { IfOk result (λ asked. (s : ClientState) → FollowsFrom s asked) }
     ensures files { F.tells → (name : List ℕ) → F.file shelf.new name ≡ F.file shelf.old name }
-    ensures asked { IsAskedFrom F.asks file.now shelf.old shelf.new }
+    ensures asked { IsAskedFrom F.Shelf file.now channel.now shelf.old shelf.new }
     ensures cause { IsErrOf result StepFault.ShelfFault → Rose (F.faults shelf.old) (F.faults shelf.new) }
     ensures faults { F.faults shelf.old ≤ F.faults shelf.new }
     ensures quiet { ¬ IsErrOf result StepFault.ShelfFault → F.faults shelf.new ≡ F.faults shelf.old }
@@ -55,7 +55,7 @@ fn read_manifest<F: Shelf>(
 ) -> Result<Result<LinkedManifest, Answer>, StepFault>
     ensures found { F.tells → IfOk result (λ found. found ≡ manifest_of (F.file shelf.old) name.now channel.now) }
     ensures files { F.tells → (other : List ℕ) → F.file shelf.new other ≡ F.file shelf.old other }
-    ensures asked { IsAskedFrom F.asks name.now shelf.old shelf.new }
+    ensures asked { IsAskedFrom F.Shelf name.now channel.now shelf.old shelf.new }
     ensures cause { IsErrOf result StepFault.ShelfFault → Rose (F.faults shelf.old) (F.faults shelf.new) }
     ensures faults { F.faults shelf.old ≤ F.faults shelf.new }
     ensures quiet { ¬ IsErrOf result StepFault.ShelfFault → F.faults shelf.new ≡ F.faults shelf.old }

@@ -21,7 +21,7 @@ use std::alloc::Global;
 
 /// What the files of a root say where it is asked for by a channel. They are read in the order in
 /// which their names are met.
-#[tactic(auto, using(crate::proofs::Listing::listed_fails, crate::proofs::Asking::asked_none, crate::proofs::Asking::asked_all, crate::proofs::Asking::asked_one_more))]
+#[tactic(auto, using(crate::proofs::Listing::listed_fails, crate::proofs::Asking::asked_none))]
 pub(crate) fn files_of<F: Shelf>(
     alloc: Global,
     shelf: &mut F,
@@ -34,7 +34,7 @@ pub(crate) fn files_of<F: Shelf>(
     ensures cause { IsErrOf result LinkFault.ShelfFault → Rose (F.faults shelf.old) (F.faults shelf.new) }
     ensures faults { F.faults shelf.old ≤ F.faults shelf.new }
     ensures quiet { ¬ IsErrOf result LinkFault.ShelfFault → F.faults shelf.new ≡ F.faults shelf.old }
-    ensures asked { IsAskedFrom F.asks root.now shelf.old shelf.new }
+    ensures asked { IsAskedFrom F.Shelf root.now channel.now shelf.old shelf.new }
 {
     let mut list = FileList::of_root(alloc, root, channel)?;
     let mut files = Sequence::new(alloc);

@@ -35,7 +35,7 @@ use std::alloc::Global;
 /// where the text has at most 4,194,304 bytes.
 ///
 /// `ShelfFault` comes exactly where the shelf failed in this call. Whatever comes, the shelf has been
-/// asked for no file, or for some of which the first is the one of this name.
+/// asked for no file, or for the first ones of that list, each of them once.
 #[tactic(auto, using(crate::proofs::Linked::fails_bind), unfolding(crate::specs::Linking::linked))]
 pub fn link<F: Shelf>(
     alloc: Global,
@@ -51,7 +51,7 @@ pub fn link<F: Shelf>(
     ensures cause { IsErrOf result LinkFault.ShelfFault → Rose (F.faults shelf.old) (F.faults shelf.new) }
     ensures faults { F.faults shelf.old ≤ F.faults shelf.new }
     ensures quiet { ¬ IsErrOf result LinkFault.ShelfFault → F.faults shelf.new ≡ F.faults shelf.old }
-    ensures asked { IsAskedFrom F.asks name.now shelf.old shelf.new }
+    ensures asked { IsAskedFrom F.Shelf name.now channel.now shelf.old shelf.new }
 {
     let files = files_of(alloc, shelf, name, channel)?;
     joined(alloc, files, channel)

@@ -82,7 +82,7 @@ returns-in_err-run_line-clause-ran g c shelf_tells tells =
       moments = λ gate. met_more at _ same s lines i line within more (run_of c.loop-span.client) (inv.state shelf_tells) h c.args.host.now c.loop-span.host new (inv.said shelf_tells tells) place written (inv.any_moment shelf_tells tells gate)
           ((c.run_line.ensures.ran shelf_tells tells).moments (inv.gate tells gate));
       ends = λ gate. ends_more at _ same s lines i line within more (run_of c.loop-span.client) (inv.state shelf_tells) h c.args.host.now c.loop-span.host new (inv.said shelf_tells tells) (LinesAsked g.F.Shelf c.args.shelf.now c.run_line.new.shelf) place written fault
-          (asked_more g.F.Shelf c.args.shelf.now c.loop-span.shelf c.run_line.new.shelf lines i line more inv.asked c.run_line.ensures.asked)
+          (asked_more g.F.Shelf c.args.shelf.now c.loop-span.shelf c.run_line.new.shelf lines i line more inv.files inv.asked c.run_line.ensures.asked)
           (most_more at _ same s lines i line within more (run_of c.loop-span.client) (inv.state shelf_tells) place (end_of c.loop-span.client) written (h.written c.loop-span.host) (h.written new) (inv.place shelf_tells) (inv.cost shelf_tells tells) (c.run_line.ensures.ran shelf_tells tells).cost.most) there
           (λ is. c.in_err-run_line.ensures.named (ap Err is)) ((c.in_err-run_line.ensures.ran shelf_tells tells).ends (inv.gate tells gate));
       images = tt;
@@ -116,7 +116,7 @@ loop-span-preserved g c =
     record {
       holds = λ tells. (done.stays_open tells).holds;
       files = λ tells name. done.shelf_causes.files tells name ∙ inv.files tells name;
-      asked = asked_more g.F.Shelf c.args.shelf.now c.loop-span.shelf c.run_line.new.shelf lines i line more inv.asked done.asked;
+      asked = asked_more g.F.Shelf c.args.shelf.now c.loop-span.shelf c.run_line.new.shelf lines i line more inv.files inv.asked done.asked;
       state = λ tells. state_more at here (same tells) s lines i line within more now (inv.state tells) next (done.state tells);
       said = λ shelf_tells tells. said_more at here (same shelf_tells) s lines i line within more now (inv.state shelf_tells) (h.said c.loop-span.host) (h.said c.args.host.now) (h.said new) (inv.said shelf_tells tells) (done.ran shelf_tells tells).said;
       gate = λ tells gate. (done.stays_open tells).gate (inv.gate tells gate);
@@ -206,7 +206,7 @@ returns-in_err-run_line-clause-asked g c =
     let i = c.loop-span.span-index in
     let line = c.bytes_at-line.result.now in
     let more = line_more script spans i _ line c.loop-span-test.true c.bytes_at-line.ensures in
-    asked_all f c.args.shelf.now c.run_line.new.shelf (i + 1) lines (asked_more f c.args.shelf.now c.loop-span.shelf c.run_line.new.shelf lines i line more c.loop-span.invariant.asked c.run_line.ensures.asked)
+    asked_all f c.args.shelf.now c.run_line.new.shelf (i + 1) lines (asked_more f c.args.shelf.now c.loop-span.shelf c.run_line.new.shelf lines i line more c.loop-span.invariant.files c.loop-span.invariant.asked c.run_line.ensures.asked)
 
 pub returns-clause-asked : goal.returns-clause-asked
 returns-clause-asked g c =
