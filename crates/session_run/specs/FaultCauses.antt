@@ -1,4 +1,5 @@
--- The cause of each fault, by its count. This holds of every shelf and host, also of one that tells nothing; only what has `tells` as its premise asks for more.
+-- The cause of each fault, by its count. This holds of every shelf and host, also of one that tells nothing; only what has `tells` as its
+-- premise asks for more.
 use Rattle.std.specs.Prelude.{◌≡◌, ◌≤◌, ℕ, List}
 use Rattle.host_model.specs.Causes.{Rose}
 use Rattle.host_model.specs.declared.host.Host.{Ghosts}

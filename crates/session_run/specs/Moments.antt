@@ -18,7 +18,8 @@ DuringLine said s t text l r u = WhileWritten said s t l r u ⊎ (KeptFor l r t 
 abbrev pub IsPrefixOf : List ℕ → List ℕ → Type 0
 IsPrefixOf u v = (rest : List ℕ) × (u ++ rest ≡ v)
 
--- the images are kept for the state after the first k lines. What was said is a prefix of the answers to these lines, and has the answers to all of them but the last
+-- the images are kept for the state after the first k lines. What was said is a prefix of the answers to these lines, and has the answers to
+-- all of them but the last
 pub record AfterPrefix (start : Start) (l r u : List ℕ) : Type 0 where
   pub new : List ℕ
   pub text : u ≡ start.said ++ new
