@@ -20,6 +20,7 @@ mod Opened
 mod OptOuts
 mod Outboxes
 mod Outcomes
+mod Phases
 mod Placing
 mod Preferences
 mod Running

@@ -1,6 +1,8 @@
 -- A store is opened, and its lines are done.
-use Rattle.std.proofs.Common.{◌≡◌, inr, List, ℕ, All, Ok, Err, length, map, refl, sym, ap, ◌∙◌, subst, arith}
+use Rattle.std.proofs.Common.{◌≡◌, List, ℕ, All, Ok, Err, length, map, refl, sym, ap, ◌∙◌, subst, arith}
 use Rattle.host_model.specs.declared.side.Side.TheVariants.{Left, Right}
+use Rattle.host_model.specs.Hosts.{NowOf}
+use Rattle.host_model.proofs.Meeting.{started}
 use Rattle.client_core.specs.Clients.{state_of, end_of}
 use Rattle.client_store.specs.Moments.{IsLeftAmong}
 use Rattle.client_steps.specs.Settings.{setting}
@@ -22,7 +24,7 @@ use Rattle.session_run.specs.Runs.{Ran}
 use Rattle.session_run.specs.Starts.{Start, opened_on, last_state}
 use Rattle.session_run.specs.Statuses.{of_store, of_run, IsOfLines}
 use Rattle.session_run.specs.Writes.{IsBelowMark}
-use Rattle.session_run.proofs.Opened.{unopened_before, store_not_done, run_finds, unopened_leaves, unopened_in, lines_find, lines_leave, ran_unbegun, ran_unreached, ran_opened}
+use Rattle.session_run.proofs.Opened.{run_finds, unopened_leaves, lines_find, lines_leave, ran_unreached, ran_unopened, ran_opened}
 use Rattle.session_run.proofs.Asking.{none_asked, lines_unasked}
 use Rattle.session_run.proofs.Belonging.{lines_are_of, lines_open, store_is_of}
 use Rattle.session_run.proofs.Causing.{unfailed_causes, unopened_causes, shelf_causes_of, host_causes_of, done_causes, opening_causes}
@@ -47,7 +49,7 @@ returns-in-Ok-run_lines-clause-ran g c shelf_tells tells =
     let client = c.in-Ok-open.client in
     let lines = map (bytes_at script) c.as_slice.result.now in
     let lines_are : lines ≡ lines_of script = lines_at script c.as_slice.result.now (c.as_slice.ensures ∙ c.in-Ok.ensures) in
-    ran_opened g.F.Shelf h (LinesAsked g.F.Shelf c.args.shelf.now c.run_lines.new.shelf) c.args.now c.requires.moment c.args.shelf.now old (lines_of script) (g.met.H.Host.read_is_image old Left tells) (g.met.H.Host.read_is_image old Right tells) mid new client (opened.phases tells) (opened.ends tells) (opened.text tells)
+    ran_opened g.F.Shelf h (LinesAsked g.F.Shelf c.args.shelf.now c.run_lines.new.shelf) c.args.now c.requires.moment c.args.shelf.now old (lines_of script) (g.met.H.Host.read_is_image old Left tells) (g.met.H.Host.read_is_image old Right tells) tells g.met.H.Host.counts_now mid new client (opened.phases tells) (opened.ends tells) (opened.text tells)
     lines lines_are (Ok c.in-Ok-run_lines.field-0) (c.in-Ok-run_lines.ensures.ran shelf_tells tells)
     (g.met.H.Host.read_is_image new Left tells) (g.met.H.Host.read_is_image new Right tells)
 
@@ -63,7 +65,7 @@ returns-in-Ok-open-clause-ran g c shelf_tells tells =
     let lines = map (bytes_at script) c.as_slice.result.now in
     let lines_are : lines ≡ lines_of script = lines_at script c.as_slice.result.now (c.as_slice.ensures ∙ c.in-Ok.ensures) in
     subst (Ran h (LinesAsked g.F.Shelf c.args.shelf.now c.run_lines.new.shelf) (opened_on g.F.Shelf h c.args.now c.args.shelf.now old (lines_of script)) old new) (sym c.into.ensures)
-    (ran_opened g.F.Shelf h (LinesAsked g.F.Shelf c.args.shelf.now c.run_lines.new.shelf) c.args.now c.requires.moment c.args.shelf.now old (lines_of script) (g.met.H.Host.read_is_image old Left tells) (g.met.H.Host.read_is_image old Right tells) mid new client (opened.phases tells) (opened.ends tells) (opened.text tells)
+    (ran_opened g.F.Shelf h (LinesAsked g.F.Shelf c.args.shelf.now c.run_lines.new.shelf) c.args.now c.requires.moment c.args.shelf.now old (lines_of script) (g.met.H.Host.read_is_image old Left tells) (g.met.H.Host.read_is_image old Right tells) tells g.met.H.Host.counts_now mid new client (opened.phases tells) (opened.ends tells) (opened.text tells)
     lines lines_are (Err c.in-Err-run_lines.fault) (c.in-Err-run_lines.ensures.ran shelf_tells tells)
     (g.met.H.Host.read_is_image new Left tells) (g.met.H.Host.read_is_image new Right tells))
 
@@ -73,7 +75,7 @@ returns-in_default-clause-ran g c shelf_tells tells =
     let h = g.H.Host in
     let old = c.args.host.now in
     ran_unreached g.F.Shelf h (LinesAsked g.F.Shelf c.args.shelf.now c.args.shelf.now) c.args.now c.requires.moment c.args.shelf.now old (lines_of c.args.script.now) (g.met.H.Host.read_is_image old Left tells) (g.met.H.Host.read_is_image old Right tells)
-    (none_asked g.F.Shelf c.args.shelf.now) OutOfMemory (λ l r u met. g.met.H.Host.only_now old l r u tells met) (inr (inr (inr refl))) (λ is. absurd cc)
+    tells g.met.H.Host.counts_now (none_asked g.F.Shelf c.args.shelf.now) OutOfMemory refl (started h.moment h.might old (NowOf h old) (λ l r u met. g.met.H.Host.only_now old l r u tells met))
 
 pub returns-in_default-clause-found : goal.returns-in_default-clause-found
 returns-in_default-clause-found g c tells =
@@ -93,12 +95,10 @@ returns-clause-ran g c shelf_tells tells =
     let new = c.open.new.host in
     let script = c.args.script.now in
     let fault = c.in-Err.fault in
-    let opening = c.open.ensures in
     subst (Ran h (LinesAsked g.F.Shelf c.args.shelf.now c.args.shelf.now) (opened_on g.F.Shelf h c.args.now c.args.shelf.now old (lines_of script)) old new) (sym c.into-in-Err.ensures)
-    (ran_unbegun g.F.Shelf h (LinesAsked g.F.Shelf c.args.shelf.now c.args.shelf.now) c.args.now c.requires.moment c.args.shelf.now old (lines_of script) (g.met.H.Host.read_is_image old Left tells) (g.met.H.Host.read_is_image old Right tells) new (of_store fault)
-    (unopened_in h old new fault (c.in-Err.ensures.phases tells)) (unopened_before (h.reads old Left) (h.reads old Right) fault (c.in-Err.ensures.ends tells).finds)
-    (none_asked g.F.Shelf c.args.shelf.now) (λ states all l r left right. (met_now h old new (IsLeftAmong (h.said old) states) (opening.left tells states all) (g.met.H.Host.counts_now new) tells l r left right).0)
-    (opening.text tells) (c.in-Err.ensures.ends tells).most (store_not_done fault))
+    (ran_unopened g.F.Shelf h (LinesAsked g.F.Shelf c.args.shelf.now c.args.shelf.now) c.args.now c.requires.moment c.args.shelf.now old (lines_of script) (g.met.H.Host.read_is_image old Left tells) (g.met.H.Host.read_is_image old Right tells)
+    tells g.met.H.Host.counts_now new fault (c.in-Err.ensures.phases tells) (c.in-Err.ensures.ends tells).finds (c.open.ensures.text tells)
+    (started h.moment h.might new (NowOf h new) (λ l r u met. g.met.H.Host.only_now new l r u tells met)) (none_asked g.F.Shelf c.args.shelf.now) (c.in-Err.ensures.ends tells).most)
 
 pub returns-in-Ok-run_lines-clause-state : goal.returns-in-Ok-run_lines-clause-state
 returns-in-Ok-run_lines-clause-state g c shelf_tells tells s stands =
