@@ -26,6 +26,7 @@ making_causes s f h words source shelf old new answered makes is_of causes found
   say_rose = causes.say;
   source_quiet = λ other. refl;
   shelf_quiet = λ other. refl;
+  disk_quiet = causes.disk_quiet;
   say_quiet = causes.say_quiet;
   unreached = λ is. absurd (making_reaches answered is_of is);
   unasked = λ is. refl;

@@ -18,6 +18,7 @@ use Rattle.session_run.specs.declared.status.RunStatus.{RunStatus}
 use Rattle.session_run.specs.declared.status.RunStatus.TheVariants as status
 use Rattle.session_run.specs.Moments.{EndsEarly, OpensBytes}
 use Rattle.session_run.specs.Statuses.{of_store}
+use Rattle.session_run.proofs.Causing.{store_fault_is}
 
 -- both sides were synced
 pub record SyncsAndOpens {H : Type 0} (h : Ghosts H) (old opened : H) (answered : RunStatus) : Type 0 where
@@ -31,11 +32,8 @@ pub record SyncsAndOpens {H : Type 0} (h : Ghosts H) (old opened : H) (answered 
 abbrev pub Begins : {H : Type 0} → Ghosts H → H → H → RunStatus → Type 0
 Begins h old new answered = (EndsEarly h old new answered × MeetsAll h old new (NowOf h old)) ⊎ SyncsAndOpens h old new answered
 
-fault_is : (fault other : ClientFault) → IsErrOf {T = Client} {E = ClientFault} (Err fault) other → fault ≡ other
-fault_is fault other is = cc
-
 failed_is : (fault : ClientFault) → IsErrOf {T = Client} {E = ClientFault} (Err fault) DiskFault → of_store fault ≡ status.DiskFault
-failed_is fault is = ap of_store (fault_is fault DiskFault is)
+failed_is fault is = ap of_store (store_fault_is fault DiskFault is)
 
 never_failed : (client : Client) (fault : ClientFault) → IsErrOf {T = Client} {E = ClientFault} (Ok client) fault → ⊥
 never_failed client fault is = absurd cc

@@ -53,9 +53,11 @@ pub record HasCauses {S F H : Type 0} (s : sources.Ghosts S) (f : shelves.Ghosts
   pub shelf_rose : status ≡ ShelfFault → Rose (f.faults shelf) (f.faults new_shelf)
   pub disk_rose : status ≡ DiskFault → Rose (h.disk_faults host) (h.disk_faults new_host)
   pub say_rose : status ≡ SayFault → Rose (h.say_faults host) (h.say_faults new_host)
-  -- and where it is not the call's end, the count of the source, that of the shelf, and that of the output, is as before: none is tried again after a fault
+  -- and where it is not the call's end, the count of the source, of the shelf, of the disk and of the output is as before: none is tried
+  -- again after a fault
   pub source_quiet : ¬ (status ≡ SourceFault) → s.faults new_source ≡ s.faults source
   pub shelf_quiet : ¬ (status ≡ ShelfFault) → f.faults new_shelf ≡ f.faults shelf
+  pub disk_quiet : ¬ (status ≡ DiskFault) → h.disk_faults new_host ≡ h.disk_faults host
   pub say_quiet : ¬ (status ≡ SayFault) → h.say_faults new_host ≡ h.say_faults host
   -- for Usage, ScriptTooLong and SourceFault no call of the host was made, where no store was opened none of the shelf, and for Usage none of the source
   pub unreached : IsUnreached status → new_host ≡ host

@@ -18,7 +18,8 @@ pub record HasHostCauses {H : Type 0} (h : Ghosts H) (is : RunFault → Type 0) 
   -- each fault comes only where its count rose
   pub disk : is DiskFault → Rose (h.disk_faults old) (h.disk_faults new)
   pub say : is SayFault → Rose (h.say_faults old) (h.say_faults new)
-  -- the output's is as before where no output fault has ended the call
+  -- and where its fault has not ended the call, the count is as before
+  pub disk_quiet : ¬ is DiskFault → h.disk_faults new ≡ h.disk_faults old
   pub say_quiet : ¬ is SayFault → h.say_faults new ≡ h.say_faults old
   -- and no count falls
   pub disk_later : h.disk_faults old ≤ h.disk_faults new

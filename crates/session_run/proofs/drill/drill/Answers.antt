@@ -35,7 +35,7 @@ returns-in-Done-clause-found g c tells =
 
 pub returns-in-Done-clause-host_causes : goal.returns-in-Done-clause-host_causes
 returns-in-Done-clause-host_causes g c =
-    causes_behind g.H.Host c.args.host.now c.init.new.host c.run_script.new.host c.init.ensures.host_causes.disk_later (c.in-Done.ensures.host_causes.say_quiet (λ is. absurd cc)) (IsStatusOf c.run_script.result) c.run_script.ensures.host_causes
+    causes_behind g.H.Host c.args.host.now c.init.new.host c.run_script.new.host (c.in-Done.ensures.host_causes.disk_quiet (λ is. absurd cc)) (c.in-Done.ensures.host_causes.say_quiet (λ is. absurd cc)) (IsStatusOf c.run_script.result) c.run_script.ensures.host_causes
 
 pub returns-in_default-init-clause-drilled : goal.returns-in_default-init-clause-drilled
 returns-in_default-init-clause-drilled g c tells =

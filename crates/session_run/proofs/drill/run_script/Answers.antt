@@ -82,7 +82,7 @@ returns-in-Ok-clause-is_of g c = summary_is_of c.say_summary.result c.say_summar
 
 pub returns-in-Ok-clause-host_causes : goal.returns-in-Ok-clause-host_causes
 returns-in-Ok-clause-host_causes g c =
-    causes_behind g.H.Host c.args.host.now c.run_client.new.host c.say_summary.new.host c.run_client.ensures.host_causes.disk_later (c.in-Ok.ensures.host_causes.say_quiet (λ is. absurd cc)) (IsStatusOf c.say_summary.result) c.say_summary.ensures.host_causes
+    causes_behind g.H.Host c.args.host.now c.run_client.new.host c.say_summary.new.host (c.in-Ok.ensures.host_causes.disk_quiet (λ is. absurd cc)) (c.in-Ok.ensures.host_causes.say_quiet (λ is. absurd cc)) (IsStatusOf c.say_summary.result) c.say_summary.ensures.host_causes
 
 -- ---- not all are
 
@@ -135,6 +135,7 @@ returns-clause-host_causes g c =
     record {
       disk = λ is. causes.disk (status_was c.in-Err.status DiskFault (λ other. absurd cc) (sym c.ended.ensures ∙ is));
       say = λ is. causes.say (status_was c.in-Err.status SayFault (λ other. absurd cc) (sym c.ended.ensures ∙ is));
+      disk_quiet = λ other. causes.disk_quiet (λ is. other (c.ended.ensures ∙ ap of_drill is));
       say_quiet = λ other. causes.say_quiet (λ is. other (c.ended.ensures ∙ ap of_drill is));
       disk_later = causes.disk_later;
       say_later = causes.say_later;

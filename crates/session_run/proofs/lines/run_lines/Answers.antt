@@ -53,7 +53,7 @@ loop-span-init g c =
       below = λ tells. below_unwritten h start (λ l r u met. g.met.H.Host.only_now start l r u tells met);
       below_now = λ tells. at_each h start start;
       shelf_faults = refl;
-      disk_faults = omega arith;
+      disk_faults = refl;
       say_faults = refl;
     }
 
@@ -132,7 +132,7 @@ loop-span-preserved g c =
       below = λ tells. below_all tells;
       below_now = λ tells. met_now h c.args.host.now new (IsBelowMark h c.args.host.now) (below_all tells) (g.met.H.Host.counts_now new) tells;
       shelf_faults = done.shelf_causes.quiet (λ is. absurd cc) ∙ inv.shelf_faults;
-      disk_faults = omega (arith, inv.disk_faults, done.host_causes.disk_later);
+      disk_faults = done.host_causes.disk_quiet (λ is. absurd cc) ∙ inv.disk_faults;
       say_faults = done.host_causes.say_quiet (λ is. absurd cc) ∙ inv.say_faults;
     }
 

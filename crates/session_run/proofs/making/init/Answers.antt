@@ -3,6 +3,7 @@ use Rattle.std.proofs.Common.{◌≡◌, ◌≤◌, ◌+◌, List, ℕ, ◌++◌
 use Rattle.host_model.specs.declared.side.Side.TheVariants.{Left, Right}
 use Rattle.host_model.specs.Hosts.{NowOf}
 use Rattle.host_model.proofs.Meeting.{started, met_weaker}
+use Rattle.client_store.specs.declared.faults.MakeFault.TheVariants.{DiskFault}
 use Rattle.client_store.specs.NewStates.{fresh}
 use Rattle.client_store.specs.Moments.{IsLeftAmong}
 use Rattle.client_store.specs.Places.{making_bytes}
@@ -15,7 +16,7 @@ use Rattle.session_run.specs.Statuses.{of_making, IsOfMaking}
 use Rattle.session_run.specs.declared.status.RunStatus.TheVariants.{Done, SayFault, OutOfMemory}
 use Rattle.session_run.specs.Writes.{IsBelowMark}
 use Rattle.session_run.proofs.Belonging.{making_is_of, making_leaves, making_finds, making_not_done, making_memory, making_never}
-use Rattle.session_run.proofs.Causing.{done_causes, said_causes, making_causes_of}
+use Rattle.session_run.proofs.Causing.{make_fault_is, done_causes, said_causes, making_causes_of}
 use Rattle.session_run.proofs.Judging.{making_judges}
 use Rattle.session_run.proofs.MadeStores.{IsMade, made_said}
 use Rattle.session_run.proofs.Writing.{met_now, below_of, below_then, below_saying, below_unwritten, no_more}
@@ -149,14 +150,15 @@ returns-in_default-clause-found g c tells =
 
 pub returns-in-Ok-say-clause-host_causes : goal.returns-in-Ok-say-clause-host_causes
 returns-in-Ok-say-clause-host_causes g c =
-    done_causes g.H.Host c.args.host.now c.say.new.self (omega (arith, c.make.ensures.disk_faults, c.say.ensures.disk_faults)) (c.in-Ok-say.ensures.quiet ∙ c.make.ensures.say_faults)
+    done_causes g.H.Host c.args.host.now c.say.new.self (c.say.ensures.disk_faults ∙ c.in-Ok-make.ensures.disk_quiet (λ is. absurd cc)) (c.in-Ok-say.ensures.quiet ∙ c.make.ensures.say_faults)
 
 pub returns-in-Ok-make-clause-host_causes : goal.returns-in-Ok-make-clause-host_causes
 returns-in-Ok-make-clause-host_causes g c =
-    said_causes g.H.Host c.args.host.now c.say.new.self (omega (arith, c.make.ensures.disk_faults, c.say.ensures.disk_faults)) (omega (arith, c.make.ensures.say_faults, c.say.ensures.cause.later))
+    said_causes g.H.Host c.args.host.now c.say.new.self (c.say.ensures.disk_faults ∙ c.in-Ok-make.ensures.disk_quiet (λ is. absurd cc)) (omega (arith, c.make.ensures.say_faults, c.say.ensures.cause.later))
     (omega (arith, c.make.ensures.say_faults, c.in-Err-say.ensures.cause.failed))
 
 pub returns-clause-host_causes : goal.returns-clause-host_causes
 returns-clause-host_causes g c =
     subst (λ (status : RunStatus). HasHostCauses g.H.Host (IsStatusOf status) c.args.host.now c.make.new.host) (sym c.into.ensures)
-    (making_causes_of g.H.Host c.args.host.now c.make.new.host c.make.ensures.disk_faults c.make.ensures.say_faults c.in-Err.fault (λ is. c.in-Err.ensures.cause (ap Err is)))
+    (making_causes_of g.H.Host c.args.host.now c.make.new.host c.make.ensures.disk_faults c.make.ensures.say_faults c.in-Err.fault (λ is. c.in-Err.ensures.cause (ap Err is))
+    (λ other. c.in-Err.ensures.disk_quiet (λ is. other (make_fault_is c.in-Err.fault DiskFault is))))

@@ -4,6 +4,7 @@ use Rattle.host_model.specs.declared.side.Side.TheVariants.{Left, Right}
 use Rattle.host_model.specs.Hosts.{NowOf}
 use Rattle.host_model.proofs.Meeting.{started}
 use Rattle.client_core.specs.Clients.{state_of, end_of}
+use Rattle.client_store.specs.declared.faults.ClientFault.TheVariants as opening
 use Rattle.client_store.specs.Moments.{IsLeftAmong}
 use Rattle.client_steps.specs.Settings.{setting}
 use Rattle.client_store.specs.Store.{IsStore}
@@ -27,7 +28,7 @@ use Rattle.session_run.specs.Writes.{IsBelowMark}
 use Rattle.session_run.proofs.Opened.{run_finds, unopened_leaves, lines_find, lines_leave, ran_unreached, ran_unopened, ran_opened}
 use Rattle.session_run.proofs.Asking.{none_asked, lines_unasked}
 use Rattle.session_run.proofs.Belonging.{lines_are_of, lines_open, store_is_of}
-use Rattle.session_run.proofs.Causing.{unfailed_causes, unopened_causes, shelf_causes_of, host_causes_of, done_causes, opening_causes}
+use Rattle.session_run.proofs.Causing.{store_fault_is, unfailed_causes, unopened_causes, shelf_causes_of, host_causes_of, done_causes, opening_causes}
 use Rattle.session_run.proofs.Judging.{run_judges}
 use Rattle.session_run.proofs.Linking.{goes_on_from, goes_on_as}
 use Rattle.session_run.proofs.Starting.{same_start}
@@ -257,7 +258,7 @@ returns-in-Ok-open-clause-not_done g c is =
 pub returns-in-Ok-run_lines-clause-host_causes : goal.returns-in-Ok-run_lines-clause-host_causes
 returns-in-Ok-run_lines-clause-host_causes g c =
     let causes = c.in-Ok-run_lines.ensures.host_causes in
-    done_causes g.H.Host c.args.host.now c.run_lines.new.host (omega (arith, c.open.ensures.disk_faults, causes.disk_later)) (causes.say_quiet (λ is. absurd cc) ∙ c.open.ensures.say_faults)
+    done_causes g.H.Host c.args.host.now c.run_lines.new.host (causes.disk_quiet (λ is. absurd cc) ∙ c.in-Ok-open.ensures.disk_quiet (λ is. absurd cc)) (causes.say_quiet (λ is. absurd cc) ∙ c.open.ensures.say_faults)
 
 pub returns-in-Ok-run_lines-clause-shelf_causes : goal.returns-in-Ok-run_lines-clause-shelf_causes
 returns-in-Ok-run_lines-clause-shelf_causes g c =
@@ -272,7 +273,7 @@ returns-in-Ok-open-clause-shelf_causes g c =
 pub returns-in-Ok-open-clause-host_causes : goal.returns-in-Ok-open-clause-host_causes
 returns-in-Ok-open-clause-host_causes g c =
     subst (λ (status : RunStatus). HasHostCauses g.H.Host (IsStatusOf status) c.args.host.now c.run_lines.new.host) (sym c.into.ensures)
-    (host_causes_of g.H.Host c.args.host.now c.open.new.host c.run_lines.new.host c.open.ensures.disk_faults c.open.ensures.say_faults c.in-Err-run_lines.fault c.in-Err-run_lines.ensures.host_causes)
+    (host_causes_of g.H.Host c.args.host.now c.open.new.host c.run_lines.new.host (c.in-Ok-open.ensures.disk_quiet (λ is. absurd cc)) c.open.ensures.say_faults c.in-Err-run_lines.fault c.in-Err-run_lines.ensures.host_causes)
 
 pub returns-clause-shelf_causes : goal.returns-clause-shelf_causes
 returns-clause-shelf_causes g c =
@@ -281,4 +282,5 @@ returns-clause-shelf_causes g c =
 pub returns-clause-host_causes : goal.returns-clause-host_causes
 returns-clause-host_causes g c =
     subst (λ (status : RunStatus). HasHostCauses g.H.Host (IsStatusOf status) c.args.host.now c.open.new.host) (sym c.into-in-Err.ensures)
-    (opening_causes g.H.Host c.args.host.now c.open.new.host c.open.ensures.disk_faults c.open.ensures.say_faults c.in-Err.fault (λ is. c.in-Err.ensures.cause (ap Err is)))
+    (opening_causes g.H.Host c.args.host.now c.open.new.host c.open.ensures.disk_faults c.open.ensures.say_faults c.in-Err.fault (λ is. c.in-Err.ensures.cause (ap Err is))
+    (λ other. c.in-Err.ensures.disk_quiet (λ is. other (store_fault_is c.in-Err.fault opening.DiskFault is))))
