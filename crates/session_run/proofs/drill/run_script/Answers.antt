@@ -1,5 +1,5 @@
 -- The script of a drill is run, and then the summary is said.
-use Rattle.std.proofs.Common.{◌≡◌, ◌+◌, ℕ, List, [], ◌∷◌, Err, arith, sym, ap, ◌∙◌, subst}
+use Rattle.std.proofs.Common.{◌≡◌, ◌+◌, ℕ, [], ◌∷◌, Err, arith, sym, ap, ◌∙◌, subst}
 use Rattle.host_model.specs.declared.side.Side.TheVariants.{Left, Right}
 use Rattle.host_model.proofs.Meeting.{met_weaker}
 use Rattle.recipe_drill.specs.Parts.{parts_of}

@@ -1,5 +1,5 @@
 -- A store is opened, and its lines are done.
-use Rattle.std.proofs.Common.{◌≡◌, List, ℕ, All, Ok, Err, length, map, refl, sym, ap, ◌∙◌, subst, arith}
+use Rattle.std.proofs.Common.{◌≡◌, List, ℕ, All, Ok, Err, length, map, refl, sym, ap, ◌∙◌, subst}
 use Rattle.host_model.specs.declared.side.Side.TheVariants.{Left, Right}
 use Rattle.host_model.specs.Hosts.{NowOf}
 use Rattle.host_model.proofs.Meeting.{started}
