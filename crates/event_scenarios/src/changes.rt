@@ -1,13 +1,14 @@
 //! Rows on the changes from the rows that keep some counts to those that keep others.
 
 use crate::histories::counts_after;
+use crate::kept::add_row;
 use event_counts::Counts;
 use row_batches::RowChange;
 use row_tables::{Fault, add_between, add_none, parts};
 use std::alloc::{AllocError, Global};
 
-/// The keys of the rows that are put and deleted, or `none`, and how many bytes the puts of the new rows have. Row: the events of
-/// the old counts, and behind ` | ` those of the new ones.
+/// The rows that are put and the keys of those that are deleted, or `none`, and how many bytes the puts of the new rows have. Row:
+/// the events of the old counts, and behind ` | ` those of the new ones.
 pub(crate) fn find_changes(
     alloc: Global,
     given: &str,
@@ -50,9 +51,11 @@ fn add_changes(changes: &[RowChange], size: u128, found: &mut String) -> Result<
 
 fn add_change(change: &RowChange, found: &mut String) -> Result<(), AllocError> {
     add_between(found, ", ")?;
-    let key = change.key().escape_ascii();
     match change {
-        RowChange::Put(_) => write!(found, "put {key}"),
-        RowChange::Delete(_) => write!(found, "delete {key}"),
+        RowChange::Put(row) => {
+            found.push_str("put ")?;
+            add_row(row, found)
+        }
+        RowChange::Delete(key) => write!(found, "delete {}", key.as_slice().escape_ascii()),
     }
 }

@@ -4,7 +4,7 @@
 use crate::histories::counts_after;
 use crate::inputs::number;
 use event_counts::{Counts, CountsFault, StoreRow, counts_of};
-use row_tables::{Fault, byte, count, cut};
+use row_tables::{Fault, add_between, byte, count, cut};
 use sequences::Sequence;
 use std::alloc::{AllocError, Global};
 
@@ -148,15 +148,17 @@ fn set_byte(value: &mut [u8], text: &str) -> Result<(), Fault> {
 
 fn add_rows(rows: &[StoreRow], found: &mut String) -> Result<(), AllocError> {
     for row in rows {
+        add_between(found, ", ")?;
         add_row(row, found)?;
     }
     Ok(())
 }
 
-fn add_row(row: &StoreRow, found: &mut String) -> Result<(), AllocError> {
+/// Adds the text of a row.
+pub(crate) fn add_row(row: &StoreRow, found: &mut String) -> Result<(), AllocError> {
     let value = row.value.as_slice();
     let key = row.key.as_slice().escape_ascii();
-    write!(found, ", {key} {}", value.len())?;
+    write!(found, "{key} {}", value.len())?;
     for (place, byte) in value.iter().enumerate() {
         if *byte > 0 {
             write!(found, " {place}:{byte}")?;
