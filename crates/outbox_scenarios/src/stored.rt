@@ -2,7 +2,7 @@
 use crate::actions::{act_all, appended, confirmed};
 use crate::inputs::{bytes_of, halves};
 use crate::shown::{outbox_text, row_changes_text, rows_text};
-use anyhow::{Context, Result, bail};
+use anyhow::{Result, bail};
 use change_outbox::{Outbox, OutboxFault, outbox_of};
 use row_batches::StoreRow;
 use sequences::Sequence;
@@ -35,7 +35,9 @@ pub(crate) fn row_changes_after(alloc: Global, given: &str, input: &str) -> Resu
     let mut outbox = given_outbox(alloc, given)?;
     act_all(alloc, &mut outbox, actions)?;
     let mut left = confirmed(&outbox, number)?;
-    let next = appended(alloc, &mut left, changes)?.context("no outbox")?;
+    let Some(next) = appended(alloc, &mut left, changes)? else {
+        bail!("no outbox: {changes}");
+    };
     let changes = outbox.changes_to(alloc, &next)?;
     let changes = row_changes_text(alloc, changes.as_slice())?;
     Ok(format!(in alloc; "{changes}; {} bytes", next.size())?)
