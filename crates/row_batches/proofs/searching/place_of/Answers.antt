@@ -5,7 +5,7 @@ use Rattle.row_batches.specs.Places.{HasKeyAt, BelongsAt}
 use Rattle.row_batches.specs.Rows.{AreRows}
 use Rattle.row_batches.specs.declared.store_row.StoreRow.{StoreRow}
 use Rattle.row_batches.proofs.Ordered.{order_by, place_searched}
-use Rattle.row_batches.proofs.row_map.place_of.Goals as goal
+use Rattle.row_batches.proofs.searching.place_of.Goals as goal
 use Rattle.std.proofs.Common.{List}
 
 found_at : (key : List ℕ) (rows : List StoreRow) (r : Result ℕ ℕ) → IsSearchInRange r (length rows) → IsBinarySearchResult (order_by key) rows r → IfOk r (λ place. HasKeyAt key rows place)
