@@ -117,7 +117,7 @@ impl FoundStore {
 }
 
 // The state of these rows, with its store.
-fn state_in(alloc: Global, rows: RowStore) -> Result<FoundStore, ClientFault>
+fn state_in(alloc: Global, mut rows: RowStore) -> Result<FoundStore, ClientFault>
     ensures rows { IfOk result (λ found. found.rows ≡ rows) }
     ensures found { IfOk result IsFound }
     ensures none { IsErrOf result ClientFault.BadStore → (s : ClientState) → IsSound s → IsForm s rows.rows → ⊥ }
