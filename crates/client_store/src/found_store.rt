@@ -1,5 +1,5 @@
 // A store as it is found at its opening: its rows are those of its state, or their old form.
-ghost use Rattle.std.specs.Prelude.{◌≡◌, ◌≤◌, IfOk, OnOk, IsErrOf, IsTrue};
+ghost use Rattle.std.specs.Prelude.{◌≡◌, ◌≤◌, false, IfOk, OnOk, IsErrOf, IsTrue};
 ghost use Rattle.gate_journal.specs.Costs.{HasCost};
 ghost use Rattle.host_model.specs.declared.side.Side.TheVariants.{Left, Right};
 ghost use Rattle.host_model.specs.Causes.{Rose, HasCause};
@@ -108,7 +108,7 @@ impl FoundStore {
         ensures say_faults { H.say_faults host.new ≡ H.say_faults host.old }
     {
         let FoundStore { mut rows, state } = self;
-        if !needs_migration(rows.rows()) {
+        if !are_old_form(&mut rows) {
             return Ok(StateStore::new(rows, state));
         }
         migrate(alloc, host, &mut rows, &state)?;
@@ -131,6 +131,16 @@ fn state_in(alloc: Global, mut rows: RowStore) -> Result<FoundStore, ClientFault
         Err(CodecFault::NotAState) => Err(ClientFault::BadStore),
         Err(CodecFault::OutOfMemory) => Err(ClientFault::OutOfMemory),
     }
+}
+
+// Whether the rows are the old form of a state. They stay the same.
+fn are_old_form(rows: &mut RowStore) -> bool
+    ensures same { rows.new ≡ rows.old }
+    ensures row { result ≡ needs_migration rows.old.rows }
+    ensures old { IsTrue result → (s : ClientState) → IsForm s rows.old.rows → IsOldForm s rows.old.rows }
+    ensures spelled { result ≡ false → (s : ClientState) → IsForm s rows.old.rows → rows.old.rows ≡ rows_of s }
+{
+    needs_migration(rows.rows())
 }
 
 // Writes the row of participation of rows that are the old form of a state.
