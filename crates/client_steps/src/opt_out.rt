@@ -1,5 +1,8 @@
 // `opt-out`: nothing of a slug is enrolled any more.
 ghost use Rattle.std.specs.Prelude.{◌≡◌, IfOk};
+ghost use Rattle.enrol_states.specs.Commands.{after_opt_out};
+ghost use Rattle.enrol_states.specs.Consistent as states;
+ghost use Rattle.state_codec.specs.RecipeLists.{HasLists};
 ghost use Rattle.client_state.specs.Sound.{IsConsistent};
 ghost use Rattle.client_steps.specs.declared.session.Session.{Session};
 ghost use Rattle.client_steps.specs.Asked.{asked_outcome, FollowsFrom};
@@ -8,7 +11,7 @@ ghost use Rattle.client_steps.specs.Steps.{opting_out, enrolling};
 use crate::asked::Asked;
 use client_state::ClientState;
 use client_words::Answer;
-use enrol_states::{OptOutFault, opt_out};
+use enrol_states::{OptOutFault, State, opt_out};
 use plain_text::Slug;
 use state_codec::RecipeLists;
 use std::alloc::{AllocError, Global};
@@ -21,8 +24,22 @@ pub fn opting_out(alloc: Global, state: &ClientState, slug: &Slug) -> Result<Ask
     ensures follows { IfOk result (λ asked. FollowsFrom state.now asked) }
 {
     match opt_out(alloc, &state.enrolment, slug) {
-        Ok(next) => Ok(Asked::enrolled(next, RecipeLists::AsBefore, Answer::Okay)),
+        Ok(next) => {
+            let lists = lists_after(&state.enrolment, slug);
+            Ok(Asked::enrolled(next, lists, Answer::Okay))
+        }
         Err(OptOutFault::OptedOutLimit) => Ok(Asked::Refused(Answer::OptedOutLimit)),
         Err(OptOutFault::OutOfMemory) => Err(AllocError),
+    }
+}
+
+/// What an opt-out makes of the lists: the slug is one more that is opted out, unless it was before.
+fn lists_after(state: &State, slug: &Slug) -> RecipeLists
+    requires { states.IsConsistent state.now }
+    ensures { HasLists result state.now (after_opt_out state.now slug.now) }
+{
+    match state.opted_out.as_slice().binary_search(slug) {
+        Ok(_) => RecipeLists::AllAsBefore,
+        Err(place) => RecipeLists::OneMoreOptOut(place),
     }
 }

@@ -45,7 +45,7 @@ module _ {A : Type 0} (tag : ℕ) (text : A → List ℕ) (f : A → StoreRow) (
   above_section x [] above = tt
   above_section x (y ∷ ys) above = (ap₂ (λ (a b : List ℕ). slug_cmp a b) (keyed x) (keyed y) ∙ same (text x) (text y) ∙ above.0, above_section x ys above.1)
 
-  rise_section : (xs : List A) → Rise (map text xs) → AreRows (map f xs)
+  pub rise_section : (xs : List A) → Rise (map text xs) → AreRows (map f xs)
   unfolding IsStrictlySortedBy
   rise_section [] rise = tt
   rise_section (x ∷ xs) rise = (above_section x xs rise.0, rise_section xs rise.1)

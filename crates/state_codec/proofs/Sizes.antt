@@ -9,7 +9,7 @@ use Rattle.recipe_reader.specs.declared.recipe.Recipe.{Recipe}
 use Rattle.enrol_states.specs.declared.state.State.{State}
 use Rattle.state_codec.specs.Forms.{old_spelling}
 use Rattle.state_values.specs.Values.{hyphenated, participation, bit}
-use Rattle.state_codec.specs.Sizes.{recipes_size}
+use Rattle.state_codec.specs.Sizes.{recipes_size, slugs_size}
 use Rattle.state_codec.specs.Sound.{IsSound}
 use Rattle.state_codec.specs.Spelling.{row, key_row, recipe_row, status_row, status_rows, last_rows, pending_recipes, first_rows, later_rows, rows_with, spelling}
 use Rattle.state_values.specs.Statuses.{number}
@@ -50,8 +50,12 @@ recipe_rows_size : (tag : ℕ) (rs : List Recipe) → length (puts_text (map (re
 recipe_rows_size tag [] = refl
 recipe_rows_size tag (r ∷ rs) = omega (arith, put_size (recipe_row (tag ∷ []) r) (map (recipe_row (tag ∷ [])) rs), recipe_rows_size tag rs)
 
+slug_rows_size : (ss : List (List ℕ)) → length (puts_text (map (key_row (111 ∷ [])) ss)) ≡ slugs_size ss
+slug_rows_size [] = refl
+slug_rows_size (s ∷ ss) = omega (arith, put_size (key_row (111 ∷ []) s) (map (key_row (111 ∷ [])) ss), slug_rows_size ss)
+
 pub length-with : (byte : ℕ) (s : State) → length (batch_text (whole_of (rows_with byte s)))
-    ≡ 103 + length (puts_text (map (key_row (99 ∷ [])) s.coenrolling)) + length (puts_text (map (key_row (111 ∷ [])) s.opted_out)) + length (puts_text (map status_row s.rows)) + length s.version
+    ≡ 103 + length (puts_text (map (key_row (99 ∷ [])) s.coenrolling)) + slugs_size s.opted_out + length (puts_text (map status_row s.rows)) + length s.version
     + (recipes_size s.live + recipes_size (pending_recipes s.pending))
 unfolding rows_with first_rows later_rows
 length-with byte s =
@@ -61,10 +65,10 @@ length-with byte s =
     let n = map (recipe_row (110 ∷ [])) (pending_recipes s.pending) in
     let o = map (key_row (111 ∷ [])) s.opted_out in
     let last = status_rows byte s ++ last_rows s in
-    omega (arith, puts_size-append c (i ∷ (l ++ (n ++ (o ++ last)))), put_size i (l ++ (n ++ (o ++ last))), length-hyphenated s.id, puts_size-append l (n ++ (o ++ last)), puts_size-append n (o ++ last), recipe_rows_size 108 s.live, recipe_rows_size 110 (pending_recipes s.pending), puts_size-append o last, puts_size-append (status_rows byte s) (last_rows s), status_rows_size byte s, last_rows_size s)
+    omega (arith, puts_size-append c (i ∷ (l ++ (n ++ (o ++ last)))), put_size i (l ++ (n ++ (o ++ last))), length-hyphenated s.id, puts_size-append l (n ++ (o ++ last)), puts_size-append n (o ++ last), recipe_rows_size 108 s.live, recipe_rows_size 110 (pending_recipes s.pending), puts_size-append o last, slug_rows_size s.opted_out, puts_size-append (status_rows byte s) (last_rows s), status_rows_size byte s, last_rows_size s)
 
 pub length-spelling : (s : State) → length (spelling s)
-    ≡ 103 + length (puts_text (map (key_row (99 ∷ [])) s.coenrolling)) + length (puts_text (map (key_row (111 ∷ [])) s.opted_out)) + length (puts_text (map status_row s.rows)) + length s.version
+    ≡ 103 + length (puts_text (map (key_row (99 ∷ [])) s.coenrolling)) + slugs_size s.opted_out + length (puts_text (map status_row s.rows)) + length s.version
     + (recipes_size s.live + recipes_size (pending_recipes s.pending))
 unfolding spelling
 length-spelling s = length-with (participation s) s

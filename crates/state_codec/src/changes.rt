@@ -1,6 +1,6 @@
 // The batches of a state's rows: the one that makes them, whose bytes are the state's spelling, and the one that changes them to
 // the next state's.
-ghost use Rattle.std.specs.Prelude.{◌≡◌, ◌≤◌, ◌<◌, ◌+◌, ◌^◌, ◌++◌, [], All, length, IfOk, OnOk};
+ghost use Rattle.std.specs.Prelude.{◌≡◌, ◌≤◌, ◌<◌, ◌+◌, ◌^◌, ◌++◌, ◌∷◌, [], All, codes, length, IfOk, OnOk};
 ghost use Rattle.enrol_states.specs.Consistent.{IsConsistent};
 ghost use Rattle.enrol_states.specs.Statuses.{IsStatus};
 ghost use Rattle.row_batches.specs.Batch.{applied, batch_text, whole_of};
@@ -8,14 +8,18 @@ ghost use Rattle.row_batches.specs.Between.{put_where_differs, changes_between, 
 ghost use Rattle.state_codec.specs.RecipeLists.{HasLists};
 ghost use Rattle.state_codec.specs.Sound.{IsSound};
 ghost use Rattle.state_values.specs.Values.{participation};
-ghost use Rattle.state_codec.specs.Spelling.{status_rows, last_rows, pending_recipes, rows_behind_recipes, first_rows, later_rows, rows_of, spelling};
-ghost use Rattle.state_codec.specs.RecipeChanges.{live_changes, pending_changes};
+ghost use Rattle.row_batches.specs.declared.change.RowChange.TheVariants.{Put as put_change, Delete as delete_change};
+ghost use Rattle.state_codec.specs.Spelling.{key_row, status_rows, last_rows, pending_recipes, rows_behind_recipes, first_rows, later_rows, rows_of, spelling};
+ghost use Rattle.state_codec.specs.RecipeChanges.{live_changes, opt_out_changes, pending_changes};
 
 use crate::recipe_lists::RecipeLists;
 use crate::row_kind::RowKind;
-use crate::row_making::{flag_row, id_row, moment_row, participation_row, version_row};
+use crate::row_making::{
+    flag_row, id_row, key_of, moment_row, participation_row, row_of, version_row,
+};
 use crate::rows::rows_of;
 use enrol_states::State;
+use plain_text::Slug;
 use recipe_reader::{Recipe, Recipes};
 use row_batches::{Batch, RowChange, StoreRow, add_changes};
 use sequences::Sequence;
@@ -46,7 +50,8 @@ pub fn write_state(alloc: Global, state: &State) -> Result<Vec<u8>, AllocError>
 
 /// The batch from the rows of a state to those of the next: a put for each row that is new or differs, a delete for each that
 /// is gone, and nothing else. Its cost is that of comparing the states: a row is made only where it changes, and recipes are
-/// compared as values.
+/// compared as values. Where it is known that a list of recipes is as before, `change_after` gives the same batch and looks at
+/// none of them.
 pub fn change_between(alloc: Global, old: &State, new: &State) -> Result<Batch, AllocError>
     requires old_state { IsConsistent old.now }
     requires new_state { IsConsistent new.now }
@@ -62,9 +67,9 @@ pub fn change_between(alloc: Global, old: &State, new: &State) -> Result<Batch, 
     change_after(alloc, old, new, RecipeLists::MayDiffer)
 }
 
-// The batch of `change_between`, where it is known which lists of recipes are as before: these aren't looked at, so the cost
-// is that of the other lists, which are walked once.
-fn change_after(
+/// The batch of `change_between`, where it is known which lists of recipes are as before, and which one slug the opted-out ones have
+/// more or less: these aren't looked at, so the cost is that of the other lists, which are walked once.
+pub fn change_after(
     alloc: Global,
     old: &State,
     new: &State,
@@ -155,7 +160,7 @@ fn add_later(
 {
     add_row(changes, id_row(alloc, old.id)?, id_row(alloc, new.id)?)?;
     add_recipes(alloc, changes, old, new, recipes)?;
-    add_behind_recipes(alloc, changes, old, new)
+    add_behind_recipes(alloc, changes, old, new, recipes)
 }
 
 // Adds the changes of the rows of recipes.
@@ -174,6 +179,9 @@ fn add_recipes(
 {
     match recipes {
         RecipeLists::AsBefore => Ok(()),
+        RecipeLists::AllAsBefore => Ok(()),
+        RecipeLists::OneMoreOptOut(_) => Ok(()),
+        RecipeLists::OneLessOptOut(_) => Ok(()),
         RecipeLists::LiveAsBefore => add_pending(alloc, changes, old, new),
         RecipeLists::MayDiffer => {
             add_changes(
@@ -210,26 +218,77 @@ fn add_pending(
 }
 
 // Adds the changes of the rows behind those of recipes.
-#[tactic(auto, using(row_batches::proofs::ItemWalks::all_fit))]
 fn add_behind_recipes(
     alloc: Global,
     changes: &mut Sequence<RowChange>,
     old: &State,
     new: &State,
+    recipes: RecipeLists,
 ) -> Result<(), AllocError>
-    requires old_statuses { All (λ row. IsStatus row.status) old.now.rows }
-    requires new_statuses { All (λ row. IsStatus row.status) new.now.rows }
+    requires old_state { IsConsistent old.now }
+    requires new_state { IsConsistent new.now }
+    requires recipes { HasLists recipes old.now new.now }
     ensures { OnOk result (changes.new ≡ changes.old ++ changes_between (rows_behind_recipes (participation old.now) old.now) (rows_behind_recipes (participation new.now) new.now)) }
 {
-    add_changes(
-        alloc,
-        changes,
-        &RowKind::OptedOut,
-        old.opted_out.as_slice(),
-        new.opted_out.as_slice(),
-    )?;
+    add_opt_outs(alloc, changes, old, new, recipes)?;
     add_statuses(alloc, changes, old, new)?;
     add_last(alloc, changes, old, new)
+}
+
+// Adds the changes of the rows of opted-out slugs.
+#[tactic(auto, using(row_batches::proofs::ItemWalks::all_fit))]
+fn add_opt_outs(
+    alloc: Global,
+    changes: &mut Sequence<RowChange>,
+    old: &State,
+    new: &State,
+    recipes: RecipeLists,
+) -> Result<(), AllocError>
+    requires old_state { IsConsistent old.now }
+    requires new_state { IsConsistent new.now }
+    requires recipes { HasLists recipes old.now new.now }
+    ensures { OnOk result (changes.new ≡ changes.old ++ opt_out_changes old.now new.now) }
+{
+    match recipes {
+        RecipeLists::AllAsBefore => Ok(()),
+        RecipeLists::OneMoreOptOut(place) => {
+            put_opt_out(alloc, changes, &new.opted_out.as_slice()[place])
+        }
+        RecipeLists::OneLessOptOut(place) => {
+            delete_opt_out(alloc, changes, &old.opted_out.as_slice()[place])
+        }
+        RecipeLists::AsBefore | RecipeLists::LiveAsBefore | RecipeLists::MayDiffer => add_changes(
+            alloc,
+            changes,
+            &RowKind::OptedOut,
+            old.opted_out.as_slice(),
+            new.opted_out.as_slice(),
+        ),
+    }
+}
+
+// Adds a put of the row of an opted-out slug.
+fn put_opt_out(
+    alloc: Global,
+    changes: &mut Sequence<RowChange>,
+    slug: &Slug,
+) -> Result<(), AllocError>
+    ensures { OnOk result (changes.new ≡ changes.old ++ put_change (key_row (codes "o") slug.now) ∷ []) }
+{
+    let row = row_of(alloc, RowKind::OptedOut, slug.text(), Vec::new(alloc))?;
+    changes.push(RowChange::Put(row))
+}
+
+// Adds a delete of the row of a slug that was opted out.
+fn delete_opt_out(
+    alloc: Global,
+    changes: &mut Sequence<RowChange>,
+    slug: &Slug,
+) -> Result<(), AllocError>
+    ensures { OnOk result (changes.new ≡ changes.old ++ delete_change (key_row (codes "o") slug.now).key ∷ []) }
+{
+    let key = key_of(alloc, RowKind::OptedOut, slug.text())?;
+    changes.push(RowChange::Delete(key))
 }
 
 // Adds the changes of the rows of participation, of whether recipes are pending, and of the statuses.

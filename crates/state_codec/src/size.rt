@@ -5,7 +5,7 @@ ghost use Rattle.enrol_states.specs.Consistent.{IsConsistent};
 ghost use Rattle.row_batches.specs.Batch.{puts_text};
 ghost use Rattle.state_codec.specs.Forms.{old_spelling};
 ghost use Rattle.state_codec.specs.RecipeLists.{HasLists};
-ghost use Rattle.state_codec.specs.Sizes.{recipes_size, IsSizeOf};
+ghost use Rattle.state_codec.specs.Sizes.{recipes_size, slug_size, slugs_size, IsSizeOf};
 ghost use Rattle.state_codec.specs.Spelling.{spelling, key_row, status_row, pending_recipes};
 ghost use Rattle.state_codec.specs.Sound.{IsSound, HaveRecords, AreRecords};
 
@@ -24,7 +24,7 @@ pub(crate) const PUT: u128 = 7;
 /// the version without its value.
 const FRAME: u128 = 103;
 
-/// How many bytes a state is spelled in, and how many of them its recipes take.
+/// How many bytes a state is spelled in, and how many of them its recipes and its opted-out slugs take.
 #[derive(Clone, Copy)]
 pub struct StateSizes {
     /// Of the whole spelling.
@@ -33,6 +33,8 @@ pub struct StateSizes {
     pub live: u128,
     /// Of the rows of pending recipes.
     pub pending: u128,
+    /// Of the rows of opted-out slugs.
+    pub opted_out: u128,
 }
 
 /// How many bytes the state's spelling has, and its old form. It is counted without a text, and takes no memory.
@@ -55,15 +57,18 @@ pub fn sizes_of(state: &State) -> StateSizes
 {
     let live = recipes_size(state.live.as_slice());
     let pending = recipes_size(pending_recipes(&state.pending));
+    let opted_out = slugs_size(state.opted_out.as_slice());
     StateSizes {
-        total: size_without_recipes(state) + live + pending,
+        total: size_without_lists(state) + live + pending + opted_out,
         live,
         pending,
+        opted_out,
     }
 }
 
 /// The sizes of the new state, by those of the old one. A list of recipes that is as before isn't looked at, and of one that
-/// may differ both are walked once, and only recipes that are gone, new or differ are counted. It takes no memory.
+/// may differ both are walked once, and only recipes that are gone, new or differ are counted. Where it is known which one slug the
+/// opted-out ones have more or less, only that is counted. It takes no memory.
 pub fn sizes_after(before: StateSizes, old: &State, new: &State, recipes: RecipeLists) -> StateSizes
     requires before { IsSizeOf old.now before }
     requires old_state { IsSound old.now }
@@ -75,10 +80,12 @@ pub fn sizes_after(before: StateSizes, old: &State, new: &State, recipes: Recipe
 {
     let live = live_size(before.live, old, new, recipes);
     let pending = pending_size(before.pending, old, new, recipes);
+    let opted_out = opted_out_size(before.opted_out, old, new, recipes);
     StateSizes {
-        total: size_without_recipes(new) + live + pending,
+        total: size_without_lists(new) + live + pending + opted_out,
         live,
         pending,
+        opted_out,
     }
 }
 
@@ -94,7 +101,11 @@ fn live_size(before: u128, old: &State, new: &State, recipes: RecipeLists) -> u1
     ensures records { AreRecords new.now.live }
 {
     match recipes {
-        RecipeLists::AsBefore | RecipeLists::LiveAsBefore => before,
+        RecipeLists::AsBefore
+        | RecipeLists::AllAsBefore
+        | RecipeLists::OneMoreOptOut(_)
+        | RecipeLists::OneLessOptOut(_)
+        | RecipeLists::LiveAsBefore => before,
         RecipeLists::MayDiffer => {
             recipes_size_after(before, old.live.as_slice(), new.live.as_slice())
         }
@@ -113,7 +124,10 @@ fn pending_size(before: u128, old: &State, new: &State, recipes: RecipeLists) ->
     ensures records { AreRecords (pending_recipes new.now.pending) }
 {
     match recipes {
-        RecipeLists::AsBefore => before,
+        RecipeLists::AsBefore
+        | RecipeLists::AllAsBefore
+        | RecipeLists::OneMoreOptOut(_)
+        | RecipeLists::OneLessOptOut(_) => before,
         RecipeLists::LiveAsBefore | RecipeLists::MayDiffer => recipes_size_after(
             before,
             pending_recipes(&old.pending),
@@ -122,17 +136,35 @@ fn pending_size(before: u128, old: &State, new: &State, recipes: RecipeLists) ->
     }
 }
 
-// How many bytes the spelling has beside the rows of recipes.
-fn size_without_recipes(state: &State) -> u128
+// The size of the new state's opted-out slugs, by that of the old one's.
+#[tactic(auto, using(crate::proofs::OneSlug::opted_out_short))]
+fn opted_out_size(before: u128, old: &State, new: &State, recipes: RecipeLists) -> u128
+    requires before { before ≡ slugs_size old.now.opted_out }
+    requires old_state { IsSound old.now }
+    requires recipes { HasLists recipes old.now new.now }
+    ensures size { result ≡ slugs_size new.now.opted_out }
+    ensures bound { result < 2 ^ 80 }
+{
+    match recipes {
+        RecipeLists::AllAsBefore => before,
+        RecipeLists::OneMoreOptOut(place) => before + slug_size(&new.opted_out.as_slice()[place]),
+        RecipeLists::OneLessOptOut(place) => before - slug_size(&old.opted_out.as_slice()[place]),
+        RecipeLists::AsBefore | RecipeLists::LiveAsBefore | RecipeLists::MayDiffer => {
+            slugs_size(new.opted_out.as_slice())
+        }
+    }
+}
+
+// How many bytes the spelling has beside the rows of recipes and of opted-out slugs.
+fn size_without_lists(state: &State) -> u128
     requires { All (λ name. IsTrue (is_name name)) state.now.coenrolling }
-    ensures size { length (spelling state.now) ≡ result + (recipes_size state.now.live + recipes_size (pending_recipes state.now.pending)) }
+    ensures size { length (spelling state.now) ≡ result + (recipes_size state.now.live + recipes_size (pending_recipes state.now.pending)) + slugs_size state.now.opted_out }
     ensures bound { result < 2 ^ 80 }
 {
     let features = features_size(state.coenrolling.as_slice());
-    let slugs = slugs_size(state.opted_out.as_slice());
     let rows = client_rows_size(state.rows.as_slice());
     let version = state.version.as_str().len() as u128;
-    FRAME + features + slugs + rows + version
+    FRAME + features + rows + version
 }
 
 fn features_size(features: &[Text]) -> u128
@@ -149,15 +181,23 @@ fn features_size(features: &[Text]) -> u128
 }
 
 fn slugs_size(slugs: &[Slug]) -> u128
-    ensures size { result ≡ length (puts_text (map (key_row (codes "o")) slugs.now)) }
+    ensures size { result ≡ slugs_size slugs.now }
     ensures bound { result ≤ 88 * length slugs.now }
     ensures count { length slugs.now < 2 ^ 64 }
 {
     let mut size: u128 = 0;
     for slug in slugs {
-        size += PUT + 1 + slug.text().len() as u128;
+        size += slug_size(slug);
     }
     size
+}
+
+// How many bytes the row of an opted-out slug takes.
+fn slug_size(slug: &Slug) -> u128
+    ensures size { result ≡ slug_size slug.now }
+    ensures bound { result ≤ 88 }
+{
+    PUT + 1 + slug.text().len() as u128
 }
 
 fn client_rows_size(rows: &[Row]) -> u128

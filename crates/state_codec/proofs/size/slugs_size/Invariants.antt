@@ -1,10 +1,9 @@
-use Rattle.std.proofs.Common.{◌≡◌, ◌≤◌, ◌*◌, map, length, take, codes}
-use Rattle.row_batches.specs.Batch.{puts_text}
-use Rattle.state_codec.specs.Spelling.{key_row}
+use Rattle.std.proofs.Common.{◌≡◌, ◌≤◌, ◌*◌, take}
+use Rattle.state_codec.specs.Sizes.{slugs_size}
 use Rattle.state_codec.proofs.size.slugs_size.Given as goal
 
 abbrev pub invariant-loop-slug : goal.invariant-loop-slug
 invariant-loop-slug l = record {
-  size : l.size ≡ length (puts_text (map (key_row (codes "o")) (take l.slug-index l.slugs)));
+  size : l.size ≡ slugs_size (take l.slug-index l.slugs);
   bound : l.size ≤ 88 * l.slug-index;
 }
