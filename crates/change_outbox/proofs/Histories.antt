@@ -1,10 +1,11 @@
 -- What a history of an outbox leaves of all changes.
-use Rattle.std.proofs.Common.{◌≡◌, ℕ, suc, ◌+◌, ◌<◌, ◌≤◌, cond, List, [], ◌∷◌, ◌++◌, length, inl, inr, refl, sym, ap, ap₂, ◌∙◌, subst, arith, append_assoc}
+use Rattle.std.proofs.Common.{◌≡◌, ℕ, ◌+◌, ◌<◌, ◌≤◌, cond, List, [], ◌∷◌, ◌++◌, length, inl, inr, refl, sym, ap, ap₂, ◌∙◌, subst, arith, append_assoc}
 use Rattle.std.specs.Prelude.{max}
 use Rattle.std.proofs.lemmas.Bool.{cases_lt, lt-ltb, le-ltb}
 use Rattle.std.proofs.lemmas.List.{length-append, append-nil}
 use Rattle.change_outbox.specs.declared.change.Change.{Change}
 use Rattle.change_outbox.specs.Contents.{Contents, numbered, above, appended, confirmed}
+use Rattle.change_outbox.proofs.Numbers.{numbered-append}
 use Rattle.change_outbox.specs.Laws.{Action, Append, Confirm, after, AreAccepted, all_appended, greatest_confirmed, AreKeptUntilConfirmed}
 
 kept_first : (n : ℕ) (c : Change) (cs : List Change) → n < c.number → above n (c ∷ cs) ≡ c ∷ above n cs
@@ -38,12 +39,6 @@ above_both g k (c ∷ cs) =
           ]
       | inr under ↦ ap (above k) (dropped_first g c cs under) ∙ above_both g k cs ∙ sym (dropped_first (max g k) c cs (omega arith))
     ]
-
-numbered-append : (n : ℕ) (xs ys : List Change) → numbered n (xs ++ ys) ≡ numbered n xs ++ numbered (n + length xs) ys
-numbered-append n [] ys = let none : n ≡ n + 0 = omega arith in ap (λ m. numbered m ys) none
-numbered-append n (x ∷ xs) ys =
-    let more : n + 1 + length xs ≡ n + suc (length xs) = omega arith in
-    ap (λ (l : List Change). record x { number = n } ∷ l) (numbered-append (n + 1) xs ys ∙ ap (λ m. numbered (n + 1) xs ++ numbered m ys) more)
 
 -- the outbox to which these changes were appended, where those up to g were confirmed
 abbrev left : List Change → ℕ → Contents

@@ -1,6 +1,7 @@
 pub mod ByteOrder
 pub mod Numbers
 pub mod Parts
+pub mod Made
 pub mod EntryOrder
 pub mod RowSizes
 pub mod RowsOfNext

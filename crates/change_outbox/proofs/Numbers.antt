@@ -1,5 +1,5 @@
 -- Numbered changes: what is appended and what a confirmation leaves are numbered.
-use Rattle.std.proofs.Common.{◌≡◌, ℕ, zero, suc, ◌+◌, ◌-◌, ◌<◌, ◌≤◌, Bool, true, false, cond, List, [], ◌∷◌, ◌++◌, length, drop, inl, inr, refl, sym, ap, ap₂, ◌∙◌, subst, arith}
+use Rattle.std.proofs.Common.{◌≡◌, ℕ, zero, suc, ◌+◌, ◌-◌, ◌<◌, ◌≤◌, Bool, true, false, cond, List, [], ◌∷◌, ◌++◌, length, drop, inl, inr, refl, sym, ap, ap₂, ◌∙◌, subst, append_assoc, arith}
 use Rattle.std.specs.Prelude.{nat_lt}
 use Rattle.std.proofs.Math.Seq.{drop-nil}
 use Rattle.std.proofs.lemmas.Bool.{cases_lt, lt-ltb, le-ltb}
@@ -26,6 +26,32 @@ numbered_drop : (n k : ℕ) (cs : List Change) → AreNumberedFrom n cs → k �
 numbered_drop n zero cs are within = from n (n + 0) cs (omega arith) are
 numbered_drop n (suc k) [] are within = tt
 numbered_drop n (suc k) (c ∷ cs) are within = from (n + 1 + k) (n + suc k) (drop k cs) (omega arith) (numbered_drop (n + 1) k cs are.1 (omega arith))
+
+pub numbered-append : (n : ℕ) (xs ys : List Change) → numbered n (xs ++ ys) ≡ numbered n xs ++ numbered (n + length xs) ys
+numbered-append n [] ys = let none : n ≡ n + 0 = omega arith in ap (λ m. numbered m ys) none
+numbered-append n (x ∷ xs) ys =
+    let more : n + 1 + length xs ≡ n + suc (length xs) = omega arith in
+    ap (λ (l : List Change). record x { number = n } ∷ l) (numbered-append (n + 1) xs ys ∙ ap (λ m. numbered (n + 1) xs ++ numbered m ys) more)
+
+-- changes that are numbered again have the last numbers alone
+pub numbered-again : (m n : ℕ) (cs : List Change) → numbered n (numbered m cs) ≡ numbered n cs
+numbered-again m n [] = refl
+numbered-again m n (c ∷ cs) = ap (λ (l : List Change). record c { number = n } ∷ l) (numbered-again (m + 1) (n + 1) cs)
+
+-- so an append gives them the next ones
+pub appended-again : (m : ℕ) (cs : List Change) (o : Contents) → appended (numbered m cs) o ≡ appended cs o
+appended-again m cs o = λ i. record { next = o.next + length-numbered m cs i; entries = o.entries ++ numbered-again m o.next cs i }
+
+-- numbers go on behind changes that are put behind others
+pub numbers_go_on : (before after more rest all whole : List Change) → after ≡ before ++ numbered (length before) more → all ≡ more ++ rest → before ++ numbered (length before) all ≡ whole
+    → after ++ numbered (length after) rest ≡ whole
+numbers_go_on before after more rest all whole grows split so_far =
+    let added = numbered (length before) more in
+    let count : length after ≡ length before + length more = ap length grows ∙ length-append before added ∙ ap (λ n. length before + n) (length-numbered (length before) more) in
+    ap₂ (λ (l : List Change) (n : ℕ). l ++ numbered n rest) grows count
+    ∙ append_assoc before added (numbered (length before + length more) rest)
+    ∙ ap (λ (l : List Change). before ++ l) (sym (numbered-append (length before) more rest) ∙ ap (numbered (length before)) (sym split))
+    ∙ so_far
 
 -- ---- what is appended
 

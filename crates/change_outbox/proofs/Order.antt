@@ -13,13 +13,13 @@ use Rattle.change_outbox.proofs.ByteOrder.{keys_rise, next_key_first}
 abbrev IsBelow : List ℕ → List StoreRow → Type 0
 IsBelow key rows = AllByRecursion (λ k. key_cmp key k ≡ Less) (map key_of rows)
 
-below_changes : (a n : ℕ) (cs : List Change) → a < n → n + length cs ≤ 2 ^ 64 → AreNumberedFrom n cs → IsBelow (change_key a) (map change_row cs)
+pub below_changes : (a n : ℕ) (cs : List Change) → a < n → n + length cs ≤ 2 ^ 64 → AreNumberedFrom n cs → IsBelow (change_key a) (map change_row cs)
 below_changes a n [] less fits are = tt
 below_changes a n (c ∷ cs) less fits are =
     let first : key_cmp (change_key a) (change_key c.number) ≡ Less = subst (λ m. key_cmp (change_key a) (change_key m) ≡ Less) (sym are.0) (keys_rise a n less (omega arith)) in
     (first, below_changes a (n + 1) cs (omega arith) (omega arith) are.1)
 
-changes_rise : (n : ℕ) (cs : List Change) → n + length cs ≤ 2 ^ 64 → AreNumberedFrom n cs → AreRows (map change_row cs)
+pub changes_rise : (n : ℕ) (cs : List Change) → n + length cs ≤ 2 ^ 64 → AreNumberedFrom n cs → AreRows (map change_row cs)
 unfolding IsStrictlySortedBy
 changes_rise n [] fits are = tt
 changes_rise n (c ∷ cs) fits are =

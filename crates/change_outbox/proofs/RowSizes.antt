@@ -1,15 +1,16 @@
 -- How many bytes the rows of an outbox take.
-use Rattle.std.proofs.Common.{◌≡◌, ◌+◌, ◌<◌, ◌≤◌, ◌++◌, ◌∷◌, [], List, ℕ, suc, Bool, true, false, Option, Some, None, map, length, length-append, get_or, take, refl, ap, ◌∙◌, sym, arith, ne_eqb}
+use Rattle.std.proofs.Common.{◌≡◌, ◌+◌, ◌*◌, ◌<◌, ◌≤◌, ◌++◌, ◌∷◌, [], List, ℕ, suc, Bool, true, false, Option, Some, None, map, length, length-append, get_or, take, drop, refl, ap, ◌∙◌, sym, arith, ne_eqb}
 use Rattle.std.specs.Prelude.{nat_lt, if◌then◌else◌}
 use Rattle.std.proofs.lemmas.Bool.{lt-ltb}
-use Rattle.std.proofs.lemmas.List.{map-append, take_more}
+use Rattle.std.proofs.lemmas.List.{map-append, take-append-drop, take_more}
 use Rattle.plain_text.proofs.Splitting.{not_within}
 use Rattle.plain_text.specs.Names.{past_80, first_of}
 use Rattle.enrol_states.specs.Statuses.{IsSlug}
-use Rattle.row_batches.proofs.Sizes.{put_size, puts_text-append, puts_size-append}
+use Rattle.row_batches.proofs.Sizes.{put_size, puts_size-append}
 use Rattle.row_batches.specs.Batch.{puts_text}
 use Rattle.change_outbox.specs.declared.change.Change.{Change}
-use Rattle.change_outbox.specs.Rows.{change_key, change_row, next_row, next_rows, number_text}
+use Rattle.change_outbox.specs.Contents.{HaveSlugs, numbered}
+use Rattle.change_outbox.specs.Rows.{change_row, entry_rows, next_row, next_rows, number_text}
 
 none_past : (a b : Option ℕ) → first_of a b ≡ None → b ≡ None
 none_past None b is = is
@@ -44,3 +45,29 @@ size_more cs i c within is =
     ∙ puts_size-append (map change_row (take i cs)) (change_row (get_or cs i c) ∷ [])
     ∙ ap (λ d. length (puts_text (map change_row (take i cs))) + length (puts_text (change_row d ∷ []))) (sym is)
     ∙ ap (λ k. length (puts_text (map change_row (take i cs))) + k) (row_size c)
+
+-- ---- entries of more than one outbox
+
+-- numbers don't matter
+numbered-size : (n : ℕ) (cs : List Change) → length (puts_text (entry_rows (numbered n cs))) ≡ length (puts_text (entry_rows cs))
+numbered-size n [] = refl
+numbered-size n (c ∷ cs) =
+    omega (arith, put_size (change_row (record c { number = n })) (entry_rows (numbered (n + 1) cs)), put_size (change_row c) (entry_rows cs), length-number_text n, length-number_text c.number, numbered-size (n + 1) cs)
+
+sizes-append : (cs ds : List Change) → length (puts_text (entry_rows (cs ++ ds))) ≡ length (puts_text (entry_rows cs)) + length (puts_text (entry_rows ds))
+sizes-append cs ds = ap (λ rs. length (puts_text rs)) (map-append change_row cs ds) ∙ puts_size-append (entry_rows cs) (entry_rows ds)
+
+-- the size of entries with changes behind them
+pub appended_size : (n : ℕ) (cs ds all : List Change) → all ≡ cs ++ numbered n ds → length (puts_text (entry_rows cs)) + length (puts_text (entry_rows ds)) ≡ length (puts_text (entry_rows all))
+appended_size n cs ds all is =
+    ap (λ k. length (puts_text (entry_rows cs)) + k) (sym (numbered-size n ds)) ∙ sym (sizes-append cs (numbered n ds)) ∙ sym (ap (λ (l : List Change). length (puts_text (entry_rows l))) is)
+
+-- the first entries and the others
+pub divided_size : (k : ℕ) (cs : List Change) → length (puts_text (entry_rows cs)) ≡ length (puts_text (entry_rows (take k cs))) + length (puts_text (entry_rows (drop k cs)))
+divided_size k cs = ap (λ (l : List Change). length (puts_text (entry_rows l))) (sym (take-append-drop k cs)) ∙ sizes-append (take k cs) (drop k cs)
+
+-- each has at most 178 bytes
+pub size_bound : (cs : List Change) → HaveSlugs cs → length (puts_text (entry_rows cs)) ≤ 178 * length cs
+size_bound [] slugs = omega arith
+size_bound (c ∷ cs) slugs =
+    omega (arith, sizes-append (c ∷ []) cs, row_size c, slug_short c.slug slugs.0.slug, slug_short c.branch slugs.0.branch, size_bound cs slugs.1)

@@ -55,3 +55,9 @@ above number cs = filter (λ c. nat_lt number c.number) cs
 -- the outbox without the changes up to a number
 abbrev pub confirmed : ℕ → Contents → Contents
 confirmed number o = record { next = o.next; entries = above number o.entries }
+
+-- a confirmation and then an append make the second outbox of the first
+pub record IsMadeOf (o p : Contents) : Type 0 where
+  pub number : ℕ
+  pub changes : List Change
+  pub is : p ≡ appended changes (confirmed number o)

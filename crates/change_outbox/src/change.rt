@@ -15,7 +15,7 @@ pub enum ChangeKind {
 /// One change of an enrolment. A clone is the same change, and shares its texts.
 #[derive(Drop)]
 pub struct Change {
-    /// The change's number in its outbox, from 1; 0 where it is in none.
+    /// Its number: in an outbox from 1, and among the changes from one list of rows to another from 0.
     pub number: u64,
     /// The recipe's slug.
     pub slug: Slug,

@@ -9,9 +9,10 @@ use std::alloc::{AllocError, Global};
 use std::marker::Model;
 use std::rc::Rc;
 
-/// Changes, as the part of a list from `start` up to `end`. Contracts see the changes of the part. A clone shares the list.
+/// The entries of an outbox, as the part of a list from `start` up to `end`. Contracts see the changes of the part. A clone shares
+/// the list.
 #[derive(Drop)]
-pub(crate) struct Entries {
+pub struct Entries {
     alloc: Global,
     list: Option<Rc<Vec<Change>>>,
     start: usize,
@@ -66,7 +67,7 @@ impl Entries {
     }
 
     /// The changes. It takes no memory.
-    pub(crate) fn as_slice(&self) -> &[Change]
+    pub fn as_slice(&self) -> &[Change]
         ensures { result.now ≡ self.now }
     {
         match &self.list {

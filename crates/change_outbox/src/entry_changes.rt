@@ -1,7 +1,8 @@
-// The changes from the rows of one outbox to those of another.
-ghost use Rattle.std.specs.Prelude.{◌≡◌, ◌++◌, IfOk, OnOk};
+// The changes from the rows of one outbox to those of another that is made of it.
+ghost use Rattle.std.specs.Prelude.{◌≡◌, ◌≤◌, ◌-◌, ◌++◌, length, take, drop, IfOk, OnOk};
 ghost use Rattle.row_batches.specs.Between.{changes_between};
-ghost use Rattle.change_outbox.specs.Rows.{next_rows, rows_of};
+ghost use Rattle.change_outbox.specs.Contents.{IsMadeOf};
+ghost use Rattle.change_outbox.specs.Rows.{entry_rows, next_rows, rows_of};
 
 use crate::outbox::Outbox;
 use crate::rows::{EntryRows, next_row};
@@ -11,26 +12,41 @@ use std::alloc::{AllocError, Global};
 
 impl Outbox {
     /// The changes that make the rows of the next outbox of this one's, in the order of their keys: a put for each row that is
-    /// new or differs, a delete for each that is gone, and nothing else. The entries of both are walked once, and a row is made
-    /// only where it changes.
+    /// new or differs, a delete for each that is gone, and nothing else. The next one is made of this one by a confirmation and an
+    /// append, and only the entries that these take away and add are looked at.
     #[tactic(auto, using(crate::proofs::RowsOfNext::joined, row_batches::proofs::ItemWalks::all_fit))]
     pub fn changes_to(
         &self,
         alloc: Global,
         next: &Outbox,
     ) -> Result<Sequence<RowChange>, AllocError>
+        requires { IsMadeOf self.now next.now }
         ensures { IfOk result (λ changes. changes ≡ changes_between (rows_of self.now) (rows_of next.now)) }
     {
+        let kept = self.kept_in(next);
+        let gone = self.entries().len() - kept;
         let mut changes = Sequence::new(alloc);
         add_next_changes(alloc, &mut changes, self.next(), next.next())?;
         add_changes(
             alloc,
             &mut changes,
             &EntryRows,
-            self.entries(),
-            next.entries(),
+            &self.entries()[..gone],
+            &next.entries()[kept..],
         )?;
         Ok(changes)
+    }
+
+    // How many entries the next outbox has of this one: the last ones here, and the first ones there.
+    fn kept_in(&self, next: &Outbox) -> usize
+        requires { IsMadeOf self.now next.now }
+        ensures old_entries { result ≤ length self.now.entries }
+        ensures new_entries { result ≤ length next.now.entries }
+        ensures rows { changes_between (entry_rows (take (length self.now.entries - result) self.now.entries)) (entry_rows (drop result next.now.entries))
+            ≡ changes_between (entry_rows self.now.entries) (entry_rows next.now.entries) }
+    {
+        let added = next.next() - self.next();
+        next.entries().len() - added as usize
     }
 }
 

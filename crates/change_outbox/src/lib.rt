@@ -15,6 +15,7 @@ mod slug_changes;
 mod walking;
 
 pub use change::{Change, ChangeKind};
+pub use entries::Entries;
 pub use fault::{AppendChangesFault, ConfirmFault, OutboxFault};
 pub use laws::{kept_until_confirmed, one_list_of_rows};
 pub use outbox::{LAST_NUMBER, Outbox};

@@ -14,12 +14,12 @@ const CHANGE: u128 = 18;
 const NEXT: u128 = 16;
 
 impl Outbox {
-    /// How many bytes the puts of the outbox's rows have. They are counted without a text, and it takes no memory.
+    /// How many bytes the puts of the outbox's rows have. It takes no memory, and looks at no entry.
     pub fn size(&self) -> u128
         ensures size { result ≡ length (puts_text (rows_of self.now)) }
         ensures bound { result < 2 ^ 80 }
     {
-        next_size(self.next()) + entries_size(self.entries())
+        next_size(self.next()) + self.entries_size()
     }
 }
 
@@ -32,8 +32,8 @@ fn next_size(next: u64) -> u128
     if next > 1 { NEXT } else { 0 }
 }
 
-// The size of the rows of entries.
-fn entries_size(entries: &[Change]) -> u128
+/// The size of the rows of entries. They are counted without a text, and it takes no memory.
+pub(crate) fn entries_size(entries: &[Change]) -> u128
     ensures size { result ≡ length (puts_text (map change_row entries.now)) }
     ensures bound { result ≤ 178 * length entries.now }
     ensures count { length entries.now < 2 ^ 64 }

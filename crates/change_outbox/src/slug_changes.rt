@@ -1,8 +1,9 @@
 // The changes that one list of enrolment rows makes of another.
-ghost use Rattle.std.specs.Prelude.{◌≡◌, ◌++◌, ◌∷◌, [], IfOk, OnOk, option_map};
+ghost use Rattle.std.specs.Prelude.{◌≡◌, ◌++◌, ◌∷◌, [], length, IfOk, OnOk, option_map};
 ghost use Rattle.enrol_states.specs.Order.{Rise};
 ghost use Rattle.enrol_states.specs.State.{slugs_of};
 ghost use Rattle.change_outbox.specs.Changes.{changes_between, slug_changes};
+ghost use Rattle.change_outbox.specs.Contents.{numbered};
 
 use crate::change::{Change, ChangeKind};
 use crate::walking::next_step;
@@ -11,13 +12,13 @@ use plain_text::Slug;
 use sequences::Sequence;
 use std::alloc::{AllocError, Global};
 
-/// The changes from the old rows to the new ones, each with the number 0, in order by slug: where the client took part in a
-/// branch and no longer does, a leave of it, and then, where it takes part in a branch and didn't before, a join of that one.
-/// Both lists of rows are walked once.
+/// The changes from the old rows to the new ones, numbered from 0, in order by slug: where the client took part in a branch and no
+/// longer does, a leave of it, and then, where it takes part in a branch and didn't before, a join of that one. Both lists of
+/// rows are walked once.
 pub fn changes_of(alloc: Global, old: &[Row], new: &[Row]) -> Result<Sequence<Change>, AllocError>
     requires old_rows { Rise (slugs_of old.now) }
     requires new_rows { Rise (slugs_of new.now) }
-    ensures { IfOk result (λ changes. changes ≡ changes_between old.now new.now) }
+    ensures { IfOk result (λ changes. changes ≡ numbered 0 (changes_between old.now new.now)) }
 {
     let mut changes = Sequence::new(alloc);
     let mut olds = old;
@@ -30,14 +31,14 @@ pub fn changes_of(alloc: Global, old: &[Row], new: &[Row]) -> Result<Sequence<Ch
     Ok(changes)
 }
 
-// Adds the changes of a slug, by its branch before and after.
+// Adds the changes of a slug, by its branch before and after, under the next numbers.
 fn add_slug_changes(
     changes: &mut Sequence<Change>,
     slug: &Slug,
     before: Option<&Slug>,
     after: Option<&Slug>,
 ) -> Result<(), AllocError>
-    ensures { OnOk result (changes.new ≡ changes.old ++ slug_changes slug.now (option_map (λ b. b.now) before.entry) (option_map (λ b. b.now) after.entry)) }
+    ensures { OnOk result (changes.new ≡ changes.old ++ numbered (length changes.old) (slug_changes slug.now (option_map (λ b. b.now) before.entry) (option_map (λ b. b.now) after.entry))) }
 {
     match (before, after) {
         (None, None) => Ok(()),
@@ -53,17 +54,18 @@ fn add_slug_changes(
     }
 }
 
-// Adds one change, without a number.
+// Adds one change, under the next number.
 fn add_change(
     changes: &mut Sequence<Change>,
     slug: &Slug,
     kind: ChangeKind,
     branch: &Slug,
 ) -> Result<(), AllocError>
-    ensures { OnOk result (changes.new ≡ changes.old ++ record { number = 0; slug = slug.now; kind = kind; branch = branch.now } ∷ []) }
+    ensures { OnOk result (changes.new ≡ changes.old ++ record { number = length changes.old; slug = slug.now; kind = kind; branch = branch.now } ∷ []) }
 {
+    let number = changes.len() as u64;
     changes.push(Change {
-        number: 0,
+        number,
         slug: slug.clone()?,
         kind,
         branch: branch.clone()?,

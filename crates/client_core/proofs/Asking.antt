@@ -8,7 +8,7 @@ use Rattle.client_words.specs.declared.command.Command.TheVariants as commands
 use Rattle.client_steps.specs.Commands.{names_file, HasAsked}
 
 module _ {F : Type 0} (f : Ghosts F) (shelf left : F) (command : Command) (file : List ℕ) where
-  pub manifest_asked : (channel : List ℕ) → command ≡ commands.Manifest file channel → IsAskedFrom f.asks file shelf left → HasAsked f command shelf left
+  pub manifest_asked : (channel : List ℕ) → command ≡ commands.Manifest file channel → IsAskedFrom f file channel shelf left → HasAsked f command shelf left
   manifest_asked channel is asked = subst (λ (c : Command). HasAsked f c shelf left) (sym is) (record { names = asked.0; files = asked.1; reached = asked.2 })
 
   pub context_asked : command ≡ commands.Context file → f.asks shelf file left → HasAsked f command shelf left

@@ -11,7 +11,7 @@ never_ok : (T : Type 0) (fault : ClientFault) → IsOk {T = T} {E = ClientFault}
 never_ok T fault is = absurd cc
 
 module _ {T U : Type 0} (fault : ClientFault) where
-  same_fault : (other : ClientFault) → IsErrOf {T = T} {E = ClientFault} (Err fault) other → IsErrOf {T = U} {E = ClientFault} (Err fault) other
+  pub same_fault : (other : ClientFault) → IsErrOf {T = T} {E = ClientFault} (Err fault) other → IsErrOf {T = U} {E = ClientFault} (Err fault) other
   same_fault other is = ap Err (fault_is {T = T} fault other is)
 
   failed_too : OpenFailed {T = T} (Err fault) → OpenFailed {T = U} (Err fault)

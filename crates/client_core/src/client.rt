@@ -122,6 +122,7 @@ impl Client {
 
         ensures unchanged { state_of self.old ≡ next_state self.old prepared → IsOk result × (host.new ≡ host.old) }
         ensures cause { HasCause (H.disk_faults host.old) (H.disk_faults host.new) result }
+        ensures disk_quiet { OnOk result (H.disk_faults host.new ≡ H.disk_faults host.old) }
         ensures say_faults { H.say_faults host.new ≡ H.say_faults host.old }
     {
         self.store.state();
@@ -173,6 +174,7 @@ impl Client {
         ensures below { H.tells → MeetsAll H.Host host.old host.new (StaysBelow H.Host host.old) }
         ensures checkpoint { change.ready.is_whole ≡ makes_checkpoint (end_of self.old) (state_of self.old) change.state }
         ensures cause { HasCause (H.disk_faults host.old) (H.disk_faults host.new) result }
+        ensures disk_quiet { OnOk result (H.disk_faults host.new ≡ H.disk_faults host.old) }
         ensures say_faults { H.say_faults host.new ≡ H.say_faults host.old }
     {
         self.store.commit(host, change)?;

@@ -45,6 +45,7 @@ impl Client {
         ensures only_read { H.tells → HasNoList (H.reads host.old Left) (H.reads host.old Right) → IsOnlyRead H.Host host.old host.new }
 
         ensures cause { IsErrOf result ClientFault.DiskFault → Rose (H.disk_faults host.old) (H.disk_faults host.new) }
+        ensures disk_quiet { ¬ IsErrOf result ClientFault.DiskFault → H.disk_faults host.new ≡ H.disk_faults host.old }
         ensures disk_faults { H.disk_faults host.old ≤ H.disk_faults host.new }
         ensures say_faults { H.say_faults host.new ≡ H.say_faults host.old }
     {

@@ -58,14 +58,15 @@ impl Client {
         // A value that is answered of a feature has the feature's type.
         ensures typed { IfOk result (λ prepared. IsTyped (state_of self.old) (session_of self.old) command.now (answer_in prepared)) }
 
-        // `context`, `bind` and `fetch` ask the shelf for their file, and for no other. `manifest` asks for its file first, or for none,
-        // and then for those that it includes or imports, of which nothing is said here. Each other command asks for none.
+        // `context`, `bind` and `fetch` ask the shelf for their file, and for no other. `manifest` asks for no file, or for the first ones
+        // of the list of its manifest's files, each of them once. Each other command asks for none.
         ensures asked { HasAsked F.Shelf command.now shelf.old shelf.new }
         ensures unasked { names_file command.now ≡ false → shelf.new ≡ shelf.old }
         ensures shelf_fault { IsErrOf result StepFault.ShelfFault → IsTrue (names_file command.now) }
         ensures files { F.tells → (name : List ℕ) → F.file shelf.new name ≡ F.file shelf.old name }
         ensures cause { IsErrOf result StepFault.ShelfFault → Rose (F.faults shelf.old) (F.faults shelf.new) }
         ensures faults { F.faults shelf.old ≤ F.faults shelf.new }
+        ensures quiet { ¬ IsErrOf result StepFault.ShelfFault → F.faults shelf.new ≡ F.faults shelf.old }
     {
         let asked = self.asked(alloc, command, now, table, shelf)?;
         Ok(self.done(alloc, asked)?)
@@ -95,6 +96,7 @@ impl Client {
         ensures files { F.tells → (name : List ℕ) → F.file shelf.new name ≡ F.file shelf.old name }
         ensures cause { IsErrOf result StepFault.ShelfFault → Rose (F.faults shelf.old) (F.faults shelf.new) }
         ensures faults { F.faults shelf.old ≤ F.faults shelf.new }
+        ensures quiet { ¬ IsErrOf result StepFault.ShelfFault → F.faults shelf.new ≡ F.faults shelf.old }
     {
         match command {
             Command::Manifest { file, channel } => setting_manifest(alloc, shelf, file, channel),
@@ -133,7 +135,7 @@ impl Client {
             Command::Feature { name } => serving(alloc, self.state(), &self.session, name),
             Command::WriteManifest => writing_manifest(alloc, &self.session),
             Command::Event { name, count } => counting(alloc, self.state(), name, *count, now),
-            Command::Changes => listing_changes(alloc, self.state()),
+            Command::Changes => listing_changes(self.state()),
             Command::Confirm { number } => confirming(self.state(), *number),
             Command::SetPreference { name, value } => self.preferring(alloc, name, Some(value)),
             Command::ClearPreference { name } => self.preferring(alloc, name, None),

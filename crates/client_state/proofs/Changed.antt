@@ -14,7 +14,7 @@ use Rattle.row_batches.specs.Between.{changes_between, between}
 use Rattle.row_batches.specs.declared.change.RowChange.{RowChange}
 use Rattle.row_batches.proofs.Sizes.{between_short}
 use Rattle.row_batches.proofs.Walks.{between_rule, applied_between}
-use Rattle.client_state.specs.Changes.{ArePreferencesIf, AreSoundIf, IsSoundIf, IsNextIf, IsWholeChangeOf, enrolment_after, state_after}
+use Rattle.client_state.specs.Changes.{ArePreferencesIf, AreSoundIf, IsNextOutboxIf, IsNextIf, IsWholeChangeOf, enrolment_after, state_after}
 use Rattle.client_state.specs.Sound.{IsConsistent}
 use Rattle.client_state.specs.Spelling.{rows_of, spelling}
 use Rattle.client_state.specs.declared.client_state.ClientState.{ClientState}
@@ -33,9 +33,9 @@ pub events_sound : (next : Option (List NameCounts)) (ns : List NameCounts) → 
 events_sound None ns is can = is
 events_sound (Some next) ns is can = can
 
-pub outbox_sound : (next : Option Contents) (o : Contents) → contents.IsSound o → IsSoundIf next → contents.IsSound (unwrap_or next o)
+pub outbox_sound : (next : Option Contents) (o : Contents) → contents.IsSound o → IsNextOutboxIf o next → contents.IsSound (unwrap_or next o)
 outbox_sound None o is can = is
-outbox_sound (Some next) o is can = can
+outbox_sound (Some next) o is can = can.sound
 
 pub preferences_sound : (next : Option (List Preference)) (ps : List Preference) → preferences.IsSound ps → ArePreferencesIf next → preferences.IsSound (unwrap_or next ps)
 preferences_sound None ps is can = is

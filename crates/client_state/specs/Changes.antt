@@ -7,7 +7,7 @@ use Rattle.enrol_states.specs.declared.state.State.{State}
 use Rattle.event_counts.specs.Sound as counts
 use Rattle.event_counts.specs.declared.name_counts.NameCounts.{NameCounts}
 use Rattle.change_outbox.specs.Contents as contents
-use Rattle.change_outbox.specs.Contents.{Contents}
+use Rattle.change_outbox.specs.Contents.{Contents, IsMadeOf}
 use Rattle.pref_bindings.specs.Changes.{set_by_user}
 use Rattle.pref_bindings.specs.Preferences as preference_lists
 use Rattle.pref_bindings.specs.declared.preference.Preference.{Preference}
@@ -73,9 +73,14 @@ abbrev pub AreSoundIf : Option (List NameCounts) → Type 0
 AreSoundIf None = ⊤
 AreSoundIf (Some ns) = counts.IsSound ns
 
-abbrev pub IsSoundIf : Option Contents → Type 0
-IsSoundIf None = ⊤
-IsSoundIf (Some o) = contents.IsSound o
+-- a client can have the next outbox, and a confirmation and an append make it of that of before
+pub record IsNextOutbox (o next : Contents) : Type 0 where
+  pub sound : contents.IsSound next
+  pub made : IsMadeOf o next
+
+abbrev pub IsNextOutboxIf : Contents → Option Contents → Type 0
+IsNextOutboxIf o None = ⊤
+IsNextOutboxIf o (Some next) = IsNextOutbox o next
 
 abbrev pub ArePreferencesIf : Option (List Preference) → Type 0
 ArePreferencesIf None = ⊤
@@ -85,7 +90,7 @@ ArePreferencesIf (Some ps) = preference_lists.IsSound ps
 pub record IsChangeOf (s : ClientState) (change : StateChange) : Type 0 where
   pub enrolment : IsNextIf s.enrolment change.enrolment
   pub events : AreSoundIf change.events
-  pub outbox : IsSoundIf change.outbox
+  pub outbox : IsNextOutboxIf s.outbox change.outbox
   pub preferences : ArePreferencesIf change.preferences
 
 -- before the enrolment changes, the client takes part in the recipes that hold preferences after the change

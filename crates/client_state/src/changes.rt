@@ -10,7 +10,7 @@ ghost use Rattle.state_codec.specs.Spelling.{first_rows, later_rows};
 ghost use Rattle.event_counts.specs.Rows as count_rows;
 ghost use Rattle.change_outbox.specs.Rows as change_rows;
 ghost use Rattle.pref_bindings.specs.Rows.{hold_rows, value_rows};
-ghost use Rattle.client_state.specs.Changes.{IsNextIf, IsWholeChangeOf, enrolment_after, state_after};
+ghost use Rattle.client_state.specs.Changes.{IsNextIf, IsNextOutboxIf, IsWholeChangeOf, enrolment_after, state_after};
 ghost use Rattle.client_state.specs.Sound.{IsConsistent};
 ghost use Rattle.client_state.specs.Spelling.{rows_of, spelling};
 
@@ -145,6 +145,7 @@ fn outbox_changes(
     old: &Outbox,
     next: &Option<Outbox>,
 ) -> Result<Sequence<RowChange>, AllocError>
+    requires { IsNextOutboxIf old.now next.now }
     ensures { IfOk result (λ changes. changes ≡ changes_between (change_rows.rows_of old.now) (change_rows.rows_of (unwrap_or next.now old.now))) }
 {
     match next {

@@ -2,8 +2,8 @@
 ghost use Rattle.std.specs.Prelude.{◌≡◌, ◌+◌, false, nat_lt, length, IfOk, IsErrOf, IsTrue, option_map};
 ghost use Rattle.std.specs.Option.{unwrap_or};
 ghost use Rattle.change_outbox.specs.Contents as contents;
-ghost use Rattle.change_outbox.specs.Contents.{appended, last_number};
-ghost use Rattle.client_state.specs.Changes.{HasHoldersOfBefore, IsChangeOf, IsWholeChangeOf, state_after};
+ghost use Rattle.change_outbox.specs.Contents.{Contents, IsMadeOf, appended, last_number};
+ghost use Rattle.client_state.specs.Changes.{HasHoldersOfBefore, IsChangeOf, IsNextOutbox, IsNextOutboxIf, IsWholeChangeOf, state_after};
 ghost use Rattle.client_state.specs.Following.{followed, spends};
 ghost use Rattle.client_state.specs.Sound.{IsConsistent};
 
@@ -69,21 +69,40 @@ pub fn follow(
 }
 
 // The next outbox, or else that of before, with the changes. That of before is lent, and stays the same.
+#[tactic(auto, using(change_outbox::proofs::Made::made_itself))]
 fn next_outbox(
     before: &mut Outbox,
     next: Option<Outbox>,
     changes: Sequence<Change>,
 ) -> Result<Outbox, AppendChangesFault>
+    requires next { IsNextOutboxIf before.old next }
     ensures same { before.new ≡ before.old }
     ensures outbox { IfOk result (λ outbox. outbox ≡ appended changes (unwrap_or next before.old)) }
-    ensures sound { IfOk result contents.IsSound }
+    ensures next { IfOk result (IsNextOutbox before.old) }
     ensures not_spent { IfOk result (λ _. nat_lt last_number ((unwrap_or next before.old).next + length changes) ≡ false) }
     ensures spent { IsErrOf result AppendChangesFault.ChangesSpent → IsTrue (nat_lt last_number ((unwrap_or next before.old).next + length changes)) }
 {
-    let outbox = match next {
-        Some(mut outbox) => outbox.appended(changes)?,
-        None => before.appended(changes)?,
-    };
+    match next {
+        Some(mut outbox) => with_changes(&mut outbox, changes),
+        None => with_changes(before, changes),
+    }
+}
+
+// The outbox with the changes. It is made of all that this one is made of.
+#[tactic(auto, using(change_outbox::proofs::Made::appended_made))]
+fn with_changes(
+    outbox: &mut Outbox,
+    changes: Sequence<Change>,
+) -> Result<Outbox, AppendChangesFault>
+    ensures same { outbox.new ≡ outbox.old }
+    ensures sound { contents.IsSound outbox.old }
+    ensures outbox { IfOk result (λ o. o ≡ appended changes outbox.old) }
+    ensures next { IfOk result (λ next. (o : Contents) → IsMadeOf o outbox.old → IsNextOutbox o next) }
+    ensures not_spent { IfOk result (λ _. nat_lt last_number (outbox.old.next + length changes) ≡ false) }
+    ensures spent { IsErrOf result AppendChangesFault.ChangesSpent → IsTrue (nat_lt last_number (outbox.old.next + length changes)) }
+{
     outbox.next();
-    Ok(outbox)
+    let next = outbox.append(changes)?;
+    next.next();
+    Ok(next)
 }

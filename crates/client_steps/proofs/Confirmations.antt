@@ -1,14 +1,22 @@
 -- What a confirmation asks for.
-use Rattle.std.proofs.Common.{◌≡◌, ℕ, ◌<◌, ◌≤◌, Bool, sym, ap, ◌∙◌, subst}
+use Rattle.std.proofs.Common.{◌≡◌, ℕ, ◌<◌, ◌≤◌, Bool, None, refl, sym, ap, ◌∙◌, subst}
 use Rattle.std.specs.Prelude.{nat_le, if◌then◌else◌}
 use Rattle.std.proofs.lemmas.Bool.{le-leb, lt-leb}
-use Rattle.change_outbox.specs.Contents.{Contents, confirmed}
-use Rattle.client_state.specs.Changes.{of_outbox}
+use Rattle.change_outbox.specs.Contents.{Contents, IsSound, confirmed}
+use Rattle.change_outbox.proofs.Made.{confirmed_made}
+use Rattle.client_state.specs.Changes.{IsChangeOf, of_outbox}
 use Rattle.client_state.specs.declared.client_state.ClientState.{ClientState}
+use Rattle.client_state.specs.declared.state_change.StateChange.{StateChange}
 use Rattle.client_words.specs.declared.answer.Answer.TheVariants.{Okay, NoSuchChange}
 use Rattle.client_steps.specs.declared.session.Session.{Session}
 use Rattle.client_steps.specs.Asked.{changed_outcome}
 use Rattle.client_steps.specs.Steps.{Outcome, Accepted, Refused, confirming}
+
+-- the change is one of the state
+pub confirms_part : (s : ClientState) (number : ℕ) (next : Contents) (change : StateChange) → IsSound next → next ≡ confirmed number s.outbox → change ≡ of_outbox next → IsChangeOf s change × (change.preferences ≡ None)
+confirms_part s number next change sound is change_is =
+    subst (λ (x : StateChange). IsChangeOf s x × (x.preferences ≡ None)) (sym change_is)
+    (record { enrolment = tt; events = tt; outbox = record { sound = sound; made = confirmed_made number s.outbox next is }; preferences = tt }, refl)
 
 module _ (s : ClientState) (session : Session) (number : ℕ) where
   abbrev either : Bool → Outcome

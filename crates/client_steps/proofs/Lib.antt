@@ -21,3 +21,5 @@ pub mod Soundness
 pub mod ServedValues
 mod Trees
 mod SoundValues
+pub mod WrittenManifests
+pub mod AskedFiles

@@ -13,3 +13,4 @@ pub mod Sessions
 pub mod Settings
 pub mod Soundness
 pub mod Steps
+pub mod WrittenManifests

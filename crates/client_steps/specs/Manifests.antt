@@ -3,6 +3,7 @@ use Rattle.std.specs.Prelude.{◌≡◌, ℕ, List, Option, None, Some, Result, 
 use Rattle.fml_types.specs.Named.{AreRising}
 use Rattle.fml_types.specs.Sound.{IsSoundManifest}
 use Rattle.fml_types.specs.declared.manifest.Manifest.{Manifest}
+use Rattle.fml_link.specs.Laws.{LinksBack}
 use Rattle.fml_link.specs.Linking.{linked}
 use Rattle.fml_link.specs.declared.fault.LinkRefusal.{LinkRefusal}
 use Rattle.fml_link.specs.declared.fault.LinkRefusal.TheVariants as link
@@ -39,8 +40,9 @@ checked (Err fault) = Err (link_refusal fault)
 unfoldable pub manifest_of : (List ℕ → Option (List ℕ)) → List ℕ → List ℕ → Result Manifest Answer
 manifest_of files name channel = checked (linked files name channel)
 
--- what each manifest of a session keeps: it is sound, its features are in order, and each default fits
+-- what each manifest of a session keeps: it is sound, its features are in order, each default fits, and its single file links back
 pub record IsLinked (m : Manifest) : Type 0 where
   pub sound : IsSoundManifest m
   pub order : AreRising m.features
   pub fits : bad_default m ≡ None
+  pub back : LinksBack m

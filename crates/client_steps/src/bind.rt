@@ -33,6 +33,7 @@ pub fn reading_bindings<F: Shelf>(
     ensures asked { F.asks shelf.old file.now shelf.new }
     ensures cause { IsErrOf result StepFault.ShelfFault → Rose (F.faults shelf.old) (F.faults shelf.new) }
     ensures faults { F.faults shelf.old ≤ F.faults shelf.new }
+    ensures quiet { ¬ IsErrOf result StepFault.ShelfFault → F.faults shelf.new ≡ F.faults shelf.old }
 {
     match read_tree(alloc, shelf, file)? {
         Ok(tree) => Ok(bindings_in(alloc, &tree)?),

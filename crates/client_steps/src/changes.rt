@@ -7,14 +7,13 @@ ghost use Rattle.client_steps.specs.Steps.{listing_changes};
 use crate::asked::Asked;
 use client_state::ClientState;
 use client_words::Answer;
-use sequences::Sequence;
-use std::alloc::{AllocError, Global};
+use std::alloc::AllocError;
 
-/// What `changes` asks for.
-pub fn listing_changes(alloc: Global, state: &ClientState) -> Result<Asked, AllocError>
+/// What `changes` asks for. The entries are shared.
+pub fn listing_changes(state: &ClientState) -> Result<Asked, AllocError>
     ensures asks { IfOk result (λ asked. (session : Session) → asked_outcome state.now session asked ≡ listing_changes state.now session) }
     ensures follows { IfOk result (λ asked. FollowsFrom state.now asked) }
 {
-    let changes = state.outbox.entries().to_vec(alloc)?;
-    Ok(Asked::same(Answer::Changes(Sequence::from_vec(changes))))
+    let changes = state.outbox.shared_entries()?;
+    Ok(Asked::same(Answer::Changes(changes)))
 }

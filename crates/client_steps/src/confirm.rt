@@ -16,7 +16,7 @@ pub fn confirming(state: &ClientState, number: u64) -> Result<Asked, AllocError>
         ≡ confirming state.now session number) }
     ensures follows { IfOk result (λ asked. FollowsFrom state.now asked) }
 {
-    match state.outbox.confirmed(number) {
+    match state.outbox.confirm(number) {
         Ok(outbox) => {
             outbox.next();
             Ok(Asked::NewState {

@@ -39,6 +39,7 @@ pub fn fetching<F: Shelf>(
     ensures asked { F.asks shelf.old file.now shelf.new }
     ensures cause { IsErrOf result StepFault.ShelfFault → Rose (F.faults shelf.old) (F.faults shelf.new) }
     ensures faults { F.faults shelf.old ≤ F.faults shelf.new }
+    ensures quiet { ¬ IsErrOf result StepFault.ShelfFault → F.faults shelf.new ≡ F.faults shelf.old }
 {
     match fetch(alloc, shelf, file)? {
         Ok(payload) => Ok(with_pending(state, payload)?),
@@ -74,6 +75,7 @@ fn fetch<F: Shelf>(
     ensures asked { F.asks shelf.old name.now shelf.new }
     ensures cause { IsErrOf result StepFault.ShelfFault → Rose (F.faults shelf.old) (F.faults shelf.new) }
     ensures faults { F.faults shelf.old ≤ F.faults shelf.new }
+    ensures quiet { ¬ IsErrOf result StepFault.ShelfFault → F.faults shelf.new ≡ F.faults shelf.old }
 {
     match read_tree(alloc, shelf, name)? {
         Ok(tree) => Ok(payload_in(alloc, &tree)?),

@@ -24,6 +24,7 @@ pub(crate) fn read_tree<F: Shelf>(
     ensures asked { F.asks shelf.old name.now shelf.new }
     ensures cause { IsErrOf result StepFault.ShelfFault → Rose (F.faults shelf.old) (F.faults shelf.new) }
     ensures faults { F.faults shelf.old ≤ F.faults shelf.new }
+    ensures quiet { ¬ IsErrOf result StepFault.ShelfFault → F.faults shelf.new ≡ F.faults shelf.old }
 {
     match shelf.take(alloc, name.as_str()) {
         ShelfAnswer::Bytes(bytes) => Ok(tree_in(alloc, name, &bytes)?),

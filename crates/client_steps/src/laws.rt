@@ -5,6 +5,7 @@ ghost use Rattle.client_steps.specs.OutboxSteps.{OutboxFollows};
 ghost use Rattle.client_steps.specs.PreferenceSteps.{PreferencesFollow};
 ghost use Rattle.client_steps.specs.ServedValues.{ValuesAreServed, ValuesHaveTypes};
 ghost use Rattle.client_steps.specs.Soundness.{StepsStaySound};
+ghost use Rattle.client_steps.specs.WrittenManifests.{ManifestsAreMadeAgain};
 
 /// A slug stays opted out, and so nothing of it is enrolled, until a command that is done brings it back: an opt-in of
 /// the slug, or a reset.
@@ -45,4 +46,10 @@ pub fn values_are_served()
 /// That value has the type of the feature, from every sound state and lawful session.
 pub fn values_have_types()
     ensures { ValuesHaveTypes }
+{}
+
+/// A file with the text of what `write-manifest` is answered, of at most 4,194,304 bytes, makes the session's manifest again,
+/// for the manifest's channel, in every lawful session.
+pub fn manifests_are_made_again()
+    ensures { ManifestsAreMadeAgain }
 {}

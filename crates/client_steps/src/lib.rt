@@ -36,8 +36,8 @@ pub use faults::StepFault;
 pub use feature::serving;
 pub use fetch::fetching;
 pub use laws::{
-    events_follow, opt_outs_hold, outbox_follows, preferences_follow, steps_stay_sound,
-    values_are_served, values_have_types,
+    events_follow, manifests_are_made_again, opt_outs_hold, outbox_follows, preferences_follow,
+    steps_stay_sound, values_are_served, values_have_types,
 };
 pub use linked_manifest::LinkedManifest;
 pub use manifest::setting_manifest;

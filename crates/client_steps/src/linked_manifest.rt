@@ -47,6 +47,7 @@ impl LinkedManifest {
     pub fn manifest(&self) -> &Manifest
         ensures manifest { result.now ≡ self.now }
         ensures sound { IsSoundManifest result.now }
+        ensures linked { IsLinked result.now }
     {
         &self.manifest
     }

@@ -3,6 +3,7 @@ ghost use Rattle.std.specs.Prelude.{◌≡◌, ◌≤◌, List, ℕ, IfOk, IsErr
 ghost use Rattle.host_model.specs.Causes.{Rose};
 ghost use Rattle.fml_types.specs.Sound.{IsSoundManifest};
 ghost use Rattle.fml_link.specs.Asked.{IsAskedFrom};
+ghost use Rattle.fml_link.specs.Laws.{LinksBack};
 ghost use Rattle.fml_merge.specs.Faults.{bad_default};
 ghost use Rattle.client_state.specs.declared.client_state.ClientState.{ClientState};
 ghost use Rattle.client_steps.specs.declared.session.Session.{Session};
@@ -33,9 +34,10 @@ pub fn setting_manifest<F: Shelf>(
         → asked_outcome s session asked ≡ setting_manifest s session (manifest_of (F.file shelf.old) file.now channel.now)) }
     ensures follows { IfOk result (λ asked. (s : ClientState) → FollowsFrom s asked) }
     ensures files { F.tells → (name : List ℕ) → F.file shelf.new name ≡ F.file shelf.old name }
-    ensures asked { IsAskedFrom F.asks file.now shelf.old shelf.new }
+    ensures asked { IsAskedFrom F.Shelf file.now channel.now shelf.old shelf.new }
     ensures cause { IsErrOf result StepFault.ShelfFault → Rose (F.faults shelf.old) (F.faults shelf.new) }
     ensures faults { F.faults shelf.old ≤ F.faults shelf.new }
+    ensures quiet { ¬ IsErrOf result StepFault.ShelfFault → F.faults shelf.new ≡ F.faults shelf.old }
 {
     match read_manifest(alloc, shelf, file, channel)? {
         Ok(manifest) => Ok(Asked::in_session(SessionChange::Manifest(manifest))),
@@ -53,9 +55,10 @@ fn read_manifest<F: Shelf>(
 ) -> Result<Result<LinkedManifest, Answer>, StepFault>
     ensures found { F.tells → IfOk result (λ found. found ≡ manifest_of (F.file shelf.old) name.now channel.now) }
     ensures files { F.tells → (other : List ℕ) → F.file shelf.new other ≡ F.file shelf.old other }
-    ensures asked { IsAskedFrom F.asks name.now shelf.old shelf.new }
+    ensures asked { IsAskedFrom F.Shelf name.now channel.now shelf.old shelf.new }
     ensures cause { IsErrOf result StepFault.ShelfFault → Rose (F.faults shelf.old) (F.faults shelf.new) }
     ensures faults { F.faults shelf.old ≤ F.faults shelf.new }
+    ensures quiet { ¬ IsErrOf result StepFault.ShelfFault → F.faults shelf.new ≡ F.faults shelf.old }
 {
     match link(alloc, shelf, name.as_str(), channel.as_str()) {
         Ok(manifest) => Ok(checked(alloc, manifest)?),
@@ -88,7 +91,8 @@ fn refusal_of(refusal: LinkRefusal) -> Answer
 
 /// A manifest that is linked, or the refusal of its first default that doesn't fit.
 fn checked(alloc: Global, manifest: Manifest) -> Result<Result<LinkedManifest, Answer>, AllocError>
-    requires { IsSoundManifest manifest }
+    requires sound { IsSoundManifest manifest }
+    requires back { LinksBack manifest }
     ensures { IfOk result (λ found. found ≡ where_fits manifest (bad_default manifest)) }
 {
     manifest.features.as_slice();

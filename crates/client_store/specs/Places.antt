@@ -33,3 +33,7 @@ place_after place s t = if state_eq s t then place else (if passes_mark place s 
 -- how many bytes the making of a store with this state writes
 abbrev pub making_bytes : ClientState → ℕ
 making_bytes s = length (spelling s) + 17
+
+-- where the next record begins then
+abbrev pub place_made : ClientState → ℕ
+place_made s = length (spelling s) + 14

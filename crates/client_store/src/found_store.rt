@@ -1,5 +1,5 @@
 // A store as it is found at its opening: its rows are those of its state, or their old form.
-ghost use Rattle.std.specs.Prelude.{◌≡◌, ◌≤◌, IfOk, OnOk, IsErrOf, IsTrue};
+ghost use Rattle.std.specs.Prelude.{◌≡◌, ◌≤◌, false, IfOk, OnOk, IsErrOf, IsTrue};
 ghost use Rattle.gate_journal.specs.Costs.{HasCost};
 ghost use Rattle.host_model.specs.declared.side.Side.TheVariants.{Left, Right};
 ghost use Rattle.host_model.specs.Causes.{Rose, HasCause};
@@ -71,6 +71,7 @@ impl FoundStore {
         ensures below { H.tells → MeetsAll H.Host host.old host.new (StaysBelow H.Host host.old) }
         ensures cost { H.tells → HasCost (repair_cost (H.reads host.old Left) (H.reads host.old Right)) (H.written host.old) (H.written host.new) result }
         ensures cause { IsErrOf result ClientFault.DiskFault → Rose (H.disk_faults host.old) (H.disk_faults host.new) }
+        ensures disk_quiet { ¬ IsErrOf result ClientFault.DiskFault → H.disk_faults host.new ≡ H.disk_faults host.old }
         ensures disk_faults { H.disk_faults host.old ≤ H.disk_faults host.new }
         ensures say_faults { H.say_faults host.new ≡ H.say_faults host.old }
     {
@@ -102,11 +103,12 @@ impl FoundStore {
         ensures place { IfOk result (λ store. place store.rows ≡ place_opened (needs_migration self.rows.rows) (place self.rows) self.state) }
         ensures cost { H.tells → HasCost (opening_bytes (needs_migration self.rows.rows) (place self.rows) self.state) (H.written host.old) (H.written host.new) result }
         ensures cause { IsErrOf result ClientFault.DiskFault → Rose (H.disk_faults host.old) (H.disk_faults host.new) }
+        ensures disk_quiet { ¬ IsErrOf result ClientFault.DiskFault → H.disk_faults host.new ≡ H.disk_faults host.old }
         ensures disk_faults { H.disk_faults host.old ≤ H.disk_faults host.new }
         ensures say_faults { H.say_faults host.new ≡ H.say_faults host.old }
     {
         let FoundStore { mut rows, state } = self;
-        if !needs_migration(rows.rows()) {
+        if !are_old_form(&mut rows) {
             return Ok(StateStore::new(rows, state));
         }
         migrate(alloc, host, &mut rows, &state)?;
@@ -115,7 +117,7 @@ impl FoundStore {
 }
 
 // The state of these rows, with its store.
-fn state_in(alloc: Global, rows: RowStore) -> Result<FoundStore, ClientFault>
+fn state_in(alloc: Global, mut rows: RowStore) -> Result<FoundStore, ClientFault>
     ensures rows { IfOk result (λ found. found.rows ≡ rows) }
     ensures found { IfOk result IsFound }
     ensures none { IsErrOf result ClientFault.BadStore → (s : ClientState) → IsSound s → IsForm s rows.rows → ⊥ }
@@ -129,6 +131,16 @@ fn state_in(alloc: Global, rows: RowStore) -> Result<FoundStore, ClientFault>
         Err(CodecFault::NotAState) => Err(ClientFault::BadStore),
         Err(CodecFault::OutOfMemory) => Err(ClientFault::OutOfMemory),
     }
+}
+
+// Whether the rows are the old form of a state. They stay the same.
+fn are_old_form(rows: &mut RowStore) -> bool
+    ensures same { rows.new ≡ rows.old }
+    ensures row { result ≡ needs_migration rows.old.rows }
+    ensures old { IsTrue result → (s : ClientState) → IsForm s rows.old.rows → IsOldForm s rows.old.rows }
+    ensures spelled { result ≡ false → (s : ClientState) → IsForm s rows.old.rows → rows.old.rows ≡ rows_of s }
+{
+    needs_migration(rows.rows())
 }
 
 // Writes the row of participation of rows that are the old form of a state.
@@ -149,6 +161,7 @@ fn migrate<H: Host>(
     ensures place { OnOk result (place rows.new ≡ place_migrated (place rows.old) state.now) }
     ensures cost { H.tells → HasCost (migration_bytes (place rows.old) state.now) (H.written host.old) (H.written host.new) result }
     ensures cause { IsErrOf result ClientFault.DiskFault → Rose (H.disk_faults host.old) (H.disk_faults host.new) }
+    ensures disk_quiet { ¬ IsErrOf result ClientFault.DiskFault → H.disk_faults host.new ≡ H.disk_faults host.old }
     ensures disk_faults { H.disk_faults host.old ≤ H.disk_faults host.new }
     ensures say_faults { H.say_faults host.new ≡ H.say_faults host.old }
 {

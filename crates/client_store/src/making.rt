@@ -10,7 +10,7 @@ ghost use Rattle.pair_store.specs.Pair.{HasNoList};
 ghost use Rattle.pair_store.specs.Repair.{repair_cost, IsLeftByOpening};
 ghost use Rattle.client_state.specs.declared.client_state.ClientState.{ClientState};
 ghost use Rattle.enrol_states.specs.State.{last_moment};
-ghost use Rattle.row_store.specs.Rows.{HasRows};
+ghost use Rattle.row_store.specs.Rows.{HasRows, HasPlace};
 ghost use Rattle.row_batches.specs.Batch.{whole_of, applied, batch_text};
 ghost use Rattle.client_state.specs.Sound.{IsSound};
 ghost use Rattle.client_state.specs.Spelling.{rows_of, spelling};
@@ -19,7 +19,7 @@ ghost use Rattle.client_store.specs.Makings.{MakePhases};
 ghost use Rattle.client_store.specs.Moments.{IsQuiet, IsLeftAmong};
 ghost use Rattle.client_store.specs.NewStates.{fresh};
 ghost use Rattle.client_store.specs.OpenStore.{AllKept, AllKeptAmong, IsSettled};
-ghost use Rattle.client_store.specs.Places.{making_bytes};
+ghost use Rattle.client_store.specs.Places.{making_bytes, place_made};
 ghost use Rattle.client_store.specs.Store.{IsStore, IsAbsent, IsBad};
 
 use crate::faults::{ClientFault, MakeFault};
@@ -42,6 +42,7 @@ impl StateStore {
         ensures made { OnOk result (H.tells → AllKept H.Host host.new (fresh id now)) }
         ensures settled { OnOk result (H.tells → IsSettled H.Host host.new) }
         ensures spelled { OnOk result (H.tells → HasRows (H.reads host.new Left) (H.reads host.new Right) (rows_of (fresh id now))) }
+        ensures place { OnOk result (H.tells → HasPlace (H.reads host.new Left) (H.reads host.new Right) (place_made (fresh id now))) }
         ensures journal { OnOk result (H.tells → H.reads host.new Left ≡ made_on 0 (spelling (fresh id now)) (H.reads host.old Left)) }
         ensures right { OnOk result (H.tells → H.reads host.new Right ≡ 0 ∷ drop 1 (H.reads host.old Right)) }
 
@@ -77,6 +78,7 @@ impl StateStore {
         ensures any_moment { H.tells → MeetsAll H.Host host.old host.new (IsQuiet (H.said host.old)) }
         ensures text { H.tells → H.said host.new ≡ H.said host.old }
         ensures cause { IsErrOf result MakeFault.DiskFault → Rose (H.disk_faults host.old) (H.disk_faults host.new) }
+        ensures disk_quiet { ¬ IsErrOf result MakeFault.DiskFault → H.disk_faults host.new ≡ H.disk_faults host.old }
         ensures disk_faults { H.disk_faults host.old ≤ H.disk_faults host.new }
         ensures say_faults { H.say_faults host.new ≡ H.say_faults host.old }
     {

@@ -135,6 +135,7 @@ impl StateStore {
         ensures place { OnOk result (place self.new.rows ≡ place_after change.ready (place self.old.rows)) }
         ensures cost { H.tells → HasCost (commit_cost change.ready) (H.written host.old) (H.written host.new) result }
         ensures cause { HasCause (H.disk_faults host.old) (H.disk_faults host.new) result }
+        ensures disk_quiet { OnOk result (H.disk_faults host.new ≡ H.disk_faults host.old) }
         ensures say_faults { H.say_faults host.new ≡ H.say_faults host.old }
     {
         let Change { state, ready } = change;

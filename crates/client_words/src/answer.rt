@@ -1,6 +1,6 @@
 // What a command is answered.
 use app_context::ContextKey;
-use change_outbox::Change;
+use change_outbox::Entries;
 use enrol_states::Row;
 use json_tree::Tree;
 use plain_text::Slug;
@@ -42,7 +42,7 @@ pub enum Answer {
     /// The tree of the manifest as a single file.
     Manifest(Tree),
     /// The changes of enrolments that aren't confirmed, in order by number.
-    Changes(Sequence<Change>),
+    Changes(Entries),
     /// The preferences that have a value, in order by name.
     Preferences(Prefs),
     /// No manifest was set in this run.

@@ -13,7 +13,7 @@ use crate::refusals::{
 use crate::rows::{
     push_change_lines, push_out_lines, push_preference_lines, push_row_lines, push_skipped_lines,
 };
-use change_outbox::Change;
+use change_outbox::Entries;
 use enrol_states::Row;
 use itoa::Buffer;
 use json_tree::{Tree, write};
@@ -162,7 +162,7 @@ fn tree_text(alloc: Global, front: &str, tree: &Tree) -> Result<Text, AllocError
 
 /// What `changes` says.
 #[tactic(auto, unfolding(crate::specs::Answers::changes_lines))]
-fn changes_text(alloc: Global, changes: &Sequence<Change>) -> Result<Text, AllocError>
+fn changes_text(alloc: Global, changes: &Entries) -> Result<Text, AllocError>
     ensures { IfOk result (λ text. text ≡ changes_lines changes.now) }
 {
     let mut text = String::from_str(alloc, "")?;

@@ -42,7 +42,7 @@ both_true : (a b : Bool) → a ≡ false → b ≡ true → (not a && b) ≡ tru
 both_true true b first second = absurd cc
 both_true false b first second = second
 
-split_true : (a b : Bool) → (not a && b) ≡ true → (a ≡ false) × (b ≡ true)
+pub split_true : (a b : Bool) → (not a && b) ≡ true → (a ≡ false) × (b ≡ true)
 split_true true b h = absurd cc
 split_true false b h = (refl, h)
 
@@ -68,7 +68,12 @@ push_distinct (g ∷ gs) f distinct new =
     both_true (has_name g.0 (gs ++ f ∷ [])) (are_distinct (gs ++ f ∷ [])) (has_push g.0 f gs ∙ ap (λ b. b || bytes_eq f.0 g.0) apart.0 ∙ other)
     (push_distinct gs f apart.1 (right_false (bytes_eq g.0 f.0) (has_name f.0 gs) new))
 
+added_distinct : (one : Listed) (f : List ℕ × List ℕ) (more : Listed) → are_distinct one ≡ true → IsAdded one f more → are_distinct more ≡ true
+added_distinct one f more kept added = subst (λ l. are_distinct l ≡ true) (sym added.2) (push_distinct one f kept added.0)
+
+-- the files that a file names are added, and no name stands twice
+pub named_distinct : (fs list longer : Listed) → are_distinct list ≡ true → with_named list fs ≡ Ok longer → are_distinct longer ≡ true
+named_distinct fs list longer kept h = named_keep (λ l. are_distinct l ≡ true) added_distinct fs list longer kept h
+
 pub list_is_distinct : AreDistinct
-list_is_distinct file root channel list h =
-    list_keeps (λ l. are_distinct l ≡ true) (λ (one : Listed) (f : List ℕ × List ℕ) (more : Listed) (kept : are_distinct one ≡ true) (added : IsAdded one f more).
-    subst (λ l. are_distinct l ≡ true) (sym added.2) (push_distinct one f kept added.0)) file root channel refl 64 list h
+list_is_distinct file root channel list h = list_keeps (λ l. are_distinct l ≡ true) added_distinct file root channel refl 64 list h

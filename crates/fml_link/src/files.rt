@@ -21,7 +21,7 @@ use std::alloc::Global;
 
 /// What the files of a root say where it is asked for by a channel. They are read in the order in
 /// which their names are met.
-#[tactic(auto, using(crate::proofs::Listing::listed_fails, crate::proofs::Asking::asked_none, crate::proofs::Asking::asked_all, crate::proofs::Asking::asked_one_more))]
+#[tactic(auto, using(crate::proofs::Listing::listed_fails, crate::proofs::Asking::asked_none))]
 pub(crate) fn files_of<F: Shelf>(
     alloc: Global,
     shelf: &mut F,
@@ -33,7 +33,8 @@ pub(crate) fn files_of<F: Shelf>(
     ensures files { F.tells → (other : List ℕ) → F.file shelf.new other ≡ F.file shelf.old other }
     ensures cause { IsErrOf result LinkFault.ShelfFault → Rose (F.faults shelf.old) (F.faults shelf.new) }
     ensures faults { F.faults shelf.old ≤ F.faults shelf.new }
-    ensures asked { IsAskedFrom F.asks root.now shelf.old shelf.new }
+    ensures quiet { ¬ IsErrOf result LinkFault.ShelfFault → F.faults shelf.new ≡ F.faults shelf.old }
+    ensures asked { IsAskedFrom F.Shelf root.now channel.now shelf.old shelf.new }
 {
     let mut list = FileList::of_root(alloc, root, channel)?;
     let mut files = Sequence::new(alloc);
@@ -63,6 +64,7 @@ fn linked_file<F: Shelf>(
     ensures files { F.tells → (other : List ℕ) → F.file shelf.new other ≡ F.file shelf.old other }
     ensures cause { IsErrOf result LinkFault.ShelfFault → Rose (F.faults shelf.old) (F.faults shelf.new) }
     ensures faults { F.faults shelf.old ≤ F.faults shelf.new }
+    ensures quiet { ¬ IsErrOf result LinkFault.ShelfFault → F.faults shelf.new ≡ F.faults shelf.old }
     ensures asked { F.asks shelf.old listed.now.0 shelf.new }
 {
     let (name, channel) = listed;
@@ -82,6 +84,7 @@ fn file_module<F: Shelf>(alloc: Global, shelf: &mut F, name: &Text) -> Result<Mo
     ensures files { F.tells → (other : List ℕ) → F.file shelf.new other ≡ F.file shelf.old other }
     ensures cause { IsErrOf result LinkFault.ShelfFault → Rose (F.faults shelf.old) (F.faults shelf.new) }
     ensures faults { F.faults shelf.old ≤ F.faults shelf.new }
+    ensures quiet { ¬ IsErrOf result LinkFault.ShelfFault → F.faults shelf.new ≡ F.faults shelf.old }
     ensures asked { F.asks shelf.old name.now shelf.new }
 {
     let tree = file_tree(alloc, shelf, name)?;
@@ -96,6 +99,7 @@ fn file_tree<F: Shelf>(alloc: Global, shelf: &mut F, name: &Text) -> Result<Tree
     ensures files { F.tells → (other : List ℕ) → F.file shelf.new other ≡ F.file shelf.old other }
     ensures cause { IsErrOf result LinkFault.ShelfFault → Rose (F.faults shelf.old) (F.faults shelf.new) }
     ensures faults { F.faults shelf.old ≤ F.faults shelf.new }
+    ensures quiet { ¬ IsErrOf result LinkFault.ShelfFault → F.faults shelf.new ≡ F.faults shelf.old }
     ensures asked { F.asks shelf.old name.now shelf.new }
 {
     match shelf.take(alloc, name.as_str()) {

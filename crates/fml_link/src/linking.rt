@@ -6,6 +6,7 @@ ghost use Rattle.fml_imports.specs.Joining.{joined};
 ghost use Rattle.fml_imports.specs.Sound.{AreRead};
 ghost use Rattle.fml_imports.specs.WellFormed.{IsWellFormed};
 ghost use Rattle.fml_link.specs.Asked.{IsAskedFrom};
+ghost use Rattle.fml_link.specs.Laws.{LinksBack};
 ghost use Rattle.fml_link.specs.Linking.{join_refusal, linked, of_files};
 ghost use Rattle.fml_link.specs.Outcome.{Gives};
 
@@ -29,8 +30,12 @@ use std::alloc::Global;
 ///
 /// Then the files are joined: `fml_imports::join` says how, and which refusals come of it.
 ///
-/// `ShelfFault` comes only where the shelf failed in this call. Whatever comes, the shelf has been
-/// asked for no file, or for some of which the first is the one of this name.
+/// The manifest links back: a shelf on which a file is the text of its single file, as
+/// `fml_imports::single` gives it, links that file for the manifest's channel to an equal manifest,
+/// where the text has at most 4,194,304 bytes.
+///
+/// `ShelfFault` comes exactly where the shelf failed in this call. Whatever comes, the shelf has been
+/// asked for no file, or for the first ones of that list, each of them once.
 #[tactic(auto, using(crate::proofs::Linked::fails_bind), unfolding(crate::specs::Linking::linked))]
 pub fn link<F: Shelf>(
     alloc: Global,
@@ -41,10 +46,12 @@ pub fn link<F: Shelf>(
     ensures links { F.tells → Gives result (linked (F.file shelf.old) name.now channel.now) }
     ensures sound { IfOk result (λ m. IsSoundManifest m) }
     ensures well_formed { IfOk result (λ m. IsWellFormed m) }
+    ensures links_back { IfOk result (λ m. LinksBack m) }
     ensures files { F.tells → (other : List ℕ) → F.file shelf.new other ≡ F.file shelf.old other }
     ensures cause { IsErrOf result LinkFault.ShelfFault → Rose (F.faults shelf.old) (F.faults shelf.new) }
     ensures faults { F.faults shelf.old ≤ F.faults shelf.new }
-    ensures asked { IsAskedFrom F.asks name.now shelf.old shelf.new }
+    ensures quiet { ¬ IsErrOf result LinkFault.ShelfFault → F.faults shelf.new ≡ F.faults shelf.old }
+    ensures asked { IsAskedFrom F.Shelf name.now channel.now shelf.old shelf.new }
 {
     let files = files_of(alloc, shelf, name, channel)?;
     joined(alloc, files, channel)
@@ -56,6 +63,7 @@ fn joined(alloc: Global, files: Sequence<Linked>, channel: &str) -> Result<Manif
     ensures gives { Gives result (of_files (joined files channel.now)) }
     ensures sound { IfOk result (λ m. IsSoundManifest m) }
     ensures well_formed { IfOk result (λ m. IsWellFormed m) }
+    ensures links_back { IfOk result (λ m. LinksBack m) }
     ensures not_shelf { ¬ IsErrOf result LinkFault.ShelfFault }
 {
     match join(alloc, files, channel) {

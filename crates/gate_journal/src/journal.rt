@@ -88,6 +88,7 @@ impl Journal {
 
         ensures cost { H.tells → HasCost (length first.now + 15) (H.written host.old) (H.written host.new) result }
         ensures cause { HasCause (H.disk_faults host.old) (H.disk_faults host.new) result }
+        ensures disk_quiet { OnOk result (H.disk_faults host.new ≡ H.disk_faults host.old) }
         ensures say_faults { H.say_faults host.new ≡ H.say_faults host.old }
     {
         let header = [b'N', b'I', b'M', b'B', b'U', b'S', b'1', generation, OPEN];
@@ -115,6 +116,7 @@ impl Journal {
 
         ensures cost { H.tells → HasCost 1 (H.written host.old) (H.written host.new) result }
         ensures cause { HasCause (H.disk_faults host.old) (H.disk_faults host.new) result }
+        ensures disk_quiet { OnOk result (H.disk_faults host.new ≡ H.disk_faults host.old) }
         ensures say_faults { H.say_faults host.new ≡ H.say_faults host.old }
     {
         write_synced(host, side, 0, &[CLOSED])
@@ -149,6 +151,7 @@ impl Journal {
 
         ensures cost { H.tells → H.written host.new ≡ H.written host.old }
         ensures cause { IsErrOf result OpenFault.DiskFault → Rose (H.disk_faults host.old) (H.disk_faults host.new) }
+        ensures disk_quiet { ¬ IsErrOf result OpenFault.DiskFault → H.disk_faults host.new ≡ H.disk_faults host.old }
         ensures disk_faults { H.disk_faults host.old ≤ H.disk_faults host.new }
         ensures say_faults { H.say_faults host.new ≡ H.say_faults host.old }
     {
@@ -186,6 +189,7 @@ impl Journal {
 
         ensures cost { H.tells → HasCost (length next.now + 6) (H.written host.old) (H.written host.new) result }
         ensures cause { IsErrOf result AppendFault.DiskFault → Rose (H.disk_faults host.old) (H.disk_faults host.new) }
+        ensures disk_quiet { ¬ IsErrOf result AppendFault.DiskFault → H.disk_faults host.new ≡ H.disk_faults host.old }
         ensures disk_faults { H.disk_faults host.old ≤ H.disk_faults host.new }
         ensures say_faults { H.say_faults host.new ≡ H.say_faults host.old }
     {
@@ -221,6 +225,7 @@ fn find_journal<H: Host>(
     ensures still { H.tells → StillAll H.Host host.old host.new }
     ensures any_moment { H.tells → MeetsAll H.Host host.old host.new (NowOf H.Host host.old) }
     ensures cause { IsErrOf result OpenFault.DiskFault → Rose (H.disk_faults host.old) (H.disk_faults host.new) }
+    ensures disk_quiet { ¬ IsErrOf result OpenFault.DiskFault → H.disk_faults host.new ≡ H.disk_faults host.old }
     ensures disk_faults { H.disk_faults host.old ≤ H.disk_faults host.new }
     ensures say_faults { H.say_faults host.new ≡ H.say_faults host.old }
 {
@@ -249,6 +254,7 @@ fn read_open<H: Host>(
     ensures still { H.tells → StillAll H.Host host.old host.new }
     ensures any_moment { H.tells → MeetsAll H.Host host.old host.new (NowOf H.Host host.old) }
     ensures cause { IsErrOf result OpenFault.DiskFault → Rose (H.disk_faults host.old) (H.disk_faults host.new) }
+    ensures disk_quiet { ¬ IsErrOf result OpenFault.DiskFault → H.disk_faults host.new ≡ H.disk_faults host.old }
     ensures disk_faults { H.disk_faults host.old ≤ H.disk_faults host.new }
     ensures say_faults { H.say_faults host.new ≡ H.say_faults host.old }
 {

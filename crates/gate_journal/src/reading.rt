@@ -1,5 +1,5 @@
 // What a side has, read from its bytes.
-ghost use Rattle.std.specs.Prelude.{◌≡◌, ◌⊎◌, ◌≤◌, ◌++◌, ◌∷◌, false, length, take, IfOk, IfSome, IfNone, IsErrOf, IsTrue};
+ghost use Rattle.std.specs.Prelude.{◌≡◌, ◌⊎◌, ◌≤◌, ◌++◌, ◌∷◌, false, length, take, IfOk, OnOk, IfSome, IfNone, IsErrOf, IsTrue};
 ghost use Rattle.gate_journal.specs.Reading.{HasNoHeader, HasNoRecords, HasRecords, IsNext};
 ghost use Rattle.gate_journal.specs.Records.{header, place_of, IsClosed, IsNoJournal};
 ghost use Rattle.host_model.specs.Causes.{HasCause, Rose};
@@ -120,6 +120,7 @@ pub(crate) fn is_open<H: Host>(host: &mut H, side: Side) -> Result<bool, DiskFai
     ensures still { H.tells → StillAll H.Host host.old host.new }
     ensures any_moment { H.tells → MeetsAll H.Host host.old host.new (NowOf H.Host host.old) }
     ensures cause { HasCause (H.disk_faults host.old) (H.disk_faults host.new) result }
+    ensures disk_quiet { OnOk result (H.disk_faults host.new ≡ H.disk_faults host.old) }
     ensures say_faults { H.say_faults host.new ≡ H.say_faults host.old }
 {
     let mut first = [CLOSED];
@@ -139,6 +140,7 @@ pub(crate) fn read_side<H: Host>(
     ensures still { H.tells → StillAll H.Host host.old host.new }
     ensures any_moment { H.tells → MeetsAll H.Host host.old host.new (NowOf H.Host host.old) }
     ensures cause { IsErrOf result OpenFault.DiskFault → Rose (H.disk_faults host.old) (H.disk_faults host.new) }
+    ensures disk_quiet { ¬ IsErrOf result OpenFault.DiskFault → H.disk_faults host.new ≡ H.disk_faults host.old }
     ensures disk_faults { H.disk_faults host.old ≤ H.disk_faults host.new }
     ensures say_faults { H.say_faults host.new ≡ H.say_faults host.old }
     ensures no_other { (IsErrOf result OpenFault.Closed → ⊥) × (IsErrOf result OpenFault.NotAJournal → ⊥) }

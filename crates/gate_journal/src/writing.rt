@@ -22,6 +22,7 @@ pub(crate) fn write_synced<H: Host>(
     ensures rest { H.tells → KeepsAll H.Host (other side) host.old host.new }
     ensures cost { H.tells → HasCost (length bytes.now) (H.written host.old) (H.written host.new) result }
     ensures cause { HasCause (H.disk_faults host.old) (H.disk_faults host.new) result }
+    ensures disk_quiet { OnOk result (H.disk_faults host.new ≡ H.disk_faults host.old) }
     ensures say_faults { H.say_faults host.new ≡ H.say_faults host.old }
 {
     host.write_at(side, at, bytes)?;

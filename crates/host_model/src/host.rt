@@ -20,7 +20,8 @@ pub struct SayFailed;
 ///
 /// A host may keep to itself what its sides hold: then it tells nothing of them, and only the clauses without
 /// `tells` speak of it. Disk and output share one clock, so that "at some moment the images were these and the text
-/// said was that" is one fact. Each count of faults starts at 0, never falls and stays below 2^64.
+/// said was that" is one fact. Each count of faults starts at 0, rises only at a call that fails, never falls and
+/// stays below 2^64.
 pub trait Host {
     /// Holds of a host that tells what its sides hold.
     ghost tells: { Type 0 };
@@ -60,6 +61,7 @@ pub trait Host {
         ensures time { tells → Elapses (moment self.old) (moment self.new) (might self.old) (might self.new)
             (IsNow (images self.new) (said self.new)) }
         ensures cause { HasCause (disk_faults self.old) (disk_faults self.new) result }
+        ensures quiet { OnOk result (disk_faults self.new ≡ disk_faults self.old) }
         ensures fits { disk_faults self.new < 2 ^ 64 }
         ensures say_faults { say_faults self.new ≡ say_faults self.old };
 
@@ -73,6 +75,7 @@ pub trait Host {
         ensures time { tells → Elapses (moment self.old) (moment self.new) (might self.old) (might self.new)
             (IsNow (images self.new) (said self.new)) }
         ensures cause { HasCause (disk_faults self.old) (disk_faults self.new) result }
+        ensures quiet { OnOk result (disk_faults self.new ≡ disk_faults self.old) }
         ensures fits { disk_faults self.new < 2 ^ 64 }
         ensures say_faults { say_faults self.new ≡ say_faults self.old };
 
@@ -93,6 +96,7 @@ pub trait Host {
         ensures cost_least { tells → written self.old ≤ written self.new }
         ensures cost_most { tells → written self.new ≤ written self.old + length bytes.now }
         ensures cause { HasCause (disk_faults self.old) (disk_faults self.new) result }
+        ensures quiet { OnOk result (disk_faults self.new ≡ disk_faults self.old) }
         ensures fits { disk_faults self.new < 2 ^ 64 }
         ensures say_faults { say_faults self.new ≡ say_faults self.old };
 
@@ -108,6 +112,7 @@ pub trait Host {
             (IsNow (images self.new) (said self.new)) }
         ensures cost { tells → written self.new ≡ written self.old }
         ensures cause { HasCause (disk_faults self.old) (disk_faults self.new) result }
+        ensures quiet { OnOk result (disk_faults self.new ≡ disk_faults self.old) }
         ensures fits { disk_faults self.new < 2 ^ 64 }
         ensures say_faults { say_faults self.new ≡ say_faults self.old };
 

@@ -1,4 +1,7 @@
 //! Rows on what actions leave of an outbox.
+ghost use Rattle.std.specs.Prelude.{IfOk, IfSome};
+ghost use Rattle.change_outbox.specs.Contents.{Contents, IsMadeOf};
+
 use crate::inputs::{halves, slug};
 use crate::shown::{outbox_text, push};
 use crate::stored::given_outbox;
@@ -69,9 +72,12 @@ fn prepare(alloc: Global, outbox: &mut Outbox, changes: &str) -> Result<String> 
     Ok(String::from_str(alloc, answer)?)
 }
 
-// The outbox with the changes that a text names behind its own, or none where the numbers are spent.
-fn appended(alloc: Global, outbox: &mut Outbox, changes: &str) -> Result<Option<Outbox>> {
-    match outbox.appended(changes_of(alloc, changes)?) {
+/// The outbox with the changes that a text names behind its own, or none where the numbers are spent.
+#[tactic(auto, using(change_outbox::proofs::Made::appended_made))]
+pub(crate) fn appended(alloc: Global, outbox: &mut Outbox, changes: &str) -> Result<Option<Outbox>>
+    ensures { IfOk result (λ next. IfSome next (λ p. (o : Contents) → IsMadeOf o outbox.old → IsMadeOf o p)) }
+{
+    match outbox.append(changes_of(alloc, changes)?) {
         Ok(next) => Ok(Some(next)),
         Err(AppendChangesFault::ChangesSpent) => Ok(None),
         Err(AppendChangesFault::OutOfMemory) => bail!("out of memory"),
@@ -80,7 +86,7 @@ fn appended(alloc: Global, outbox: &mut Outbox, changes: &str) -> Result<Option<
 
 fn confirm(alloc: Global, outbox: &mut Outbox, number: &str) -> Result<String> {
     let number = read_number(number.as_bytes()).context("no number")?;
-    Ok(match outbox.confirmed(number) {
+    Ok(match outbox.confirm(number) {
         Ok(next) => {
             *outbox = next;
             String::from_str(alloc, "ok")?
@@ -88,6 +94,18 @@ fn confirm(alloc: Global, outbox: &mut Outbox, number: &str) -> Result<String> {
         Err(ConfirmFault::NoSuchChange(next)) => format!(in alloc; "NoSuchChange {next}")?,
         Err(ConfirmFault::OutOfMemory) => bail!("out of memory"),
     })
+}
+
+/// The outbox without the entries up to a number.
+#[tactic(auto, using(change_outbox::proofs::Made::confirmed_made))]
+pub(crate) fn confirmed(outbox: &Outbox, number: &str) -> Result<Outbox>
+    ensures { IfOk result (IsMadeOf outbox.now) }
+{
+    let number = read_number(number.as_bytes()).context("no number")?;
+    match outbox.confirm(number) {
+        Ok(left) => Ok(left),
+        Err(_) => bail!("not confirmed: {number}"),
+    }
 }
 
 // The changes that a text names, or none.

@@ -4,7 +4,7 @@ use change_outbox::{Change, ChangeKind, Outbox};
 use row_batches::{RowChange, StoreRow};
 use std::alloc::Global;
 
-/// The changes, with commas between them, or `none`. Those in an outbox stand behind their numbers.
+/// The changes behind their numbers, with commas between them, or `none`.
 pub(crate) fn changes_text(alloc: Global, changes: &[Change]) -> Result<String> {
     let mut line = String::new(alloc);
     for change in changes {
@@ -23,10 +23,7 @@ fn change_text(alloc: Global, change: &Change) -> Result<String> {
         ChangeKind::Leave => "leave",
     };
     let (slug, branch) = (change.slug.text(), change.branch.text());
-    Ok(match change.number {
-        0 => format!(in alloc; "{kind} {slug} {branch}")?,
-        number => format!(in alloc; "{number} {kind} {slug} {branch}")?,
-    })
+    Ok(format!(in alloc; "{} {kind} {slug} {branch}", change.number)?)
 }
 
 /// The next number and the entries.

@@ -1,5 +1,5 @@
 //! Rows on the rows of a store that are an outbox's.
-use crate::actions::act_all;
+use crate::actions::{act_all, appended, confirmed};
 use crate::inputs::{bytes_of, halves};
 use crate::shown::{outbox_text, row_changes_text, rows_text};
 use anyhow::{Result, bail};
@@ -26,17 +26,21 @@ pub(crate) fn rows_after(alloc: Global, input: &str) -> Result<String> {
     rows_text(alloc, rows.as_slice())
 }
 
-/// The changes of rows from the outbox after actions to that after more, and how many bytes the puts of its rows have. Row: the
-/// actions, and the further ones behind ` | `, each with semicolons between them.
+/// The changes of rows from the outbox after actions to that after a confirmation and an append more, and how many bytes the puts of
+/// its rows have. Row: the actions with semicolons between them, and behind ` | ` the number that is confirmed and the changes, with
+/// a semicolon between them.
 pub(crate) fn row_changes_after(alloc: Global, given: &str, input: &str) -> Result<String> {
-    let (first, further) = halves(input, " | ")?;
+    let (actions, further) = halves(input, " | ")?;
+    let (number, changes) = halves(further, "; ")?;
     let mut outbox = given_outbox(alloc, given)?;
-    act_all(alloc, &mut outbox, first)?;
-    let before = outbox.clone()?;
-    act_all(alloc, &mut outbox, further)?;
-    let changes = before.changes_to(alloc, &outbox)?;
+    act_all(alloc, &mut outbox, actions)?;
+    let mut left = confirmed(&outbox, number)?;
+    let Some(next) = appended(alloc, &mut left, changes)? else {
+        bail!("no outbox: {changes}");
+    };
+    let changes = outbox.changes_to(alloc, &next)?;
     let changes = row_changes_text(alloc, changes.as_slice())?;
-    Ok(format!(in alloc; "{changes}; {} bytes", outbox.size())?)
+    Ok(format!(in alloc; "{changes}; {} bytes", next.size())?)
 }
 
 /// The outbox of the rows that are given, or a new one where nothing is given.

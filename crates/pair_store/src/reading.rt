@@ -20,6 +20,7 @@ fn found_closed<H: Host>(host: &mut H, side: Side) -> Result<Found, DiskFailed>
     ensures still { H.tells → StillAll H.Host host.old host.new }
     ensures any_moment { H.tells → MeetsAll H.Host host.old host.new (NowOf H.Host host.old) }
     ensures cause { HasCause (H.disk_faults host.old) (H.disk_faults host.new) result }
+    ensures disk_quiet { OnOk result (H.disk_faults host.new ≡ H.disk_faults host.old) }
     ensures say_faults { H.say_faults host.new ≡ H.say_faults host.old }
 {
     if host.len(side)? == 0 {
@@ -53,6 +54,7 @@ pub(crate) fn found<H: Host>(alloc: Global, host: &mut H, side: Side) -> Result<
 
     ensures cost { H.tells → H.written host.new ≡ H.written host.old }
     ensures cause { IsErrOf result PairFault.DiskFault → Rose (H.disk_faults host.old) (H.disk_faults host.new) }
+    ensures disk_quiet { ¬ IsErrOf result PairFault.DiskFault → H.disk_faults host.new ≡ H.disk_faults host.old }
     ensures disk_faults { H.disk_faults host.old ≤ H.disk_faults host.new }
     ensures say_faults { H.say_faults host.new ≡ H.say_faults host.old }
 {
@@ -83,6 +85,7 @@ pub(crate) fn found_both<H: Host>(alloc: Global, host: &mut H) -> Result<(Found,
 
     ensures cost { H.tells → H.written host.new ≡ H.written host.old }
     ensures cause { IsErrOf result PairFault.DiskFault → Rose (H.disk_faults host.old) (H.disk_faults host.new) }
+    ensures disk_quiet { ¬ IsErrOf result PairFault.DiskFault → H.disk_faults host.new ≡ H.disk_faults host.old }
     ensures disk_faults { H.disk_faults host.old ≤ H.disk_faults host.new }
     ensures say_faults { H.say_faults host.new ≡ H.say_faults host.old }
 {

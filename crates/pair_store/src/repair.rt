@@ -18,6 +18,7 @@ pub(crate) fn shut_side<H: Host>(host: &mut H, side: Side, is_open: bool) -> Res
     ensures rest { H.tells → KeepsAll H.Host (other side) host.old host.new }
     ensures cost { H.tells → HasCost (if is_open then 1 else 0) (H.written host.old) (H.written host.new) result }
     ensures cause { HasCause (H.disk_faults host.old) (H.disk_faults host.new) result }
+    ensures disk_quiet { OnOk result (H.disk_faults host.new ≡ H.disk_faults host.old) }
     ensures say_faults { H.say_faults host.new ≡ H.say_faults host.old }
 {
     if is_open {

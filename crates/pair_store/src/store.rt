@@ -81,6 +81,7 @@ impl PairStore {
 
         ensures cost { H.tells → HasCost (length first.now + 17) (H.written host.old) (H.written host.new) result }
         ensures cause { HasCause (H.disk_faults host.old) (H.disk_faults host.new) result }
+        ensures disk_quiet { OnOk result (H.disk_faults host.new ≡ H.disk_faults host.old) }
         ensures say_faults { H.say_faults host.new ≡ H.say_faults host.old }
     {
         Journal::close(host, Side::Right)?;
@@ -134,6 +135,7 @@ impl PairStore {
 
         ensures cost { H.tells → HasCost (repair_cost (H.reads host.old Side.Left) (H.reads host.old Side.Right)) (H.written host.old) (H.written host.new) result }
         ensures cause { IsErrOf result PairFault.DiskFault → Rose (H.disk_faults host.old) (H.disk_faults host.new) }
+        ensures disk_quiet { ¬ IsErrOf result PairFault.DiskFault → H.disk_faults host.new ≡ H.disk_faults host.old }
         ensures disk_faults { H.disk_faults host.old ≤ H.disk_faults host.new }
         ensures say_faults { H.say_faults host.new ≡ H.say_faults host.old }
     {
@@ -170,6 +172,7 @@ impl PairStore {
 
         ensures cost { H.tells → HasCost (length next.now + 6) (H.written host.old) (H.written host.new) result }
         ensures cause { HasCause (H.disk_faults host.old) (H.disk_faults host.new) result }
+        ensures disk_quiet { OnOk result (H.disk_faults host.new ≡ H.disk_faults host.old) }
         ensures say_faults { H.say_faults host.new ≡ H.say_faults host.old }
     {
         match self.journal.append(host, next) {
@@ -199,6 +202,7 @@ impl PairStore {
 
         ensures cost { H.tells → HasCost (length whole.now + 16) (H.written host.old) (H.written host.new) result }
         ensures cause { HasCause (H.disk_faults host.old) (H.disk_faults host.new) result }
+        ensures disk_quiet { OnOk result (H.disk_faults host.new ≡ H.disk_faults host.old) }
         ensures say_faults { H.say_faults host.new ≡ H.say_faults host.old }
     {
         let generation = generation_after(self.journal.generation());

@@ -11,7 +11,7 @@ use Rattle.plain_text.specs.Names.{is_name}
 use Rattle.recipe_reader.specs.Outcome.{only_if}
 use Rattle.enrol_states.specs.Order.{is_in}
 use Rattle.pref_bindings.specs.declared.bindings.Binding.{Binding}
-use Rattle.pref_bindings.specs.Bindings.{AreBindings, Differ, or_at_fault, preferences_of, with_binding, with_feature, with_features, with_variable, with_variables}
+use Rattle.pref_bindings.specs.Bindings.{AreBindings, Differ, or_at_fault, preferences_of, with_feature, with_features, with_variable, with_variables}
 use Rattle.pref_bindings.proofs.FoundBindings.{in_pushed, left_false, right_false, turned}
 
 here : (xs : Seq (Seq ℕ × Tree)) (i : ℕ) (x : Seq ℕ × Tree) → i < length xs → x ≡ get_or xs i x → drop i xs ≡ x ∷ drop (i + 1) xs

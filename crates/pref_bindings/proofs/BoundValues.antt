@@ -1,8 +1,8 @@
 -- What a branch sets, one binding after the other; and that it is such as a join takes.
-use Rattle.std.proofs.Common.{◌≡◌, ℕ, zero, suc, ◌+◌, ◌<◌, Bool, true, false, List as Seq, [], ◌∷◌, ◌++◌, length, get_or, map, take, Option, Some, None, Less, Equal, Greater, IsTrue, refl, sym, ap, ◌∙◌, subst, arith}
-use Rattle.std.specs.Prelude.{fold}
+use Rattle.std.proofs.Common.{◌≡◌, ℕ, zero, suc, ◌+◌, ◌<◌, Bool, true, false, cond, List as Seq, [], ◌∷◌, ◌++◌, length, get_or, map, take, Option, Some, None, Less, Equal, Greater, IsTrue, refl, sym, ap, ◌∙◌, subst, arith}
+use Rattle.std.specs.Prelude.{bytes_eq, fold}
 use Rattle.std.specs.BTreeMap.{insert_entry}
-use Rattle.std.specs.List.{AllByRecursion, cons_option, filter_map}
+use Rattle.std.specs.List.{AllByRecursion, cons_option, filter_map, flat_map}
 use Rattle.std.specs.List.Sorted.{IsStrictlySortedBy}
 use Rattle.std.specs.Ordering.{match_ordering}
 use Rattle.std.specs.declared.cmp.Ordering.{Ordering}
@@ -23,11 +23,14 @@ use Rattle.fml_value.specs.Kinds.{is_truth, is_whole, is_text}
 use Rattle.fml_value.specs.Takes.{takes}
 use Rattle.recipe_reader.specs.Payloads.{slug_cmp}
 use Rattle.recipe_reader.specs.declared.recipe.Branch.{Branch}
+use Rattle.recipe_reader.specs.declared.recipe.FeatureValue.{FeatureValue}
 use Rattle.enrol_states.specs.Order.{Rise}
 use Rattle.pref_bindings.specs.declared.bindings.Binding.{Binding}
+use Rattle.pref_bindings.specs.Bindings.{of_feature}
 use Rattle.pref_bindings.specs.Bound.{in_order, is_bound_type, setting_of, with_any, with_setting}
 use Rattle.pref_bindings.specs.Changes.{AreSettings, IsSetting, Setting}
 use Rattle.pref_bindings.specs.Preferences.{IsValue}
+use Rattle.pref_bindings.proofs.Parts.{flat_map_take}
 
 -- ---- one binding more
 
@@ -35,15 +38,35 @@ folded_any : (vs : Seq Setting) (o : Option Setting) → fold with_setting vs (c
 folded_any vs None = refl
 folded_any vs (Some v) = refl
 
-module _ (m : Manifest) (branch : Branch) (bs : Seq Binding) (i : ℕ) (b : Binding) (inside : i < length bs) (at : b ≡ get_or bs i b) (vs : Seq Setting) (so_far : vs ≡ in_order (filter_map (setting_of m branch) (take i bs))) where
-  next : in_order (filter_map (setting_of m branch) (take (i + 1) bs)) ≡ fold with_setting vs (cons_option (setting_of m branch b) [])
+module _ (m : Manifest) (branch : Branch) (bs : Seq Binding) (i : ℕ) (b : Binding) (inside : i < length bs) (at : b ≡ get_or bs i b) (start vs : Seq Setting) (so_far : vs ≡ fold with_setting start (filter_map (setting_of m branch) (take i bs))) where
+  next : fold with_setting start (filter_map (setting_of m branch) (take (i + 1) bs)) ≡ fold with_setting vs (cons_option (setting_of m branch b) [])
   next =
       let given = setting_of m branch in
-      ap (λ cs. in_order (filter_map given cs)) (take_more bs i b inside ∙ ap (λ c. take i bs ++ c ∷ []) (sym at)) ∙ ap in_order (filter_map-append given (take i bs) (b ∷ []))
-      ∙ fold-append with_setting [] (filter_map given (take i bs)) (cons_option (given b) []) ∙ ap (λ ws. fold with_setting ws (cons_option (given b) [])) (sym so_far)
+      ap (λ cs. fold with_setting start (filter_map given cs)) (take_more bs i b inside ∙ ap (λ c. take i bs ++ c ∷ []) (sym at)) ∙ ap (fold with_setting start) (filter_map-append given (take i bs) (b ∷ []))
+      ∙ fold-append with_setting start (filter_map given (take i bs)) (cons_option (given b) []) ∙ ap (λ ws. fold with_setting ws (cons_option (given b) [])) (sym so_far)
 
-  pub set_next : with_any vs (setting_of m branch b) ≡ in_order (filter_map (setting_of m branch) (take (i + 1) bs))
+  pub set_next : with_any vs (setting_of m branch b) ≡ fold with_setting start (filter_map (setting_of m branch) (take (i + 1) bs))
   set_next = sym (next ∙ folded_any vs (setting_of m branch b))
+
+-- ---- one feature more
+
+module _ (m : Manifest) (branch : Branch) (bs : Seq Binding) (i : ℕ) (f : FeatureValue) (inside : i < length branch.features) (at : f ≡ get_or branch.features i f) where
+  pub feature_next : in_order (filter_map (setting_of m branch) (flat_map (λ g. of_feature g.feature bs) (take (i + 1) branch.features)))
+      ≡ fold with_setting (in_order (filter_map (setting_of m branch) (flat_map (λ g. of_feature g.feature bs) (take i branch.features)))) (filter_map (setting_of m branch) (of_feature f.feature bs))
+  feature_next =
+      let given = setting_of m branch in
+      let own : FeatureValue → Seq Binding = λ g. of_feature g.feature bs in
+      let before = flat_map own (take i branch.features) in
+      ap (λ cs. in_order (filter_map given cs)) (flat_map_take own branch.features i f inside at) ∙ ap in_order (filter_map-append given before (own f))
+      ∙ fold-append with_setting [] (filter_map given before) (filter_map given (own f))
+
+named_if : (p : Bool) (b : Binding) (bs : Seq Binding) → IsTrue (is_name b.preference) → AllByRecursion (λ c. IsTrue (is_name c.preference)) bs → AllByRecursion (λ c. IsTrue (is_name c.preference)) (cond p (b ∷ bs) bs)
+named_if true b bs one all = (one, all)
+named_if false b bs one all = all
+
+pub named_own : (feature : Seq ℕ) (bs : Seq Binding) → AllByRecursion (λ c. IsTrue (is_name c.preference)) bs → AllByRecursion (λ c. IsTrue (is_name c.preference)) (of_feature feature bs)
+named_own feature [] all = tt
+named_own feature (b ∷ bs) all = named_if (bytes_eq b.feature feature) b (of_feature feature bs) all.0 (named_own feature bs all.1)
 
 -- ---- each is a setting
 

@@ -68,7 +68,3 @@ pub none_joined : (slug : List ℕ) (vs : List Setting) (ps : List Preference) �
 none_joined slug [] [] p v = refl
 none_joined slug [] (q ∷ ps) p v = absurd (omega arith)
 none_joined slug (w ∷ vs) ps p v = absurd (omega arith)
-
-pub nothing_joined : (slug : List ℕ) (vs : List Setting) (ps : List Preference) → length vs ≡ 0 → joined slug vs ps ≡ ps
-nothing_joined slug [] ps none = refl
-nothing_joined slug (v ∷ vs) ps none = absurd (omega arith)

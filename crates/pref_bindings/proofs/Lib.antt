@@ -17,3 +17,7 @@ pub mod Read
 pub mod FoundBindings
 pub mod BindingsRead
 pub mod BoundValues
+pub mod BindingOrder
+pub mod FeatureRanges
+pub mod SameSettings
+pub mod HeldAll

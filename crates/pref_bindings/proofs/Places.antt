@@ -52,7 +52,7 @@ without-at name (p ∷ ps) (suc i) d less rise e =
 
 -- ---- no preference has the name
 
-found_above : (name : List ℕ) (ps : List Preference) → AreAbove name (names_of ps) → found name ps ≡ None
+pub found_above : (name : List ℕ) (ps : List Preference) → AreAbove name (names_of ps) → found name ps ≡ None
 found_above name [] above = refl
 found_above name (p ∷ ps) above = found_step name p ps false (greater_texts p.name name (turned_up name p.name above.0)) ∙ found_above name ps above.1
 

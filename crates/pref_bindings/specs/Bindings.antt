@@ -1,7 +1,10 @@
 -- Which preferences the variables of features are bound to, and which bindings a tree is.
-use Rattle.std.specs.Prelude.{◌≡◌, ℕ, ◌&&◌, not, false, List, [], ◌∷◌, ◌++◌, map, Option, Some, None, Result, Ok, Err, IsTrue, ⊤, option_and_then}
+use Rattle.std.specs.Prelude.{◌≡◌, ℕ, ◌&&◌, not, false, List, [], ◌∷◌, ◌++◌, map, Option, Some, None, Result, Ok, Err, IsTrue, ⊤, bytes_eq, option_and_then}
 use Rattle.std.specs.BTreeSet.{contains_by}
-use Rattle.std.specs.List.{AllByRecursion}
+use Rattle.std.specs.List.{AllByRecursion, filter}
+use Rattle.std.specs.List.Sorted.{IsStrictlySortedBy}
+use Rattle.std.specs.Ordering.{ordering_then}
+use Rattle.std.specs.declared.cmp.Ordering.{Ordering}
 use Rattle.json_tree.specs.Json.{Json, text, object, Members, no_members, member}
 use Rattle.plain_text.specs.Names.{is_name}
 use Rattle.recipe_reader.specs.Outcome.{only_if}
@@ -24,6 +27,18 @@ Differ (t ∷ ts) = (is_in ts t ≡ false) × Differ ts
 pub record AreBindings (bs : List Binding) : Type 0 where
   pub names : AllByRecursion (λ b. IsTrue (is_name b.preference)) bs
   pub once : Differ (preferences_of bs)
+
+-- by feature, and of one feature by variable
+abbrev pub binding_cmp : Binding → Binding → Ordering
+binding_cmp a b = ordering_then (slug_cmp a.feature b.feature) (slug_cmp a.variable b.variable)
+
+-- in order by feature, and of one feature by variable, so that no variable stands twice
+abbrev pub AreByVariable : List Binding → Type 0
+AreByVariable bs = IsStrictlySortedBy binding_cmp bs
+
+-- those of a feature
+abbrev pub of_feature : List ℕ → List Binding → List Binding
+of_feature feature bs = filter (λ b. bytes_eq b.feature feature) bs
 
 -- ---- the bindings that a tree is: an object from features to objects from variables to preferences
 

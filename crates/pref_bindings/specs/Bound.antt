@@ -1,5 +1,5 @@
 -- What the branch of a recipe sets of the preferences that variables are bound to.
-use Rattle.std.specs.Prelude.{ℕ, ◌&&◌, Bool, true, false, List, [], ◌∷◌, fold, find, Option, Some, None, bytes_eq, option_map, option_and_then}
+use Rattle.std.specs.Prelude.{ℕ, ◌&&◌, Bool, true, false, List, [], fold, find, Option, Some, None, bytes_eq, option_map, option_and_then}
 use Rattle.std.specs.BTreeMap.{insert_entry}
 use Rattle.std.specs.List.{filter_map}
 use Rattle.json_tree.specs.Json.{Json, get}

@@ -1,7 +1,8 @@
 -- The preferences that have a value, in order by name, and what is known of a name.
-use Rattle.std.specs.Prelude.{ℕ, List, [], ◌∷◌, map, Option, Some, None, IsTrue, IsUtf8, FitsSigned, ⊤, bytes_eq, option_map, option_and_then, if◌then◌else◌}
+use Rattle.std.specs.Prelude.{◌≡◌, ℕ, true, List, [], ◌∷◌, map, Option, Some, None, IsTrue, IsUtf8, FitsSigned, ⊤, bytes_eq, option_map, option_and_then, if◌then◌else◌}
 use Rattle.std.specs.Int.{w64}
 use Rattle.std.specs.List.{AllByRecursion}
+use Rattle.std.specs.Option.{is_some}
 use Rattle.json_tree.specs.declared.tree.Tree.{Tree}
 use Rattle.json_tree.specs.declared.tree.Tree.TheVariants.{Null, Truth, Whole, Odd, Text, List as Items, Object}
 use Rattle.plain_text.specs.Names.{is_name}
@@ -57,3 +58,7 @@ value_of name ps = option_map (λ p. p.value) (found name ps)
 -- the slug that holds it
 abbrev pub holder_of : List ℕ → List Preference → Option (List ℕ)
 holder_of name ps = option_and_then (λ p. option_map (λ h. h.holder) p.hold) (found name ps)
+
+-- somebody holds the name of each of these
+abbrev pub AreHeld : List (List ℕ × Tree) → List Preference → Type 0
+AreHeld vs ps = AllByRecursion (λ v. is_some (holder_of v.0 ps) ≡ true) vs

@@ -5,7 +5,7 @@ ghost use Rattle.json_tree.specs.Tree.{json_of};
 ghost use Rattle.plain_text.specs.Names.{is_name};
 ghost use Rattle.recipe_reader.specs.Outcome.{only_if};
 ghost use Rattle.enrol_states.specs.Order.{is_in};
-ghost use Rattle.pref_bindings.specs.Bindings.{AreBindings, GivesBindings, HasPreferences, bindings_of, preferences_of, with_feature, with_features, with_variable, with_variables};
+ghost use Rattle.pref_bindings.specs.Bindings.{AreBindings, AreByVariable, GivesBindings, HasPreferences, bindings_of, preferences_of, with_feature, with_features, with_variable, with_variables};
 
 use crate::fault::BindingFault;
 use json_tree::{Members, Tree};
@@ -24,7 +24,8 @@ pub struct Binding {
     pub preference: Text,
 }
 
-/// Bindings, of which no two have one preference. Contracts see them as their list.
+/// Bindings in order by feature, and of one feature by variable: no two have one variable, and no two have one preference. Contracts
+/// see them as their list.
 #[derive(Drop)]
 pub struct Bindings {
     bindings: Sequence<Binding>,
@@ -34,7 +35,7 @@ impl Model for Bindings {
     ghost use Rattle.std.specs.Prelude.{List};
     ghost use Rattle.std.specs.Coded.{codes};
     ghost use Rattle.pref_bindings.specs.declared.bindings.Binding.{Binding};
-    ghost use Rattle.pref_bindings.specs.Bindings.{AreBindings};
+    ghost use Rattle.pref_bindings.specs.Bindings.{AreBindings, AreByVariable};
 
     ghost Value = { List Binding };
 
@@ -42,22 +43,15 @@ impl Model for Bindings {
 
     ghost view = { λ b. b.bindings };
 
-    ghost invariant = { λ b. AreBindings b.bindings };
+    ghost invariant = { λ b. AreBindings b.bindings × AreByVariable b.bindings };
 }
 
 impl Bindings {
-    /// Takes over bindings, with no memory.
-    pub(crate) fn from_sequence(bindings: Sequence<Binding>) -> Bindings
-        requires { AreBindings bindings }
-        ensures { result ≡ bindings }
-    {
-        Bindings { bindings }
-    }
-
     /// The bindings. It takes no memory.
     pub fn as_slice(&self) -> &[Binding]
         ensures bindings { result.now ≡ self.now }
         ensures are { AreBindings self.now }
+        ensures order { AreByVariable self.now }
     {
         self.bindings.as_slice()
     }
@@ -89,7 +83,9 @@ fn bindings_of_features(alloc: Global, features: &Members) -> Result<Bindings, B
             return Err(BindingFault::BadBinding(feature.clone()?));
         }
     }
-    Ok(Bindings::from_sequence(found.bindings))
+    Ok(Bindings {
+        bindings: found.bindings,
+    })
 }
 
 /// The bindings found so far, and their preferences as a set.

@@ -1,6 +1,6 @@
 // What the branch of a recipe sets of the preferences that variables are bound to.
-ghost use Rattle.std.specs.Prelude.{◌≡◌, IfOk, IsTrue, OnOk, option_map};
-ghost use Rattle.std.specs.List.{AllByRecursion};
+ghost use Rattle.std.specs.Prelude.{◌≡◌, fold, IfOk, IsTrue, OnOk, option_map};
+ghost use Rattle.std.specs.List.{AllByRecursion, filter_map};
 ghost use Rattle.json_tree.specs.Tree.{json_of};
 ghost use Rattle.plain_text.specs.Names.{is_name};
 ghost use Rattle.pref_bindings.specs.Bound.{bound_value, bound_values, branch_with, is_bound_type, set_by, set_by_branch, setting_of, taken, value_for, variable_of, with_any, with_setting};
@@ -8,6 +8,7 @@ ghost use Rattle.pref_bindings.specs.Changes.{AreSettings, IsSetting};
 ghost use Rattle.pref_bindings.specs.Preferences.{IsValue, IsValueOrNone};
 
 use crate::bindings::{Binding, Bindings};
+use crate::feature_range::of_feature;
 use fml_types::{Field, FieldType, Manifest, TypeTable};
 use fml_value::takes;
 use json_tree::Tree;
@@ -45,7 +46,7 @@ fn branch_with<'a>(slug: &str, recipe: &'a Recipe) -> Option<&'a Branch>
     branches.iter().find(|branch| branch.slug.text() == slug)
 }
 
-// What the branch sets, in order by preference.
+// What the branch sets, in order by preference: the bindings of each of its features are looked up.
 fn set_by_branch(
     alloc: Global,
     manifest: &Manifest,
@@ -55,11 +56,31 @@ fn set_by_branch(
     ensures values { IfOk result (λ values. values ≡ set_by_branch manifest.now bindings.now branch.now) }
     ensures settings { IfOk result AreSettings }
 {
+    let all = bindings.as_slice();
     let mut settings = BTreeMap::new(alloc);
-    for binding in bindings.as_slice() {
-        add_setting(&mut settings, manifest, branch, binding)?;
+    for set in branch.features.as_slice() {
+        let own = of_feature(set.feature.as_str(), all);
+        add_settings(&mut settings, manifest, branch, own)?;
     }
     in_order(alloc, settings)
+}
+
+// Adds what the branch sets of the bindings' preferences.
+fn add_settings(
+    settings: &mut BTreeMap<Text, Tree>,
+    manifest: &Manifest,
+    branch: &Branch,
+    bindings: &[Binding],
+) -> Result<(), AllocError>
+    requires names { AllByRecursion (λ b. IsTrue (is_name b.preference)) bindings.now }
+    requires settings { AllByRecursion IsSetting settings.old.entries }
+    ensures added { OnOk result (settings.new.entries ≡ fold with_setting settings.old.entries (filter_map (setting_of manifest.now branch.now) bindings.now)) }
+    ensures settings { OnOk result (AllByRecursion IsSetting settings.new.entries) }
+{
+    for binding in bindings {
+        add_setting(settings, manifest, branch, binding)?;
+    }
+    Ok(())
 }
 
 // Adds what the branch sets of the binding's preference, where that is something.

@@ -5,6 +5,7 @@
 mod bindings;
 mod bound;
 mod fault;
+mod feature_range;
 mod joining;
 mod laws;
 mod leaving;

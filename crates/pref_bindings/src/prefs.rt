@@ -2,15 +2,15 @@
 ghost use Rattle.std.specs.Prelude.{◌≡◌, ◌≤◌, ◌^◌, [], ⊤, length, IfOk, IsTrue, MatchOption, None, Some, option_map};
 ghost use Rattle.plain_text.specs.Names.{is_name};
 ghost use Rattle.row_batches.specs.Batch.{puts_text};
-ghost use Rattle.pref_bindings.specs.Changes.{AreSettings, joined, left, set_by_user};
-ghost use Rattle.pref_bindings.specs.Preferences.{IsSound, IsValue, found, holder_of, value_of};
+ghost use Rattle.pref_bindings.specs.Changes.{AreSettings, joined, left, set_by_user, without_name};
+ghost use Rattle.pref_bindings.specs.Preferences.{AreHeld, IsSound, IsValue, found, holder_of, value_of};
 ghost use Rattle.pref_bindings.specs.Rows.{rows_of};
 
 use crate::joining::joined;
 use crate::leaving::{holds_none, left};
 use crate::preference::Preference;
 use crate::setting::{users_preference, with_preference, without_name};
-use crate::size::preferences_size;
+use crate::size::{preferences_size, size_with, size_without};
 use json_tree::Tree;
 use plain_text::Slug;
 use sequences::{ExactClone, Sequence, SharedList, Text};
@@ -124,9 +124,8 @@ impl Prefs {
     }
 
     /// The preferences where a slug sets each of these that nobody holds, and holds it: its value of before, or that there was
-    /// none, is kept. One that is held stays. The one error is want of memory. Both lists are walked once; where nothing is to be
-    /// set, it takes no memory.
-    #[tactic(auto, using(crate::proofs::Joins::nothing_joined))]
+    /// none, is kept. One that is held stays. The one error is want of memory. Both lists are walked once; where each is held, it
+    /// takes no memory.
     pub fn join(
         &self,
         alloc: Global,
@@ -136,11 +135,23 @@ impl Prefs {
         requires { AreSettings values.now }
         ensures { IfOk result (λ prefs. prefs ≡ joined slug.now values.now self.now) }
     {
-        if values.is_empty() {
+        let preferences = self.as_slice();
+        if self.are_held(values) {
             return self.clone();
         }
-        let preferences = joined(alloc, slug, self.as_slice(), values)?;
-        Prefs::of_preferences(alloc, preferences)
+        Prefs::of_preferences(alloc, joined(alloc, slug, preferences, values)?)
+    }
+
+    // Whether somebody holds each of these. It takes no memory.
+    fn are_held(&self, values: &[(Text, Tree)]) -> bool
+        ensures { IsTrue result → AreHeld values.now self.now }
+    {
+        for value in values {
+            if self.holder(value.0.as_str()).is_none() {
+                return false;
+            }
+        }
+        true
     }
 
     /// The preferences where each that the slug holds has its value of before again, or none where there was none. The one error
@@ -163,6 +174,17 @@ impl Prefs {
         requires value { MatchOption value ⊤ (λ v. IsValue v.now) }
         ensures { IfOk result (λ prefs. prefs ≡ set_by_user name.now (option_map (λ v. v.now) value.entry) self.now) }
     {
+        self.clone()?.with_users_value(name, value)
+    }
+
+    /// These preferences where the user sets this one, or takes its value away. The one error is want of memory. A list that is
+    /// shared is copied, and one that isn't is changed in place; only the rows of this preference are counted.
+    pub fn with_users_value(self, name: &Text, value: Option<&Tree>) -> Result<Prefs, AllocError>
+        requires free { holder_of name.now self ≡ None }
+        requires name { IsTrue (is_name name.now) }
+        requires value { MatchOption value ⊤ (λ v. IsValue v.now) }
+        ensures { IfOk result (λ prefs. prefs ≡ set_by_user name.now (option_map (λ v. v.now) value.entry) self) }
+    {
         match value {
             Some(value) => self.with_value(name, value),
             None => self.without_value(name),
@@ -170,20 +192,38 @@ impl Prefs {
     }
 
     // The preferences where the user sets this one.
-    fn with_value(&self, name: &Text, value: &Tree) -> Result<Prefs, AllocError>
+    fn with_value(self, name: &Text, value: &Tree) -> Result<Prefs, AllocError>
         requires name { IsTrue (is_name name.now) }
         requires value { IsValue value.now }
-        ensures { IfOk result (λ prefs. prefs ≡ set_by_user name.now (Some value.now) self.now) }
+        ensures { IfOk result (λ prefs. prefs ≡ set_by_user name.now (Some value.now) self) }
     {
         let preference = users_preference(name, value)?;
-        Prefs::of_list(with_preference(&self.preferences, preference)?)
+        let others = self.size_of_others(name.as_str());
+        let Some(size) = size_with(others, &preference, MOST_BYTES) else {
+            return Err(AllocError);
+        };
+        let preferences = with_preference(self.preferences, preference)?;
+        Ok(Prefs { preferences, size })
     }
 
     // The preferences where the user takes the value of this one away.
-    fn without_value(&self, name: &Text) -> Result<Prefs, AllocError>
-        ensures { IfOk result (λ prefs. prefs ≡ set_by_user name.now None self.now) }
+    fn without_value(self, name: &Text) -> Result<Prefs, AllocError>
+        ensures { IfOk result (λ prefs. prefs ≡ set_by_user name.now None self) }
     {
-        Prefs::of_list(without_name(&self.preferences, name)?)
+        let size = self.size_of_others(name.as_str());
+        let preferences = without_name(self.preferences, name)?;
+        Ok(Prefs { preferences, size })
+    }
+
+    // How many bytes the puts of the rows of the preferences of other names have. It takes no memory.
+    fn size_of_others(&self, name: &str) -> u128
+        ensures size { result ≡ length (puts_text (rows_of (without_name name.now self.now))) }
+        ensures bound { result ≤ 2 ^ 100 }
+    {
+        match self.find(name) {
+            Some(preference) => size_without(self.size, preference),
+            None => self.size,
+        }
     }
 
     /// The preferences of a list. More than 2^100 bytes of rows are want of memory.
@@ -194,18 +234,11 @@ impl Prefs {
         requires { IsSound preferences }
         ensures { IfOk result (λ prefs. prefs ≡ preferences) }
     {
-        Prefs::of_list(SharedList::from_sequence(alloc, preferences)?)
-    }
-
-    // The preferences of a list, and the size of their rows. More than 2^100 bytes are want of memory.
-    fn of_list(preferences: SharedList<Preference>) -> Result<Prefs, AllocError>
-        requires { IsSound preferences }
-        ensures { IfOk result (λ prefs. prefs ≡ preferences) }
-    {
-        match preferences_size(preferences.as_slice(), MOST_BYTES) {
-            Some(size) => Ok(Prefs { preferences, size }),
-            None => Err(AllocError),
-        }
+        let Some(size) = preferences_size(preferences.as_slice(), MOST_BYTES) else {
+            return Err(AllocError);
+        };
+        let preferences = SharedList::from_sequence(alloc, preferences)?;
+        Ok(Prefs { preferences, size })
     }
 }
 

@@ -23,11 +23,11 @@ pub(crate) fn users_preference(name: &Text, value: &Tree) -> Result<Preference, 
 
 /// The preferences with this one, in the place of the one of its name.
 pub(crate) fn with_preference(
-    preferences: &SharedList<Preference>,
+    preferences: SharedList<Preference>,
     preference: Preference,
 ) -> Result<SharedList<Preference>, AllocError>
-    requires { Rise (names_of preferences.now) }
-    ensures { IfOk result (λ ps. ps ≡ with_preference preference preferences.now) }
+    requires { Rise (names_of preferences) }
+    ensures { IfOk result (λ ps. ps ≡ with_preference preference preferences) }
 {
     match preferences
         .as_slice()
@@ -40,58 +40,55 @@ pub(crate) fn with_preference(
 
 // The preferences with this one in the place of another.
 fn with_preference_at(
-    preferences: &SharedList<Preference>,
+    mut preferences: SharedList<Preference>,
     place: usize,
     preference: Preference,
 ) -> Result<SharedList<Preference>, AllocError>
-    requires { place < length preferences.now }
-    ensures { IfOk result (λ ps. ps ≡ slice_set preferences.now place preference) }
+    requires { place < length preferences }
+    ensures { IfOk result (λ ps. ps ≡ slice_set preferences place preference) }
 {
-    let mut others = preferences.clone()?;
-    others.replace(place, preference)?;
-    Ok(others)
+    preferences.replace(place, preference)?;
+    Ok(preferences)
 }
 
 // The preferences with this one before another.
 fn with_preference_before(
-    preferences: &SharedList<Preference>,
+    mut preferences: SharedList<Preference>,
     place: usize,
     preference: Preference,
 ) -> Result<SharedList<Preference>, AllocError>
-    requires { place ≤ length preferences.now }
-    ensures { IfOk result (λ ps. ps ≡ insert preferences.now place preference) }
+    requires { place ≤ length preferences }
+    ensures { IfOk result (λ ps. ps ≡ insert preferences place preference) }
 {
-    let mut more = preferences.clone()?;
-    more.insert(place, preference)?;
-    Ok(more)
+    preferences.insert(place, preference)?;
+    Ok(preferences)
 }
 
 /// The preferences without the one of a name.
 pub(crate) fn without_name(
-    preferences: &SharedList<Preference>,
+    preferences: SharedList<Preference>,
     name: &Text,
 ) -> Result<SharedList<Preference>, AllocError>
-    requires { Rise (names_of preferences.now) }
-    ensures { IfOk result (λ ps. ps ≡ without_name name.now preferences.now) }
+    requires { Rise (names_of preferences) }
+    ensures { IfOk result (λ ps. ps ≡ without_name name.now preferences) }
 {
     match preferences
         .as_slice()
         .binary_search_by(|other| other.name.cmp(name))
     {
         Ok(place) => without_place(preferences, place),
-        Err(_) => preferences.clone(),
+        Err(_) => Ok(preferences),
     }
 }
 
 // The preferences without the one at a place.
 fn without_place(
-    preferences: &SharedList<Preference>,
+    mut preferences: SharedList<Preference>,
     place: usize,
 ) -> Result<SharedList<Preference>, AllocError>
-    requires { place < length preferences.now }
-    ensures { IfOk result (λ ps. ps ≡ remove preferences.now place) }
+    requires { place < length preferences }
+    ensures { IfOk result (λ ps. ps ≡ remove preferences place) }
 {
-    let mut others = preferences.clone()?;
-    others.remove(place)?;
-    Ok(others)
+    preferences.remove(place)?;
+    Ok(preferences)
 }

@@ -25,6 +25,24 @@ pub(crate) fn preferences_size(preferences: &[Preference], most: u128) -> Option
     Some(most - left)
 }
 
+/// How many bytes of rows are left when those of the preference are taken away. It takes no memory.
+pub(crate) fn size_without(size: u128, preference: &Preference) -> u128
+    requires { preference_size preference.now ≤ size }
+    ensures { result + preference_size preference.now ≡ size }
+{
+    left_after(preference, size).unwrap_or(0)
+}
+
+/// How many bytes of rows there are with those of the preference, where they are at most `most`. It takes no memory.
+pub(crate) fn size_with(size: u128, preference: &Preference, most: u128) -> Option<u128>
+    requires { size ≤ most }
+    ensures some { IfSome result (λ all. all ≡ size + preference_size preference.now) }
+    ensures within { IfSome result (λ all. all ≤ most) }
+{
+    let left = left_after(preference, most - size)?;
+    Some(most - left)
+}
+
 // How many of the bytes are left after the rows of the preference, where they are enough.
 fn left_after(preference: &Preference, bytes: u128) -> Option<u128>
     ensures some { IfSome result (λ left. left + preference_size preference.now ≡ bytes) }

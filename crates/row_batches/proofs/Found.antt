@@ -16,13 +16,13 @@ use Rattle.row_batches.proofs.Ordered.{same_keys, turned_up, turned_down, turned
 
 -- ---- one step of each search
 
-valued : (key : List ℕ) (r : StoreRow) (rs : List StoreRow) (o : Ordering) → key_cmp key r.key ≡ o → value_of key (r ∷ rs) ≡ match_ordering o None (Some r.value) (value_of key rs)
+pub valued : (key : List ℕ) (r : StoreRow) (rs : List StoreRow) (o : Ordering) → key_cmp key r.key ≡ o → value_of key (r ∷ rs) ≡ match_ordering o None (Some r.value) (value_of key rs)
 valued key r rs o e = ap (λ p. match_ordering p None (Some r.value) (value_of key rs)) e
 
-picked : (r q : StoreRow) (qs : List StoreRow) (o : Ordering) → key_cmp r.key q.key ≡ o → with_row r (q ∷ qs) ≡ match_ordering o (r ∷ q ∷ qs) (r ∷ qs) (q ∷ with_row r qs)
+pub picked : (r q : StoreRow) (qs : List StoreRow) (o : Ordering) → key_cmp r.key q.key ≡ o → with_row r (q ∷ qs) ≡ match_ordering o (r ∷ q ∷ qs) (r ∷ qs) (q ∷ with_row r qs)
 picked r q qs o e = ap (λ p. match_ordering p (r ∷ q ∷ qs) (r ∷ qs) (q ∷ with_row r qs)) e
 
-dropped : (key : List ℕ) (q : StoreRow) (qs : List StoreRow) (o : Ordering) → key_cmp key q.key ≡ o → without_key key (q ∷ qs) ≡ match_ordering o (q ∷ qs) qs (q ∷ without_key key qs)
+pub dropped : (key : List ℕ) (q : StoreRow) (qs : List StoreRow) (o : Ordering) → key_cmp key q.key ≡ o → without_key key (q ∷ qs) ≡ match_ordering o (q ∷ qs) qs (q ∷ without_key key qs)
 dropped key q qs o e = ap (λ p. match_ordering p (q ∷ qs) qs (q ∷ without_key key qs)) e
 
 -- ---- the row at a place has the key
@@ -202,6 +202,14 @@ none_or false rows rise = rise
 none_or_room : (b : Bool) (rows : List StoreRow) → HaveRoom rows → HaveRoom (if b then [] else rows)
 none_or_room true rows room = tt
 none_or_room false rows room = room
+
+-- the rows with which a batch begins
+pub rise_cleared : (clear : Bool) (rows given : List StoreRow) → AreRows rows → given ≡ (if clear then [] else rows) → AreRows given
+rise_cleared clear rows given rise is = subst AreRows (sym is) (none_or clear rows rise)
+
+pub most_cleared : (clear : Bool) (rows given : List StoreRow) → given ≡ (if clear then [] else rows) → length given ≤ length rows
+most_cleared true rows given is = let none : length given ≡ 0 = ap length is in omega (arith, none)
+most_cleared false rows given is = let same : length given ≡ length rows = ap length is in omega (arith, same)
 
 pub rise_applied : (batch : ChangeList) (rows : List StoreRow) → AreRows rows → AreRows (applied batch rows)
 rise_applied batch rows rise = rise_all batch.changes (if batch.clear then [] else rows) (none_or batch.clear rows rise)

@@ -4,13 +4,13 @@ pub mod Fields
 pub mod FieldsRead
 pub mod Found
 pub mod Joining
-pub mod Gaps
 pub mod ItemWalks
 pub mod Keeping
 pub mod Merged
 pub mod OneSpelling
 pub mod Ordered
 pub mod RowFields
+pub mod Sides
 pub mod Sizes
 pub mod Texts
 pub mod Turns

@@ -2,11 +2,12 @@ pub mod Batch
 pub mod BatchParts
 pub mod Batches
 pub mod Between
-pub mod Gap
 pub mod ItemRows
 pub mod Laws
+pub mod Listing
 pub mod Merging
 pub mod Places
 pub mod RowRoom
 pub mod Rows
 pub mod Steps
+pub mod Trees

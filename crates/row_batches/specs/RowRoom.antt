@@ -1,5 +1,5 @@
 -- How contracts see a map of rows.
-use Rattle.std.specs.Prelude.{◌≡◌, ◌≤◌, ℕ, List, []}
+use Rattle.std.specs.Prelude.{◌≡◌, ◌≢◌, ◌≤◌, ◌+◌, ◌++◌, ℕ, List, [], length}
 use Rattle.row_batches.specs.Batches.{HaveRoom}
 use Rattle.row_batches.specs.Rows.{AreRows}
 use Rattle.row_batches.specs.declared.store_row.StoreRow.{StoreRow}
@@ -14,9 +14,11 @@ pub record AreSoundRows (rows : List StoreRow) : Type 0 where
   pub rise : AreRows rows
   pub fields : HaveRoom rows
 
--- sound rows, none aside, and both have the room
-pub record KeepsRoom (rows behind : List StoreRow) (room rows_room behind_room : ℕ) : Type 0 where
-  pub sound : AreSoundRows rows
-  pub none : behind ≡ []
-  pub rows_fit : room ≤ rows_room
-  pub behind_fits : room ≤ behind_room
+-- sound rows, in a list or in a tree, and forks for as many as there is room for, which both have places for
+pub record KeepsRoom (listed standing : List StoreRow) (spare room forks listed_room spare_room : ℕ) : Type 0 where
+  pub sound : AreSoundRows (listed ++ standing)
+  pub alone : listed ≢ [] → standing ≡ []
+  pub count : length standing + spare ≡ forks
+  pub forks_fit : room ≤ forks
+  pub listed_fit : forks ≤ listed_room
+  pub spare_fit : forks ≤ spare_room

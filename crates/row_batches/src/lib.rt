@@ -5,14 +5,18 @@
 mod batch;
 mod change;
 mod fault;
-mod gap;
 mod laws;
 mod merging;
 mod parts;
 mod reading;
+mod room;
 mod row_form;
 mod row_map;
+mod searching;
 mod store_row;
+mod tree;
+mod tree_changes;
+mod tree_rows;
 mod walking;
 mod writing;
 

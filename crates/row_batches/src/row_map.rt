@@ -1,41 +1,53 @@
 // Rows in the order of their keys, and room for more.
-ghost use Rattle.std.specs.Prelude.{◌≡◌, ◌≤◌, ◌<◌, ◌+◌, [], length, IfOk, IfErr, OnOk, OnErr, option_map, if◌then◌else◌, slice_set, vec_capacity};
+ghost use Rattle.std.specs.Prelude.{◌≡◌, ◌≤◌, ◌+◌, [], length, OnOk, OnErr, option_map};
 ghost use Rattle.row_batches.specs.Batch.{applied};
 ghost use Rattle.row_batches.specs.Batches.{HaveRoom};
-ghost use Rattle.row_batches.specs.Places.{HasKeyAt, BelongsAt};
+ghost use Rattle.row_batches.specs.Listing.{StaysAsItWas};
 ghost use Rattle.row_batches.specs.RowRoom.{AreSoundRows};
 ghost use Rattle.row_batches.specs.Rows.{AreRows, value_of};
+ghost use Rattle.std.specs.Borrow.{sem};
 
 use crate::batch::Batch;
-use crate::gap::take_changes;
+use crate::room::{add_forks, apply_batch};
+use crate::searching::value_listed;
 use crate::store_row::StoreRow;
+use crate::tree::{Fork, Tree};
+use crate::tree_rows::{list_tree, value_in};
 use sequences::Sequence;
 use std::alloc::{AllocError, Global};
 use std::marker::Model;
+use std::mem;
 
 /// A map from keys to values: rows whose keys rise strictly by their bytes, and room for some more.
 ///
-/// A row is found by a binary search. A batch's rows are moved in, and no key or value is copied. A batch costs a binary search
-/// for each change, and where it has a delete or a new row, one walk: the handles of the rows behind it, of 48 bytes each, are
-/// moved aside and back. So a batch at the end costs its own changes alone. The map has room for the handles twice.
+/// A row is found by a search whose steps are about the binary logarithm of the number of rows. A batch costs one such search for
+/// each of its changes, whatever stands before or behind their rows: its rows are moved in, and no key or value is copied. A clear
+/// costs a walk over all rows, and so does the first batch after `from_rows` or `as_slice`, and `as_slice` after a batch.
 #[derive(Drop)]
 pub struct RowMap {
-    rows: Vec<StoreRow>,
-    // No row. Those behind a change are moved here while a batch is taken.
-    behind: Vec<StoreRow>,
-    // Both have room for so many rows.
+    alloc: Global,
+    // All rows, or none where they stand in the tree.
+    listed: Vec<StoreRow>,
+    // All rows, or none where they stand in the list.
+    tree: Tree,
+    // Forks without a row, for rows to come.
+    spare: Vec<Box<Fork>>,
+    // How many forks there are. Both lists have places for so many.
+    forks: usize,
+    // How many rows there is room for.
     room: usize,
 }
 
 impl Model for RowMap {
-    ghost use Rattle.std.specs.Prelude.{vec_capacity};
+    ghost use Rattle.std.specs.Prelude.{◌++◌, length, vec_capacity};
     ghost use Rattle.row_batches.specs.RowRoom.{RowsInRoom, KeepsRoom};
+    ghost use Rattle.row_batches.specs.Trees.{rows_in};
 
     ghost Value = { RowsInRoom };
 
-    ghost view = { λ m. record { rows = m.rows.items; room = m.room } };
+    ghost view = { λ m. record { rows = m.listed.items ++ rows_in m.tree; room = m.room } };
 
-    ghost invariant = { λ m. KeepsRoom m.rows.items m.behind.items m.room (vec_capacity m.rows) (vec_capacity m.behind) };
+    ghost invariant = { λ m. KeepsRoom m.listed.items (rows_in m.tree) (length m.spare.items) m.room m.forks (vec_capacity m.listed) (vec_capacity m.spare) };
 }
 
 impl RowMap {
@@ -45,8 +57,11 @@ impl RowMap {
         ensures { result.rows ≡ rows }
     {
         RowMap {
-            rows: rows.into_vec(),
-            behind: Vec::new(alloc),
+            alloc,
+            listed: rows.into_vec(),
+            tree: Tree::Leaf,
+            spare: Vec::new(alloc),
+            forks: 0,
             room: 0,
         }
     }
@@ -58,24 +73,28 @@ impl RowMap {
         RowMap::from_rows(alloc, Sequence::new(alloc))
     }
 
-    /// The rows, in the order of their keys. It takes no memory.
-    pub fn as_slice(&self) -> &[StoreRow]
-        ensures rows { result.now ≡ self.now.rows }
-        ensures rise { AreRows self.now.rows }
-        ensures fields { HaveRoom self.now.rows }
+    /// The rows, in the order of their keys. It takes no memory. After a batch they are listed first.
+    pub fn as_slice(&mut self) -> &[StoreRow]
+        ensures rows { result.now ≡ self.old.rows }
+        ensures rise { AreRows self.old.rows }
+        ensures fields { HaveRoom self.old.rows }
+        ensures* same { sem 𝓛 (StaysAsItWas self.entry) }
     {
-        self.rows.as_slice()
+        let tree = mem::replace(&mut self.tree, Tree::Leaf);
+        list_tree(self.alloc, &mut self.listed, tree, &mut self.spare);
+        self.listed.as_slice()
     }
 
     /// The value of a key, where there is one. It takes no memory.
+    #[tactic(auto, using(crate::proofs::Sides::rise_back))]
     pub fn get(&self, key: &[u8]) -> Option<&[u8]>
         ensures { option_map (λ value. value.now) result ≡ value_of key.now self.now.rows }
     {
-        let rows = self.rows.as_slice();
-        match place_of(rows, key) {
-            Ok(place) => Some(rows[place].value.as_slice()),
-            Err(_) => None,
+        if self.listed.is_empty() {
+            return value_in(&self.tree, key);
         }
+        let rows = self.listed.as_slice();
+        value_listed(rows, key)
     }
 
     /// Reserves room for so many rows more. Want of memory leaves the rows and their room as they were.
@@ -85,9 +104,18 @@ impl RowMap {
         ensures no_less { self.old.room ≤ self.new.room }
         ensures err { OnErr result (self.new ≡ self.old) }
     {
-        self.rows.reserve(more)?;
-        self.behind.reserve(self.rows.len() + more)?;
-        self.room = self.rows.capacity().min(self.behind.capacity());
+        let Some(wanted) = self.listed.len().checked_add(more) else {
+            return Err(AllocError);
+        };
+        let missing = wanted.saturating_sub(self.spare.len());
+        add_forks(
+            self.alloc,
+            &mut self.listed,
+            &mut self.spare,
+            &mut self.forks,
+            missing,
+        )?;
+        self.room = self.forks;
         Ok(())
     }
 
@@ -97,56 +125,7 @@ impl RowMap {
         ensures rows { self.new.rows ≡ applied batch self.old.rows }
         ensures room { self.old.room ≤ self.new.room }
     {
-        apply_batch(&mut self.rows, &mut self.behind, batch);
+        let tree = mem::replace(&mut self.tree, Tree::Leaf);
+        self.tree = apply_batch(self.alloc, &mut self.listed, tree, &mut self.spare, batch);
     }
-}
-
-// Takes a batch.
-#[tactic(auto, using(crate::proofs::Found::rise_given_batch, crate::proofs::Found::room_given))]
-fn apply_batch(rows: &mut Vec<StoreRow>, behind: &mut Vec<StoreRow>, batch: Batch)
-    requires rise { AreRows rows.old.items }
-    requires fields { HaveRoom rows.old.items }
-    requires none { behind.old.items ≡ [] }
-    requires room { length rows.old.items + length batch.changes ≤ vec_capacity rows.old }
-    requires behind_room { length rows.old.items + length batch.changes ≤ vec_capacity behind.old }
-    ensures items { rows.new.items ≡ applied batch rows.old.items }
-    ensures rise { AreRows rows.new.items }
-    ensures fields { HaveRoom rows.new.items }
-    ensures none { behind.new.items ≡ [] }
-    ensures room { vec_capacity rows.old ≤ vec_capacity rows.new }
-    ensures behind_room { vec_capacity behind.old ≤ vec_capacity behind.new }
-{
-    clear_where(rows, batch.is_clear());
-    take_changes(rows, behind, batch.into_changes());
-}
-
-// Takes all rows away, or none.
-#[tactic(auto, using(crate::proofs::Found::no_rows))]
-fn clear_where(rows: &mut Vec<StoreRow>, is_clear: bool)
-    requires { AreRows rows.old.items }
-    ensures items { rows.new.items ≡ (if is_clear then [] else rows.old.items) }
-    ensures rise { AreRows rows.new.items }
-    ensures most { length rows.new.items ≤ length rows.old.items }
-    ensures room { vec_capacity rows.new ≡ vec_capacity rows.old }
-{
-    if is_clear {
-        rows.clear();
-    }
-}
-
-/// Puts a row in the place of another.
-pub(crate) fn replace_row(rows: &mut [StoreRow], place: usize, row: StoreRow)
-    requires { place < length rows.old }
-    ensures { rows.new ≡ slice_set rows.old place row }
-{
-    rows[place] = row;
-}
-
-/// The place of the row of a key, or the one where it belongs.
-pub(crate) fn place_of(rows: &[StoreRow], key: &[u8]) -> Result<usize, usize>
-    requires { AreRows rows.now }
-    ensures found { IfOk result (λ place. HasKeyAt key.now rows.now place) }
-    ensures missed { IfErr result (λ place. BelongsAt key.now rows.now place) }
-{
-    rows.binary_search_by(|row| row.key.as_slice().cmp(key))
 }

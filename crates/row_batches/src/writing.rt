@@ -20,12 +20,15 @@ pub(crate) const DELETE: u8 = 2;
 impl Batch {
     /// The bytes of the batch: the byte 0 for a clear, and each change. A put is the byte 1, the number of the key's bytes in
     /// two bytes, the key, the number of the value's bytes in four bytes and the value; a delete is the byte 2, the number of
-    /// the key's bytes in two bytes and the key. The highest byte of a number stands first.
+    /// the key's bytes in two bytes and the key. The highest byte of a number stands first. Their memory is taken at once.
     pub fn bytes(&self, alloc: Global) -> Result<Vec<u8>, AllocError>
         ensures bytes { IfOk result (λ bytes. bytes.items ≡ batch_text self.now) }
         ensures rules { IfOk result (λ _. IsBatch self.now) }
     {
-        let mut bytes = Vec::new(alloc);
+        let Ok(size) = usize::try_from(self.size()) else {
+            return Err(AllocError);
+        };
+        let mut bytes = Vec::with_capacity(alloc, size)?;
         if self.is_clear() {
             bytes.push(CLEAR)?;
         }

@@ -1,4 +1,5 @@
 pub mod Folding
+pub mod Listed
 pub mod Listing
 pub mod Moments
 pub mod Ready

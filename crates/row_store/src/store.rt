@@ -17,10 +17,12 @@ ghost use Rattle.row_batches.specs.Batch.{applied, IsBatch, batch_text, whole_of
 ghost use Rattle.row_batches.specs.Batches.{HaveRoom};
 ghost use Rattle.row_batches.specs.Rows.{AreRows, value_of};
 ghost use Rattle.row_store.specs.Folding.{Fold};
+ghost use Rattle.row_store.specs.Listed.{StaysAsItWas};
 ghost use Rattle.row_store.specs.Moments.{KeepsEitherRows};
 ghost use Rattle.row_store.specs.Ready.{IsCommitted, IsReadyFor, IsWritten, PassesMark, commit_cost, place_after};
 ghost use Rattle.row_store.specs.Rows.{HasRows, HasKeptRows, HasPlace, IsBad};
 ghost use Rattle.row_store.specs.Store.{RowsStand, RowsStandWithGate, KeepsRows, place};
+ghost use Rattle.std.specs.Borrow.{sem};
 
 use crate::copying::copy_of;
 use crate::faults::RowMakeFault;
@@ -38,8 +40,8 @@ use std::marker::Model;
 /// A map from keys to values, kept over every crash: rows in the order of their keys, and where the next batch is written.
 ///
 /// An opening reads each batch once; a change of it costs a search of an ordered map. A commit takes no memory. Beside
-/// what it writes it costs a binary search for each change, and where a row is new or deleted one walk, which moves the handles of
-/// the rows behind it and copies no key and no value.
+/// what it writes it costs a search for each change, as `RowMap` says, and copies no key and no value. A checkpoint, the first
+/// commit after an opening and the one after a checkpoint cost one walk over all rows more.
 ///
 /// It stands for the disk of the host on which it was opened. Each call on it that takes a host wants this host, with the disk
 /// as the last call left it and synced. After a fault of the disk it is dropped, and the store opened again.
@@ -80,6 +82,7 @@ impl RowStore {
 
         ensures cost { H.tells → HasCost (length (batch_text whole.now) + 17) (H.written host.old) (H.written host.new) result }
         ensures cause { IsErrOf result RowMakeFault.DiskFault → Rose (H.disk_faults host.old) (H.disk_faults host.new) }
+        ensures disk_quiet { ¬ IsErrOf result RowMakeFault.DiskFault → H.disk_faults host.new ≡ H.disk_faults host.old }
         ensures disk_faults { H.disk_faults host.old ≤ H.disk_faults host.new }
         ensures say_faults { H.say_faults host.new ≡ H.say_faults host.old }
     {
@@ -126,6 +129,7 @@ impl RowStore {
 
         ensures cost { H.tells → HasCost (repair_cost (H.reads host.old Left) (H.reads host.old Right)) (H.written host.old) (H.written host.new) result }
         ensures cause { IsErrOf result PairFault.DiskFault → Rose (H.disk_faults host.old) (H.disk_faults host.new) }
+        ensures disk_quiet { ¬ IsErrOf result PairFault.DiskFault → H.disk_faults host.new ≡ H.disk_faults host.old }
         ensures disk_faults { H.disk_faults host.old ≤ H.disk_faults host.new }
         ensures say_faults { H.say_faults host.new ≡ H.say_faults host.old }
     {
@@ -145,11 +149,12 @@ impl RowStore {
         self.rows.get(key)
     }
 
-    /// The rows, in the order of their keys. It takes no memory.
-    pub fn rows(&self) -> &[StoreRow]
-        ensures rows { result.now ≡ self.now.rows }
-        ensures rise { AreRows self.now.rows }
-        ensures fields { HaveRoom self.now.rows }
+    /// The rows, in the order of their keys. It takes no memory. After a commit they are listed first, as `RowMap` says.
+    pub fn rows(&mut self) -> &[StoreRow]
+        ensures rows { result.now ≡ self.old.rows }
+        ensures rise { AreRows self.old.rows }
+        ensures fields { HaveRoom self.old.rows }
+        ensures* same { sem 𝓛 (StaysAsItWas self.entry) }
     {
         self.rows.as_slice()
     }
@@ -170,35 +175,9 @@ impl RowStore {
         ensures records { self.new.records ≡ self.old.records }
         ensures err { OnErr result (self.new ≡ self.old) }
     {
-        let ready = self.ready_for(alloc, batch)?;
+        let ready = ready_for(alloc, &self.pair, &mut self.rows, batch)?;
         self.rows.reserve(batch.changes().len())?;
         Ok(ready)
-    }
-
-    // The batch with what is written of it.
-    fn ready_for(&self, alloc: Global, batch: &Batch) -> Result<Ready, AllocError>
-        requires size { length (batch_text batch.now) ≤ MAX_PAYLOAD }
-        requires whole_size { length (batch_text (whole_of (applied batch.now self.now.rows))) ≤ MAX_WHOLE }
-        ensures batch { IfOk result (λ ready. ready.batch ≡ batch.now) }
-        ensures rules { IfOk result (λ _. IsBatch batch.now) }
-        ensures written { IfOk result (λ ready. IsWritten ready.is_whole self.now batch.now ready.payload) }
-    {
-        let bytes = batch.bytes(alloc)?;
-        let frame = frame_of(alloc, &bytes)?;
-        if self.pair.wants_checkpoint(&frame) {
-            let whole = batch.whole_after(alloc, self.rows.as_slice())?;
-            Ok(Ready {
-                batch: copy_of(alloc, batch)?,
-                frame: frame_of(alloc, &whole)?,
-                is_whole: true,
-            })
-        } else {
-            Ok(Ready {
-                batch: copy_of(alloc, batch)?,
-                frame,
-                is_whole: false,
-            })
-        }
     }
 
     /// Writes a batch that the last `prepare` of this store made ready, and takes it. At `Ok` each image has it. It takes no
@@ -220,6 +199,7 @@ impl RowStore {
         ensures place { OnOk result (place self.new ≡ place_after ready (place self.old)) }
         ensures cost { H.tells → HasCost (commit_cost ready) (H.written host.old) (H.written host.new) result }
         ensures cause { HasCause (H.disk_faults host.old) (H.disk_faults host.new) result }
+        ensures disk_quiet { OnOk result (H.disk_faults host.new ≡ H.disk_faults host.old) }
         ensures say_faults { H.say_faults host.new ≡ H.say_faults host.old }
     {
         let Ready {
@@ -233,6 +213,46 @@ impl RowStore {
     }
 }
 
+// The batch with what is written of it.
+fn ready_for(
+    alloc: Global,
+    pair: &PairStore,
+    rows: &mut RowMap,
+    batch: &Batch,
+) -> Result<Ready, AllocError>
+    requires size { length (batch_text batch.now) ≤ MAX_PAYLOAD }
+    requires whole_size { length (batch_text (whole_of (applied batch.now rows.old.rows))) ≤ MAX_WHOLE }
+    ensures batch { IfOk result (λ ready. ready.batch ≡ batch.now) }
+    ensures rules { IfOk result (λ _. IsBatch batch.now) }
+    ensures written { IfOk result (λ ready. IsWritten ready.is_whole (record { records = pair.now; rows = rows.old.rows; room = rows.old.room }) batch.now ready.payload) }
+    ensures same { rows.new ≡ rows.old }
+{
+    let bytes = batch.bytes(alloc)?;
+    let frame = frame_of(alloc, &bytes)?;
+    if pair.wants_checkpoint(&frame) {
+        let whole = whole_bytes(alloc, rows, batch)?;
+        Ok(Ready {
+            batch: copy_of(alloc, batch)?,
+            frame: frame_of(alloc, &whole)?,
+            is_whole: true,
+        })
+    } else {
+        Ok(Ready {
+            batch: copy_of(alloc, batch)?,
+            frame,
+            is_whole: false,
+        })
+    }
+}
+
+// The bytes of the whole map after a batch.
+fn whole_bytes(alloc: Global, rows: &mut RowMap, batch: &Batch) -> Result<Vec<u8>, AllocError>
+    ensures bytes { IfOk result (λ bytes. bytes.items ≡ batch_text (whole_of (applied batch.now rows.old.rows))) }
+    ensures same { rows.new ≡ rows.old }
+{
+    batch.whole_after(alloc, rows.as_slice())
+}
+
 // Makes the pair of one payload.
 fn make_pair<H: Host>(host: &mut H, first: &Frame) -> Result<(), DiskFailed>
     requires fits { length first.now ≤ MAX_WHOLE }
@@ -244,6 +264,7 @@ fn make_pair<H: Host>(host: &mut H, first: &Frame) -> Result<(), DiskFailed>
     ensures below { H.tells → MeetsAll H.Host host.old host.new (StaysBelow H.Host host.old) }
     ensures cost { H.tells → HasCost (length first.now + 17) (H.written host.old) (H.written host.new) result }
     ensures cause { HasCause (H.disk_faults host.old) (H.disk_faults host.new) result }
+    ensures disk_quiet { OnOk result (H.disk_faults host.new ≡ H.disk_faults host.old) }
     ensures say_faults { H.say_faults host.new ≡ H.say_faults host.old }
 {
     let _pair = PairStore::make(host, first)?;

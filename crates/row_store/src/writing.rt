@@ -32,6 +32,7 @@ pub(crate) fn write_payload<H: Host>(
     ensures same { OnErr result (pair.new ≡ pair.old) }
     ensures cost { H.tells → HasCost (length frame.now + (if is_whole then 16 else 6)) (H.written host.old) (H.written host.new) result }
     ensures cause { HasCause (H.disk_faults host.old) (H.disk_faults host.new) result }
+    ensures disk_quiet { OnOk result (H.disk_faults host.new ≡ H.disk_faults host.old) }
     ensures say_faults { H.say_faults host.new ≡ H.say_faults host.old }
 {
     if is_whole {

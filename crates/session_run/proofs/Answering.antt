@@ -1,5 +1,5 @@
 -- An answer is said behind what was written.
-use Rattle.std.proofs.Common.{◌≡◌, inl, inr, ℕ, List, ◌++◌, take, ◌∙◌, ap, subst, Result}
+use Rattle.std.proofs.Common.{◌≡◌, inl, inr, ℕ, List, ◌++◌, take, ◌∙◌, ap}
 use Rattle.host_model.specs.declared.host.Host.{Ghosts}
 use Rattle.host_model.specs.Hosts.{MeetsAll}
 use Rattle.host_model.specs.Moments.{IsSaying}
@@ -7,8 +7,6 @@ use Rattle.host_model.proofs.Meeting.{then_met, met_weaker}
 use Rattle.client_state.specs.declared.client_state.ClientState.{ClientState}
 use Rattle.client_store.specs.Moments.{WhileWritten}
 use Rattle.client_store.specs.OpenStore.{AllKept}
-use Rattle.session_run.specs.declared.faults.RunFault.{RunFault}
-use Rattle.session_run.specs.Ends.{LineEnds}
 use Rattle.session_run.specs.Moments.{DuringLine}
 
 module _ {H : Type 0} (h : Ghosts H) (start : H) where
@@ -27,12 +25,3 @@ module _ {H : Type 0} (h : Ghosts H) (start : H) where
   pub said_met : (new : H) (s : ClientState) (text : List ℕ) → AllKept h start s → MeetsAll h start new (IsSaying (h.images start) (h.said start) text) → MeetsAll h start new (DuringLine (h.said start) s s text)
   said_met new s text kept saying =
       met_weaker h.moment h.might start new _ (DuringLine (h.said start) s s text) saying (λ l r u met. inr (kept l r met.0 met.1, met.2))
-
-  -- what is known of a line, under other names of its state and of its answer
-  pub met_as : (new : H) (s t other : ClientState) (text words : List ℕ) → t ≡ other → text ≡ words → MeetsAll h start new (DuringLine (h.said start) s t text) → MeetsAll h start new (DuringLine (h.said start) s other words)
-  met_as new s t other text words same same_text run =
-      subst (λ (w : List ℕ). MeetsAll h start new (DuringLine (h.said start) s other w)) same_text (subst (λ (x : ClientState). MeetsAll h start new (DuringLine (h.said start) s x text)) same run)
-
-  pub ends_as : (new : H) (s t other : ClientState) (text words : List ℕ) (result : Result (Unit {0}) RunFault) → t ≡ other → text ≡ words → LineEnds h s t text (h.said start) new result → LineEnds h s other words (h.said start) new result
-  ends_as new s t other text words result same same_text ends =
-      subst (λ (w : List ℕ). LineEnds h s other w (h.said start) new result) same_text (subst (λ (x : ClientState). LineEnds h s x text (h.said start) new result) same ends)

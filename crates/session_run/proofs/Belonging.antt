@@ -141,11 +141,6 @@ script_source script.TooLong is = absurd cc
 script_source script.SourceFault is = refl
 script_source script.OutOfMemory is = absurd cc
 
-pub script_not_done : (fault : ScriptFault) → of_script fault ≡ status.Done → ⊥
-script_not_done script.TooLong is = absurd cc
-script_not_done script.SourceFault is = absurd cc
-script_not_done script.OutOfMemory is = absurd cc
-
 pub script_finds : (l r : List ℕ) (fault : ScriptFault) → RunFinds l r (of_script fault)
 script_finds l r script.TooLong = tt
 script_finds l r script.SourceFault = tt

@@ -50,10 +50,10 @@ module _ {H : Type 0} (h : Ghosts H) (start count now : ℕ) (at : Setting) (lin
         ap (λ (a : Setting). begin a (drill_fresh now) place lines (h.said old) written) at_is
         ∙ ap (λ (l : List (List ℕ)). begin (drill_setting start count now) (drill_fresh now) place l (h.said old) written) same
 
-    pub unsaid_ends : (asked : List (List ℕ) → Type 0) (mid : H) (status : RunStatus) → RunEnds h asked (drill_fresh now ∷ []) here mid status → (status ≡ Done → ⊥) → (status ≡ ScriptTooLong → ⊥) → (status ≡ SourceFault → ⊥) → (status ≡ ShelfFault → ⊥)
+    pub unsaid_ends : (asked : List (List ℕ) → Type 0) (mid : H) (status : RunStatus) → RunEnds h asked (drill_fresh now ∷ []) here old mid status → (status ≡ Done → ⊥) → (status ≡ ScriptTooLong → ⊥) → (status ≡ SourceFault → ⊥) → (status ≡ ShelfFault → ⊥)
         → ScriptEnds h there (drill_summary start count now) mid status
     unsaid_ends asked mid status ends not_done short source shelf =
-        lines_end h there (drill_summary start count now) old asked mid status (subst (λ (s : Start). RunEnds h asked (drill_fresh now ∷ []) s mid status) here_is ends) not_done short source shelf
+        lines_end h there (drill_summary start count now) old asked mid status (subst (λ (s : Start). RunEnds h asked (drill_fresh now ∷ []) s old mid status) here_is ends) not_done short source shelf
 
     -- all lines are done and answered, and the summary of their last state is said
     module _ (asked : List (List ℕ) → Type 0) (mid new : H) (last : ClientState) (last_is : last ≡ last_state here) (all : EndsWhole h asked here mid) where

@@ -7,7 +7,6 @@ use Rattle.host_model.specs.Hosts.{MeetsAll, NowOf}
 use Rattle.host_model.specs.Moments.{IsSaying, KeepsSide}
 use Rattle.host_model.proofs.Meeting.{then_met, met_weaker}
 use Rattle.pair_store.specs.Moments.{IsOpening}
-use Rattle.pair_store.specs.Repair.{repair_cost}
 use Rattle.enrol_states.specs.Statuses.{last_moment}
 use Rattle.enrol_states.proofs.Fresh.{fresh-consistent}
 use Rattle.client_state.specs.Sound.{IsSound}
@@ -15,14 +14,14 @@ use Rattle.client_state.proofs.Empty.{empty_is_sound}
 use Rattle.state_codec.proofs.Fresh.{fresh_is_sound}
 use Rattle.recipe_drill.specs.Parts.{drill_id}
 use Rattle.client_store.specs.Moments.{IsLeftAmong}
-use Rattle.row_store.specs.Rows.{HasPlace}
+use Rattle.client_store.specs.OpenStore.{AllKept}
 use Rattle.client_store.specs.Store.{IsAbsent}
 use Rattle.client_store.proofs.Holding.{kept_said}
 use Rattle.session_run.specs.declared.status.RunStatus.{RunStatus}
 use Rattle.session_run.specs.declared.status.RunStatus.TheVariants.{Done, Usage, ScriptTooLong, NoStore, AlreadyStore, BadStore, SourceFault, ShelfFault, DiskFault, SayFault, OutOfMemory}
 use Rattle.session_run.specs.Drills.{drill_bytes, drill_fresh, drill_ready, drill_setting, drill_start, drill_summary, AfterReady, DuringDrill}
-use Rattle.session_run.specs.DrillEnds.{SummaryEnds, ScriptEnds, ReadyEnds, Drilled}
-use Rattle.session_run.specs.Ends.{EndsWhole, RunEnds}
+use Rattle.session_run.specs.DrillEnds.{SummaryEnds, AsksForAny, ScriptEnds, made_start, ReadyEnds, Drilled}
+use Rattle.session_run.specs.Ends.{EndsWhole, EndsUnbegun, StaysAs, RunEnds}
 use Rattle.session_run.specs.Finds.{MakingFinds, MakingLeaves, MakingFound}
 use Rattle.session_run.specs.Making.{DuringMaking, Made}
 use Rattle.session_run.specs.Moments.{AfterPrefix}
@@ -31,6 +30,7 @@ use Rattle.session_run.specs.Starts.{Start, last_state}
 use Rattle.session_run.proofs.DrillIds.{drill_id_reads}
 use Rattle.client_words.proofs.Ids.{IsIdIn, id_in_text}
 use Rattle.session_run.proofs.Judging.{among_not_absent, making_judges}
+use Rattle.session_run.proofs.Linking.{one_among}
 use Rattle.session_run.specs.Writes.{IsBelowMark}
 use Rattle.session_run.proofs.Values.{serves_values}
 use Rattle.session_run.proofs.Writing.{at_each, below_then}
@@ -48,14 +48,19 @@ module _ {H : Type 0} (h : Ghosts H) (start : Start) (summary : List ℕ) (old :
   pub lines_met : (new : H) → MeetsAll h old new (AfterPrefix start) → MeetsAll h old new (AfterReady start summary)
   lines_met new run = met_weaker h.moment h.might old new _ (AfterReady start summary) run (λ l r u met. inl met)
 
+  stays_as : (asked : List (List ℕ) → Type 0) (new : H) → AllKept h new start.state → EndsUnbegun h asked start new → StaysAs h AsksForAny start new
+  stays_as asked new kept unbegun = record { kept = kept; unbegun = record { text = unbegun.text; most = unbegun.most; asks = tt } }
+
   -- a run that did not do all ends a drill
-  pub lines_end : (asked : List (List ℕ) → Type 0) (new : H) (status : RunStatus) → RunEnds h asked (start.state ∷ []) start new status → (status ≡ Done → ⊥) → (status ≡ ScriptTooLong → ⊥) → (status ≡ SourceFault → ⊥) → (status ≡ ShelfFault → ⊥) → ScriptEnds h start summary new status
+  pub lines_end : (asked : List (List ℕ) → Type 0) (new : H) (status : RunStatus) → RunEnds h asked (start.state ∷ []) start old new status → (status ≡ Done → ⊥) → (status ≡ ScriptTooLong → ⊥) → (status ≡ SourceFault → ⊥) → (status ≡ ShelfFault → ⊥) → ScriptEnds h start summary new status
   lines_end asked new Done ends not_done short source shelf = absurd (not_done refl)
   lines_end asked new OutOfMemory (inl ends) not_done short source shelf = inl (record { k = ends.k; within = ends.within; kept = ends.kept; text = ends.text; most = ends.most; asks = tt })
-  lines_end asked new OutOfMemory (inr stays) not_done short source shelf = inr (inl (record { kept = stays.kept; text = stays.text; most = stays.most; asks = tt }))
+  lines_end asked new OutOfMemory (inr (inl stays)) not_done short source shelf = inr (inl (stays_as asked new stays.kept stays.unbegun))
+  lines_end asked new OutOfMemory (inr (inr stays)) not_done short source shelf = inr (inl (stays_as asked new (one_among h new start.state stays.kept) stays.unbegun))
   lines_end asked new DiskFault (inl ends) not_done short source shelf =
       inl (record { k = ends.k; within = ends.within; changes = ends.changes; kept = ends.kept; text = ends.text; most = ends.most; asks = tt })
-  lines_end asked new DiskFault (inr stays) not_done short source shelf = inr (record { kept = stays.kept; text = stays.text; most = stays.most; asks = tt })
+  lines_end asked new DiskFault (inr (inl stays)) not_done short source shelf = inr (stays_as asked new stays.kept stays.unbegun)
+  lines_end asked new DiskFault (inr (inr stays)) not_done short source shelf = inr (stays_as asked new (one_among h new start.state stays.kept) stays.unbegun)
   lines_end asked new SayFault ends not_done short source shelf =
       inl (record { k = ends.k; within = ends.within; kept = ends.kept; part = ends.part; rest = ends.rest; both = ends.both; some = ends.some; text = ends.text; most = ends.most; asks = tt })
   lines_end asked new ShelfFault ends not_done short source shelf = absurd (shelf refl)
@@ -124,10 +129,9 @@ module _ {H : Type 0} (h : Ghosts H) (start count now : ℕ) where
   ready_leaves old new BadStore ends = absurd ends.ends
 
   -- the store is made, and what follows `ready` has ended
-  module _ (old mid new : H) (status : RunStatus) (made : Made h drill_bytes now old mid Done) (absent : IsAbsent (h.reads old Left) (h.reads old Right)) (place : ℕ) (placed : HasPlace (h.reads mid Left) (h.reads mid Right) place)
-      (ends : ScriptEnds h (drill_start start count now place (h.said mid) (h.written mid + repair_cost (h.reads mid Left) (h.reads mid Right))) (drill_summary start count now) new status) where
+  module _ (old mid new : H) (status : RunStatus) (made : Made h drill_bytes now old mid Done) (absent : IsAbsent (h.reads old Left) (h.reads old Right)) (ends : ScriptEnds h (made_start h start count now mid) (drill_summary start count now) new status) where
     there : ReadyEnds h start count now old new status
-    there = record { made = mid; kept = made.ends.0; said = made.ends.1; cost = made.cost refl; place = place; placed = placed; ends = ends }
+    there = record { made = mid; kept = made.ends.0; said = made.ends.1; cost = made.cost refl; placed = made.placed refl; ends = ends }
 
     pub found_made : MakingFound h old new status
     found_made =
@@ -171,6 +175,8 @@ module _ {H : Type 0} (h : Ghosts H) (start count now : ℕ) where
         left = λ states all. met_weaker h.moment h.might old old _ (IsLeftAmong (h.said old) states) run (λ l r u met. (all l r met.0 met.1, met.2));
         memory = λ is. record { moments = met_weaker h.moment h.might old old _ (IsOpening h old) run (λ l r u met. inl met); text = refl; most = omega arith };
         spelled = λ is. absurd cc;
+        placed = λ is. absurd cc;
+        closed = λ is. absurd cc;
         cost = λ is. absurd cc;
         most = λ absent. omega arith;
         below = met_weaker h.moment h.might old old _ (IsBelowMark h old) run (λ l r u met. at_each h old old l r met.0 met.1);

@@ -11,13 +11,14 @@ use Rattle.session_run.specs.declared.faults.RunFault.TheVariants as run
 use Rattle.session_run.specs.declared.script.ScriptFault.{ScriptFault}
 use Rattle.session_run.specs.declared.script.ScriptFault.TheVariants as script
 use Rattle.session_run.specs.declared.status.RunStatus.{RunStatus}
-use Rattle.session_run.specs.declared.status.RunStatus.TheVariants.{Done}
+use Rattle.session_run.specs.declared.status.RunStatus.TheVariants.{Done, Usage, ScriptTooLong, NoStore, AlreadyStore, BadStore}
+use Rattle.session_run.specs.declared.status.RunStatus.TheVariants.{SourceFault, ShelfFault, DiskFault, SayFault, OutOfMemory}
 use Rattle.session_run.specs.Statuses.{of_run, of_script}
 use Rattle.session_run.specs.Places.{all_bytes}
 use Rattle.session_run.specs.Steps.{RunState, begun, run_after, answer, run_at, after, out}
 use Rattle.session_run.specs.Ends.{LineEnds, EndsBefore, LinesEnd, RunEnds, StaysAmong}
 use Rattle.session_run.specs.Files.{NamesFile}
-use Rattle.session_run.specs.Finds.{EndedBefore}
+use Rattle.session_run.specs.Moments.{EndsEarly}
 use Rattle.session_run.specs.Starts.{Start}
 use Rattle.session_run.proofs.Running.{after-more, part}
 use Rattle.session_run.proofs.Starting.{begin}
@@ -75,24 +76,31 @@ module _ {H : Type 0} (h : Ghosts H) (at : Setting) (s : ClientState) (lines : L
   }
 
 -- lines that end a run
-pub run_ends : {H : Type 0} (h : Ghosts H) (asked : List (List ℕ) → Type 0) (states : List ClientState) (start : Start) (new : H) (fault : RunFault) → LinesEnd {T = Unit {0}} h asked start new (Err fault) → RunEnds h asked states start new (of_run fault)
-run_ends h asked states start new run.ShelfFault ends = ends
-run_ends h asked states start new run.OutOfMemory ends = inl ends
-run_ends h asked states start new run.DiskFault ends = inl ends
-run_ends h asked states start new run.SayFault ends = ends
+pub run_ends : {H : Type 0} (h : Ghosts H) (asked : List (List ℕ) → Type 0) (states : List ClientState) (start : Start) (old new : H) (fault : RunFault) → LinesEnd {T = Unit {0}} h asked start new (Err fault) → RunEnds h asked states start old new (of_run fault)
+run_ends h asked states start old new run.ShelfFault ends = ends
+run_ends h asked states start old new run.OutOfMemory ends = inl ends
+run_ends h asked states start old new run.DiskFault ends = inl ends
+run_ends h asked states start old new run.SayFault ends = ends
 
--- a run that ended before the pair was judged
-pub unbegun_ends : {H : Type 0} (h : Ghosts H) (asked : List (List ℕ) → Type 0) (states : List ClientState) (start : Start) (new : H) (status : RunStatus) → EndedBefore status → StaysAmong h asked states start new → RunEnds h asked states start new status
-unbegun_ends h asked states start new status (inl is) stays = subst (RunEnds h asked states start new) (sym is) stays
-unbegun_ends h asked states start new status (inr (inl is)) stays = subst (RunEnds h asked states start new) (sym is) stays
-unbegun_ends h asked states start new status (inr (inr (inl is))) stays = subst (RunEnds h asked states start new) (sym is) (inr stays)
-unbegun_ends h asked states start new status (inr (inr (inr is))) stays = subst (RunEnds h asked states start new) (sym is) (inr stays)
+-- a run that ended before both sides were synced
+pub early_ends : {H : Type 0} (h : Ghosts H) (asked : List (List ℕ) → Type 0) (states : List ClientState) (start : Start) (old new : H) (status : RunStatus) → StaysAmong h asked states start old new status → RunEnds h asked states start old new status
+early_ends h asked states start old new ScriptTooLong stays = stays
+early_ends h asked states start old new SourceFault stays = stays
+early_ends h asked states start old new DiskFault stays = inr (inr stays)
+early_ends h asked states start old new OutOfMemory stays = inr (inr stays)
+early_ends h asked states start old new Done stays = absurd stays.early
+early_ends h asked states start old new Usage stays = absurd stays.early
+early_ends h asked states start old new NoStore stays = absurd stays.early
+early_ends h asked states start old new AlreadyStore stays = absurd stays.early
+early_ends h asked states start old new BadStore stays = absurd stays.early
+early_ends h asked states start old new ShelfFault stays = absurd stays.early
+early_ends h asked states start old new SayFault stays = absurd stays.early
 
 -- so does one without a script
-pub script_before : (fault : ScriptFault) → EndedBefore (of_script fault)
-script_before script.TooLong = inl refl
-script_before script.SourceFault = inr (inl refl)
-script_before script.OutOfMemory = inr (inr (inr refl))
+pub script_early : {H : Type 0} (h : Ghosts H) (old : H) (fault : ScriptFault) → EndsEarly h old old (of_script fault)
+script_early h old script.TooLong = refl
+script_early h old script.SourceFault = refl
+script_early h old script.OutOfMemory = refl
 
 -- a fault is not the end of a run that did all
 pub never_done : (fault : RunFault) → of_run fault ≡ Done → ⊥

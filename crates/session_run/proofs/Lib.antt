@@ -20,6 +20,7 @@ mod Opened
 mod OptOuts
 mod Outboxes
 mod Outcomes
+mod Phases
 mod Placing
 mod Preferences
 mod Running
@@ -31,3 +32,4 @@ mod Undone
 mod Values
 mod WordLists
 mod Writing
+mod WrittenManifests

@@ -25,6 +25,8 @@ making_causes s f h words source shelf old new answered makes is_of causes found
   disk_rose = causes.disk;
   say_rose = causes.say;
   source_quiet = λ other. refl;
+  shelf_quiet = λ other. refl;
+  disk_quiet = causes.disk_quiet;
   say_quiet = causes.say_quiet;
   unreached = λ is. absurd (making_reaches answered is_of is);
   unasked = λ is. refl;

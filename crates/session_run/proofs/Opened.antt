@@ -1,13 +1,12 @@
 -- A run over a store: it ended before the pair was judged, or the store was opened and its lines were done.
-use Rattle.std.proofs.Common.{◌≡◌, ◌⊎◌, inl, inr, ℕ, ◌≤◌, ◌+◌, List, [], ◌∷◌, refl, sym, ◌∙◌, ap, subst, arith, Result, Ok, Err}
-use Rattle.std.specs.Prelude.{IsErrOf}
+use Rattle.std.proofs.Common.{◌≡◌, ◌⊎◌, inl, inr, ℕ, ◌≤◌, ◌+◌, List, [], refl, ◌∙◌, subst, arith, Result, Ok, Err}
 use Rattle.host_model.specs.declared.side.Side.TheVariants.{Left, Right}
 use Rattle.host_model.specs.declared.host.Host.{Ghosts}
 use Rattle.host_model.specs.declared.shelf.Shelf as shelves
 use Rattle.host_model.specs.Hosts.{MeetsAll, NowOf}
-use Rattle.host_model.proofs.Meeting.{started, then_met, met_weaker}
+use Rattle.host_model.proofs.Meeting.{then_met, met_weaker}
 use Rattle.gate_journal.specs.Records.{place_of}
-use Rattle.pair_store.specs.Repair.{repair_cost, IsUnwritten}
+use Rattle.pair_store.specs.Repair.{repair_cost}
 use Rattle.enrol_states.specs.Statuses.{last_moment}
 use Rattle.client_state.specs.declared.client_state.ClientState.{ClientState}
 use Rattle.client_state.specs.Forms.{needs_migration}
@@ -16,41 +15,36 @@ use Rattle.client_store.specs.declared.faults.ClientFault.{ClientFault}
 use Rattle.client_store.specs.declared.faults.ClientFault.TheVariants.{NoStore, BadStore, DiskFault, OutOfMemory}
 use Rattle.client_core.specs.Clients.{state_of, end_of, HasGateOn}
 use Rattle.client_store.specs.Finds.{OpenFinds}
-use Rattle.client_store.specs.Moments.{IsLeftAs}
+use Rattle.client_store.specs.Moments.{IsLeftAs, IsLeftAmong}
 use Rattle.client_store.specs.Migrations.{OpensWith, place_opened, opening_bytes}
-use Rattle.client_store.specs.Openings.{IsReadOrMigrating, OpensInPhases, OpensInTwoPhases, OpenLeaves}
+use Rattle.client_store.specs.Openings.{IsReadOrMigrating, OpensInPhases, OpenLeaves}
 use Rattle.client_core.specs.Openings.{IsOpened}
 use Rattle.client_store.specs.OpenStore.{AllKept, AllKeptAmong}
 use Rattle.client_steps.specs.Settings.{setting}
 use Rattle.client_store.specs.Store.{StandsFor, KeptFor, IsStore}
 use Rattle.client_store.proofs.Holding.{stands_of_kept}
-use Rattle.client_store.proofs.Openings.{phase_kept, in_two_phases}
+use Rattle.client_store.proofs.Openings.{phase_kept}
 use Rattle.client_store.proofs.Refusing.{stands_not_absent}
 use Rattle.session_run.specs.declared.faults.RunFault.{RunFault}
 use Rattle.session_run.specs.declared.faults.RunFault.TheVariants as run
 use Rattle.session_run.specs.declared.status.RunStatus.{RunStatus}
 use Rattle.session_run.specs.declared.status.RunStatus.TheVariants as status
 use Rattle.session_run.specs.Chains.{IsLinked}
-use Rattle.session_run.specs.Ends.{LinesEnd, RunEnds}
-use Rattle.session_run.specs.Finds.{EndedBefore, RunFinds, RunLeaves}
-use Rattle.session_run.specs.Moments.{AfterPrefix, IsAmong, InPhases}
+use Rattle.session_run.specs.Ends.{LinesEnd, EndsUnbegun, StaysAs, RunEnds}
+use Rattle.session_run.specs.Finds.{RunFinds, RunLeaves}
+use Rattle.session_run.specs.Moments.{AfterPrefix, EndsEarly, InPhases}
 use Rattle.session_run.specs.Runs.{LinesRan, StandsAfter, Ran}
 use Rattle.session_run.specs.Starts.{Start, start_on, opened_on}
 use Rattle.session_run.specs.Statuses.{of_store, of_run}
-use Rattle.session_run.proofs.Ending.{run_ends, unbegun_ends, never_done}
+use Rattle.session_run.proofs.Ending.{run_ends, early_ends, never_done}
 use Rattle.session_run.proofs.Linking.{linked_now, linked_from}
+use Rattle.session_run.proofs.Phases.{SyncsAndOpens, Begins, unopened_begins, opened_begins}
 use Rattle.session_run.proofs.Running.{some_at_start, elsewhere}
 use Rattle.session_run.proofs.Starting.{same_start}
 use Rattle.session_run.proofs.Values.{serves_values}
+use Rattle.session_run.proofs.Writing.{met_now}
 
 -- ---- the store was not opened
-
--- a pair that stands for a state is opened, unless the disk fails or memory is wanting
-pub unopened_before : (l r : List ℕ) (fault : ClientFault) → OpenFinds l r fault → (s : ClientState) → StandsFor l r s → EndedBefore (of_store fault)
-unopened_before l r NoStore finds s stands = absurd (stands_not_absent l r s stands finds)
-unopened_before l r BadStore finds s stands = absurd (finds.no_state s stands)
-unopened_before l r DiskFault finds s stands = inr (inr (inl refl))
-unopened_before l r OutOfMemory finds s stands = inr (inr (inr refl))
 
 pub store_not_done : (fault : ClientFault) → of_store fault ≡ status.Done → ⊥
 store_not_done NoStore is = absurd cc
@@ -75,11 +69,8 @@ opens_somehow l r s stands =
       record { stands = stands; before = before; began = (stands.rows.0, stands.rows.1, refl); place_is = refl; written_is = refl },
     )
 
-fault_is : (fault other : ClientFault) → IsErrOf {T = Client} {E = ClientFault} (Err fault) other → fault ≡ other
-fault_is fault other is = cc
-
-never_failed : (client : Client) (fault : ClientFault) → IsErrOf {T = Client} {E = ClientFault} (Ok client) fault → ⊥
-never_failed client fault is = absurd cc
+no_less : (n m : ℕ) → n ≤ n + m
+no_less n m = omega arith
 
 module _ {H : Type 0} (h : Ghosts H) (old new : H) where
   -- what it leaves
@@ -95,19 +86,13 @@ module _ {H : Type 0} (h : Ghosts H) (old new : H) where
   lines_leave run.SayFault = tt
   lines_leave run.OutOfMemory = tt
 
-  -- an opening that failed was in its first phase where the disk had failed then
-  pub unopened_in : (fault : ClientFault) → OpensInPhases {T = Client} h old new (Err fault) → (EndedBefore (of_store fault) × MeetsAll h old new (NowOf h old)) ⊎ OpensInTwoPhases h old new
-  unopened_in fault phases = elim (in_two_phases h old new (Err fault) phases) [
-    | inl unsynced ↦ inl (inr (inr (inl (ap of_store (fault_is fault DiskFault unsynced.0)))), unsynced.1.moments)
-    | inr two ↦ inr two
-  ]
-
-  -- one that did not fail has had both
-  opened_in : (client : Client) → OpensInPhases h old new (Ok client) → OpensInTwoPhases h old new
-  opened_in client phases = elim (in_two_phases h old new (Ok client) phases) [
-    | inl unsynced ↦ absurd (never_failed client DiskFault unsynced.0)
-    | inr two ↦ two
-  ]
+-- a store that stood for a state is not opened where the disk has failed or memory is wanting
+synced_ends : {H : Type 0} (h : Ghosts H) (asked : List (List ℕ) → Type 0) (states : List ClientState) (start : Start) (old new : H) (l r : List ℕ) → StandsFor l r start.state → (fault : ClientFault) → OpenFinds l r fault → StaysAs h asked start new
+    → RunEnds h asked states start old new (of_store fault)
+synced_ends h asked states start old new l r stands NoStore finds stays = absurd (stands_not_absent l r start.state stands finds)
+synced_ends h asked states start old new l r stands BadStore finds stays = absurd (finds.no_state start.state stands)
+synced_ends h asked states start old new l r stands DiskFault finds stays = inr (inl stays)
+synced_ends h asked states start old new l r stands OutOfMemory finds stays = inr (inl stays)
 
 -- ---- its lines were done
 
@@ -116,9 +101,9 @@ abbrev pub of_lines : Result (Unit {0}) RunFault → RunStatus
 of_lines (Ok done) = status.Done
 of_lines (Err fault) = of_run fault
 
-pub lines_end : {H : Type 0} (h : Ghosts H) (asked : List (List ℕ) → Type 0) (states : List ClientState) (start : Start) (new : H) (result : Result (Unit {0}) RunFault) → LinesEnd h asked start new result → RunEnds h asked states start new (of_lines result)
-lines_end h asked states start new (Ok done) ends = ends
-lines_end h asked states start new (Err fault) ends = run_ends h asked states start new fault ends
+pub lines_end : {H : Type 0} (h : Ghosts H) (asked : List (List ℕ) → Type 0) (states : List ClientState) (start : Start) (old new : H) (result : Result (Unit {0}) RunFault) → LinesEnd h asked start new result → RunEnds h asked states start old new (of_lines result)
+lines_end h asked states start old new (Ok done) ends = ends
+lines_end h asked states start old new (Err fault) ends = run_ends h asked states start old new fault ends
 
 -- what a run found that did lines
 pub lines_find : (l r : List ℕ) (fault : RunFault) → IsStore l r → RunFinds l r (of_run fault)
@@ -127,14 +112,14 @@ lines_find l r run.DiskFault store = tt
 lines_find l r run.SayFault store = store
 lines_find l r run.OutOfMemory store = tt
 
--- both sides were synced, and what followed has the moments of the lines
-record WentOn {H : Type 0} (h : Ghosts H) (old new : H) (start : Start) : Type 0 where
-  synced : H
-  first : MeetsAll h old synced (NowOf h old)
-  unwritten : IsUnwritten h old synced
-  second : MeetsAll h synced new (AfterPrefix start)
+-- the store was opened, and then came the moments of the lines
+record WentOn {H : Type 0} (h : Ghosts H) (old new : H) (start : Start) (answered : RunStatus) : Type 0 where
+  opened : H
+  opening : SyncsAndOpens h old opened answered
+  third : MeetsAll h opened new (AfterPrefix start)
 
-module _ {F H : Type 0} (f : shelves.Ghosts F) (h : Ghosts H) (asked : List (List ℕ) → Type 0) (now : ℕ) (moment : now ≤ last_moment) (shelf : F) (old : H) (lines : List (List ℕ)) (old_left : h.images old Left (h.reads old Left)) (old_right : h.images old Right (h.reads old Right)) where
+module _ {F H : Type 0} (f : shelves.Ghosts F) (h : Ghosts H) (asked : List (List ℕ) → Type 0) (now : ℕ) (moment : now ≤ last_moment) (shelf : F) (old : H) (lines : List (List ℕ)) (old_left : h.images old Left (h.reads old Left)) (old_right : h.images old Right (h.reads old Right))
+    (tells : h.tells) (counts : (host : H) (t : ℕ) (l r u : List ℕ) → h.tells → t ≤ h.moment host → NowOf h host l r u → h.might host t l r u) where
   abbrev from : ClientState → ℕ → ℕ → Start
   from s place bytes = opened_on f h now shelf old lines s place bytes
 
@@ -147,6 +132,11 @@ module _ {F H : Type 0} (f : shelves.Ghosts F) (h : Ghosts H) (asked : List (Lis
   stood : (s : ClientState) → WasKept s → Stood s
   stood s kept = stands_of_kept (h.reads old Left) (h.reads old Right) s kept
 
+  -- behind the syncs each image is kept for the state that was read
+  opened_kept : (s : ClientState) → WasKept s → (opened : H) (answered : RunStatus) → SyncsAndOpens h old opened answered → AllKept h opened s
+  opened_kept s kept opened answered opening l r left right =
+      (phase_kept h old s kept l r (h.said opened) (met_now h opening.synced opened (IsReadOrMigrating h old) opening.second (counts opened) tells l r left right)).0
+
   -- ---- the moments, from a state
 
   module _ (s : ClientState) (place bytes : ℕ) where
@@ -154,48 +144,55 @@ module _ {F H : Type 0} (f : shelves.Ghosts F) (h : Ghosts H) (asked : List (Lis
     begun_met : (l r u : List ℕ) → IsLeftAs (h.said old) s l r u → AfterPrefix (from s place bytes) l r u
     begun_met l r u met = some_at_start (setting f shelf now) s place lines (h.said old) (h.written old + bytes) l r u met.0 met.1
 
-    opening_met : WasKept s → (synced new : H) → MeetsAll h synced new (IsReadOrMigrating h old) → MeetsAll h synced new (AfterPrefix (from s place bytes))
-    opening_met kept synced new run = met_weaker h.moment h.might synced new (IsReadOrMigrating h old) (AfterPrefix (from s place bytes)) run (λ l r u met. begun_met l r u (phase_kept h old s kept l r u met))
-
     now_met : AllKept h old s → (l r u : List ℕ) → NowOf h old l r u → AfterPrefix (from s place bytes) l r u
     now_met all l r u met = begun_met l r u (all l r met.0 met.1, met.2)
 
-    module _ (new : H) where
+    module _ (new : H) (answered : RunStatus) where
       -- the run had ended before both sides were synced, or not
-      abbrev Goes : RunStatus → Type 0
-      Goes answered = (EndedBefore answered × MeetsAll h old new (NowOf h old)) ⊎ WentOn h old new (from s place bytes)
+      abbrev Goes : Type 0
+      Goes = (EndsEarly h old new answered × MeetsAll h old new (NowOf h old)) ⊎ WentOn h old new (from s place bytes) answered
 
-      synced_kept : WasKept s → (went : WentOn h old new (from s place bytes)) → AllKept h went.synced s
-      synced_kept kept went l r left right =
-          subst (λ (c : List ℕ). KeptFor c r s) (sym (went.unwritten.durable Left l left ∙ went.unwritten.same Left))
-          (subst (λ (c : List ℕ). KeptFor (h.reads old Left) c s) (sym (went.unwritten.durable Right r right ∙ went.unwritten.same Right)) kept)
+      synced_met : WasKept s → (went : WentOn h old new (from s place bytes) answered) → MeetsAll h went.opening.synced new (AfterPrefix (from s place bytes))
+      synced_met kept went =
+          then_met h.moment h.might went.opening.synced went.opened new (IsReadOrMigrating h old) (AfterPrefix (from s place bytes)) (AfterPrefix (from s place bytes)) went.opening.second went.third
+          (λ l r u met. begun_met l r u (phase_kept h old s kept l r u met)) (λ l r u met. met)
 
-      crash_in : (answered : RunStatus) → Goes answered → AllKept h old s → MeetsAll h old new (AfterPrefix (from s place bytes))
-      crash_in answered (inl early) all = met_weaker h.moment h.might old new (NowOf h old) (AfterPrefix (from s place bytes)) early.1 (now_met all)
-      crash_in answered (inr went) all =
-          then_met h.moment h.might old went.synced new (NowOf h old) (AfterPrefix (from s place bytes)) (AfterPrefix (from s place bytes)) went.first went.second (now_met all) (λ l r u met. met)
+      crash_in : Goes → WasKept s → AllKept h old s → MeetsAll h old new (AfterPrefix (from s place bytes))
+      crash_in (inl early) kept all = met_weaker h.moment h.might old new (NowOf h old) (AfterPrefix (from s place bytes)) early.1 (now_met all)
+      crash_in (inr went) kept all =
+          then_met h.moment h.might old went.opening.synced new (NowOf h old) (AfterPrefix (from s place bytes)) (AfterPrefix (from s place bytes)) went.opening.first (synced_met kept went) (now_met all) (λ l r u met. met)
 
       module _ (states : List ClientState) (all : AllKeptAmong h old states) where
-        among_met : (mid : H) → MeetsAll h old mid (NowOf h old) → MeetsAll h old mid (IsAmong states (h.said old))
-        among_met mid run = met_weaker h.moment h.might old mid (NowOf h old) (IsAmong states (h.said old)) run (λ l r u met. (all l r met.0 met.1, met.2))
+        among_met : (mid : H) → MeetsAll h old mid (NowOf h old) → MeetsAll h old mid (IsLeftAmong (h.said old) states)
+        among_met mid run = met_weaker h.moment h.might old mid (NowOf h old) (IsLeftAmong (h.said old) states) run (λ l r u met. (all l r met.0 met.1, met.2))
 
-        phases_in : (answered : RunStatus) → Goes answered → WasKept s → InPhases h states (from s place bytes) old new answered
-        phases_in answered (inl early) kept = inl (early.0, among_met new early.1)
-        phases_in answered (inr went) kept =
-            inr (record { synced = went.synced; opening = among_met went.synced went.first; unwritten = went.unwritten; kept = synced_kept kept went; lines = went.second })
+        phases_in : Goes → WasKept s → InPhases h states (from s place bytes) old new answered
+        phases_in (inl early) kept = inl (early.0, among_met new early.1)
+        phases_in (inr went) kept =
+            let opening = went.opening in
+            inr (record {
+              synced = opening.synced;
+              first = among_met opening.synced opening.first;
+              unwritten = opening.unwritten;
+              opened = went.opened;
+              second = met_weaker h.moment h.might opening.synced went.opened (IsReadOrMigrating h old) (IsLeftAs (h.said old) s) opening.second (phase_kept h old s kept);
+              bytes = opening.bytes;
+              kept = opened_kept s kept went.opened answered opening;
+              third = went.third;
+            })
 
-        links_in : (answered : RunStatus) → Goes answered → WasKept s → MeetsAll h old new (IsLinked h old (from s place bytes))
-        links_in answered (inl early) kept =
+        links_in : Goes → WasKept s → MeetsAll h old new (IsLinked h old (from s place bytes))
+        links_in (inl early) kept =
             met_weaker h.moment h.might old new (NowOf h old) (IsLinked h old (from s place bytes)) early.1 (linked_now h old (from s place bytes) refl states all)
-        links_in answered (inr went) kept =
-            then_met h.moment h.might old went.synced new (NowOf h old) (AfterPrefix (from s place bytes)) (IsLinked h old (from s place bytes)) went.first went.second
+        links_in (inr went) kept =
+            then_met h.moment h.might old went.opening.synced new (NowOf h old) (AfterPrefix (from s place bytes)) (IsLinked h old (from s place bytes)) went.opening.first (synced_met kept went)
             (linked_now h old (from s place bytes) refl states all) (linked_from h old (from s place bytes) old_left old_right kept)
 
   -- ---- the run
 
   -- how it ended
   abbrev Ends : H → RunStatus → Type 0
-  Ends new answered = (states : List ClientState) (s : ClientState) → AllKeptAmong h old states → WasKept s → (place bytes : ℕ) × OpensWith (h.reads old Left) (h.reads old Right) s place bytes × RunEnds h asked states (from s place bytes) new answered
+  Ends new answered = (states : List ClientState) (s : ClientState) → AllKeptAmong h old states → WasKept s → (place bytes : ℕ) × OpensWith (h.reads old Left) (h.reads old Right) s place bytes × RunEnds h asked states (from s place bytes) old new answered
 
   -- what it did without a crash
   abbrev Did : H → RunStatus → Type 0
@@ -204,49 +201,69 @@ module _ {F H : Type 0} (f : shelves.Ghosts F) (h : Ghosts H) (asked : List (Lis
   module _ (new : H) (answered : RunStatus) where
     ran : ((s : ClientState) (place bytes : ℕ) → WasKept s → Goes s place bytes new answered) → Ends new answered → Did new answered → Ran h asked from old new answered
     ran goes ends done = record {
-      crash = λ s all. crash_in s 0 0 new answered (goes s 0 0 (all (h.reads old Left) (h.reads old Right) old_left old_right)) all;
-      phases = λ states s all kept. phases_in s 0 0 new states all answered (goes s 0 0 kept) kept;
+      crash = λ s all. let kept = all (h.reads old Left) (h.reads old Right) old_left old_right in crash_in s 0 0 new answered (goes s 0 0 kept) kept all;
+      phases = λ states s all kept. phases_in s 0 0 new answered states all (goes s 0 0 kept) kept;
       ends = ends;
-      links = λ states s all kept. links_in s 0 0 new states all answered (goes s 0 0 kept) kept;
+      links = λ states s all kept. links_in s 0 0 new answered states all (goes s 0 0 kept) kept;
       done = done;
       values = λ s stands. serves_values (from s 0 0) moment stands.sound;
     }
 
-  -- no line was done
-  module _ (new : H) (answered : RunStatus) (early : (EndedBefore answered × MeetsAll h old new (NowOf h old)) ⊎ OpensInTwoPhases h old new) (before : (s : ClientState) → Stood s → EndedBefore answered) where
-    unbegun_goes : (s : ClientState) (place bytes : ℕ) → WasKept s → Goes s place bytes new answered
-    unbegun_goes s place bytes kept = elim early [
-      | inl unsynced ↦ inl unsynced
-      | inr two ↦ inr (record {
-        synced = two.synced;
-        first = two.first;
-        unwritten = two.unwritten;
-        second = opening_met s place bytes kept two.synced new two.second;
+  -- the store was not reached
+  pub ran_unreached : asked [] → (answered : RunStatus) → EndsEarly h old old answered → MeetsAll h old old (NowOf h old) → Ran h asked from old old answered
+  ran_unreached asks answered early still =
+      ran old answered (λ s place bytes kept. inl (early, still))
+      (λ states s all kept.
+      let opened = opens_somehow (h.reads old Left) (h.reads old Right) s (stood s kept) in (
+        opened.0,
+        opened.1,
+        opened.2,
+        early_ends h asked states (from s opened.0 opened.1) old old answered (record { early = early; kept = all; unbegun = record { text = refl; most = no_less (h.written old) opened.1; asks = asks } }),
+      ))
+      (λ is. absurd (subst (EndsEarly h old old) is early))
+
+  -- the store was not opened
+  module _ (new : H) (fault : ClientFault) (phases : OpensInPhases {T = Client} h old new (Err fault)) (finds : OpenFinds (h.reads old Left) (h.reads old Right) fault) (text : h.said new ≡ h.said old) (still : MeetsAll h new new (NowOf h new)) where
+    begins : Begins h old new (of_store fault)
+    begins = unopened_begins h old new fault phases
+
+    unopened_goes : (s : ClientState) (place bytes : ℕ) → WasKept s → Goes s place bytes new (of_store fault)
+    unopened_goes s place bytes kept = elim begins [
+      | inl early ↦ inl early
+      | inr opening ↦ inr (record {
+        opened = new;
+        opening = opening;
+        third = met_weaker h.moment h.might new new (NowOf h new) (AfterPrefix (from s place bytes)) still
+            (λ l r u met. begun_met s place bytes l r u (opened_kept s kept new (of_store fault) opening l r met.0 met.1, met.2 ∙ text));
       })
     ]
 
-    pub ran_unbegun : asked [] → ((states : List ClientState) → AllKeptAmong h old states → AllKeptAmong h new states) → h.said new ≡ h.said old
-        → ((s : ClientState) (place bytes : ℕ) → OpensWith (h.reads old Left) (h.reads old Right) s place bytes → h.written new ≤ h.written old + bytes)
-        → (answered ≡ status.Done → ⊥) → Ran h asked from old new answered
-    ran_unbegun asks stays text most not_done =
-        ran new answered unbegun_goes
-        (λ states s all kept.
-        let opened = opens_somehow (h.reads old Left) (h.reads old Right) s (stood s kept) in
-        (opened.0, opened.1, opened.2, unbegun_ends h asked states (from s opened.0 opened.1) new answered (before s (stood s kept)) (record { kept = stays states all; text = text; most = most s opened.0 opened.1 opened.2; asks = asks })))
-        (λ is. absurd (not_done is))
+    module _ (states : List ClientState) (s : ClientState) (place bytes : ℕ) (all : AllKeptAmong h old states) (kept : WasKept s) (unbegun : EndsUnbegun h asked (from s place bytes) new) where
+      unopened_ends : RunEnds h asked states (from s place bytes) old new (of_store fault)
+      unopened_ends = elim begins [
+        | inl early ↦ early_ends h asked states (from s place bytes) old new (of_store fault) (record {
+          early = early.0;
+          kept = λ l r left right. let there = met_now h old new (NowOf h old) early.1 (counts new) tells l r left right in all l r there.0 there.1;
+          unbegun = unbegun;
+        })
+        | inr opening ↦ synced_ends h asked states (from s place bytes) old new (h.reads old Left) (h.reads old Right) (stood s kept) fault finds (record { kept = opened_kept s kept new (of_store fault) opening; unbegun = unbegun })
+      ]
 
-  -- the store was not reached
-  pub ran_unreached : asked [] → (answered : RunStatus) → ((l r u : List ℕ) → h.might old (h.moment old) l r u → NowOf h old l r u) → EndedBefore answered → (answered ≡ status.Done → ⊥) → Ran h asked from old old answered
-  ran_unreached asks answered only early not_done =
-      let none = started h.moment h.might old (NowOf h old) only in
-      ran_unbegun old answered (inl (early, none)) (λ s stands. early) asks (λ states all. all) refl (λ s place bytes opens. omega arith) not_done
+    pub ran_unopened : asked [] → ((s : ClientState) (place bytes : ℕ) → OpensWith (h.reads old Left) (h.reads old Right) s place bytes → h.written new ≤ h.written old + bytes) → Ran h asked from old new (of_store fault)
+    ran_unopened asks most =
+        ran new (of_store fault) unopened_goes
+        (λ states s all kept.
+        let opened = opens_somehow (h.reads old Left) (h.reads old Right) s (stood s kept) in (
+          opened.0,
+          opened.1,
+          opened.2,
+          unopened_ends states s opened.0 opened.1 all kept (record { text = text; most = most s opened.0 opened.1 opened.2; asks = asks }),
+        ))
+        (λ is. absurd (store_not_done fault is))
 
   -- the store was opened, and lines were done from its client's state
   module _ (mid new : H) (client : Client) (phases : OpensInPhases {T = Client} h old mid (Ok client)) (opened : IsOpened h client old mid) (text : h.said mid ≡ h.said old)
       (those : List (List ℕ)) (lines_are : those ≡ lines) (result : Result (Unit {0}) RunFault) (lines_ran : LinesRan h asked (HasGateOn h client mid) (start_on f h now shelf mid those (state_of client) (end_of client)) mid new result) where
-    two : OpensInTwoPhases h old mid
-    two = opened_in h old mid client phases
-
     abbrev place : ℕ
     place = end_of client
 
@@ -266,12 +283,7 @@ module _ {F H : Type 0} (f : shelves.Ghosts F) (h : Ghosts H) (asked : List (Lis
     opened_goes s other count kept =
         let lines_met = met_weaker h.moment h.might mid new (AfterPrefix (from s place bytes)) (AfterPrefix (from s other count)) ((ran_from s (stood s kept)).moments (opened.gate s kept))
         (elsewhere (setting f shelf now) s lines (h.said old) place (h.written old + bytes) other (h.written old + count)) in
-        inr (record {
-          synced = two.synced;
-          first = two.first;
-          unwritten = two.unwritten;
-          second = then_met h.moment h.might two.synced mid new (AfterPrefix (from s other count)) (AfterPrefix (from s other count)) (AfterPrefix (from s other count)) (opening_met s other count kept two.synced mid two.second) lines_met (λ l r u met. met) (λ l r u met. met);
-        })
+        inr (record { opened = mid; opening = opened_begins h old mid (of_lines result) client phases; third = lines_met })
 
     stands_after : (done : Result (Unit {0}) RunFault) → of_lines done ≡ status.Done → h.images new Left (h.reads new Left) → h.images new Right (h.reads new Right) → (s : ClientState) → LinesRan h asked (HasGateOn h client mid) (from s place bytes) mid new done
         → StandsAfter h (from s place bytes) old new
@@ -293,5 +305,5 @@ module _ {F H : Type 0} (f : shelves.Ghosts F) (h : Ghosts H) (asked : List (Lis
     pub ran_opened : h.images new Left (h.reads new Left) → h.images new Right (h.reads new Right) → Ran h asked from old new (of_lines result)
     ran_opened new_left new_right =
         ran new (of_lines result) opened_goes
-        (λ states s all kept. (place, bytes, opens_for s (stood s kept), lines_end h asked states (from s place bytes) new result ((ran_from s (stood s kept)).ends (opened.gate s kept))))
+        (λ states s all kept. (place, bytes, opens_for s (stood s kept), lines_end h asked states (from s place bytes) old new result ((ran_from s (stood s kept)).ends (opened.gate s kept))))
         (λ is s stands. (place, bytes, opens_for s stands, stands_after result is new_left new_right s (ran_from s stands)))

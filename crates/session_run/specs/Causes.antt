@@ -1,4 +1,5 @@
--- Which words a status belongs to, and the cause of each. This holds of every source, shelf and host, also of one that tells nothing; only what has `tells` as its premise asks for more.
+-- Which words a status belongs to, and the cause of each. This holds of every source, shelf and host, also of one that tells nothing; only
+-- what has `tells` as its premise asks for more.
 use Rattle.std.specs.Prelude.{◌≡◌, ◌⊎◌, ◌<◌, ◌≤◌, ◌^◌, ℕ, List, [], length}
 use Rattle.host_model.specs.Causes.{Rose}
 use Rattle.host_model.specs.Hosts.{MeetsAll}
@@ -9,7 +10,8 @@ use Rattle.host_model.specs.declared.source.Source as sources
 use Rattle.client_store.specs.Store.{IsStore, IsAbsent}
 use Rattle.client_words.specs.Commands.{lines_of}
 use Rattle.session_run.specs.declared.status.RunStatus.{RunStatus}
-use Rattle.session_run.specs.declared.status.RunStatus.TheVariants.{Done, Usage, ScriptTooLong, NoStore, AlreadyStore, BadStore, SourceFault, ShelfFault, DiskFault, SayFault, OutOfMemory}
+use Rattle.session_run.specs.declared.status.RunStatus.TheVariants.{Done, Usage, ScriptTooLong, NoStore, AlreadyStore, BadStore}
+use Rattle.session_run.specs.declared.status.RunStatus.TheVariants.{SourceFault, ShelfFault, DiskFault, SayFault, OutOfMemory}
 use Rattle.session_run.specs.Files.{LinesAsked}
 use Rattle.session_run.specs.Finds.{RunFound, MakingFound}
 use Rattle.session_run.specs.Later.{MayGoOn}
@@ -42,7 +44,8 @@ OpensNone BadStore = Unit {0}
 OpensNone status = ⊥
 
 -- a call with these words
-pub record HasCauses {S F H : Type 0} (s : sources.Ghosts S) (f : shelves.Ghosts F) (h : Ghosts H) (words : List (List ℕ)) (source new_source : S) (shelf new_shelf : F) (host new_host : H) (status : RunStatus) : Type 0 where
+pub record HasCauses {S F H : Type 0} (s : sources.Ghosts S) (f : shelves.Ghosts F) (h : Ghosts H) (words : List (List ℕ))
+    (source new_source : S) (shelf new_shelf : F) (host new_host : H) (status : RunStatus) : Type 0 where
   -- NoStore, ScriptTooLong, SourceFault and ShelfFault are answers of `run` alone, AlreadyStore of `init` and `drill` alone
   pub belongs : BelongsTo words status
   -- each fault comes only where its count rose
@@ -50,8 +53,11 @@ pub record HasCauses {S F H : Type 0} (s : sources.Ghosts S) (f : shelves.Ghosts
   pub shelf_rose : status ≡ ShelfFault → Rose (f.faults shelf) (f.faults new_shelf)
   pub disk_rose : status ≡ DiskFault → Rose (h.disk_faults host) (h.disk_faults new_host)
   pub say_rose : status ≡ SayFault → Rose (h.say_faults host) (h.say_faults new_host)
-  -- and where it is not the call's end, the count of the source, and that of the output, is as before: neither is tried again after a fault
+  -- and where it is not the call's end, the count of the source, of the shelf, of the disk and of the output is as before: none is tried
+  -- again after a fault
   pub source_quiet : ¬ (status ≡ SourceFault) → s.faults new_source ≡ s.faults source
+  pub shelf_quiet : ¬ (status ≡ ShelfFault) → f.faults new_shelf ≡ f.faults shelf
+  pub disk_quiet : ¬ (status ≡ DiskFault) → h.disk_faults new_host ≡ h.disk_faults host
   pub say_quiet : ¬ (status ≡ SayFault) → h.say_faults new_host ≡ h.say_faults host
   -- for Usage, ScriptTooLong and SourceFault no call of the host was made, where no store was opened none of the shelf, and for Usage none of the source
   pub unreached : IsUnreached status → new_host ≡ host
@@ -64,7 +70,8 @@ pub record HasCauses {S F H : Type 0} (s : sources.Ghosts S) (f : shelves.Ghosts
   pub files : f.tells → (name : List ℕ) → f.file new_shelf name ≡ f.file shelf name
   -- ScriptTooLong comes where the source had more than 2^20 bytes, and there nothing else comes but a fault of the source or want of memory
   pub too_long : status ≡ ScriptTooLong → s.tells → 2 ^ 20 < length (s.left source)
-  pub too_long_where : IsRun words → s.tells → 2 ^ 20 < length (s.left source) → (status ≡ ScriptTooLong) ⊎ (status ≡ SourceFault) ⊎ (status ≡ OutOfMemory)
+  pub too_long_where : IsRun words → s.tells → 2 ^ 20 < length (s.left source)
+      → (status ≡ ScriptTooLong) ⊎ (status ≡ SourceFault) ⊎ (status ≡ OutOfMemory)
   -- of a source at most one byte more is taken than a script may have, and a run that is done has read it to its end
   pub taken : s.tells → TakesFew (s.left source) (s.left new_source)
   pub read : IsRun words → status ≡ Done → s.tells → s.left new_source ≡ []
@@ -78,6 +85,8 @@ pub record HasCauses {S F H : Type 0} (s : sources.Ghosts S) (f : shelves.Ghosts
   -- where no count rises all is done, unless memory is wanting
   pub run_done : IsRun words → s.tells → h.tells → length (s.left source) ≤ 2 ^ 20 → IsStore (h.reads host Left) (h.reads host Right)
       → ¬ Rose (s.faults source) (s.faults new_source) → ¬ Rose (f.faults shelf) (f.faults new_shelf)
-      → ¬ Rose (h.disk_faults host) (h.disk_faults new_host) → ¬ Rose (h.say_faults host) (h.say_faults new_host) → (status ≡ Done) ⊎ (status ≡ OutOfMemory)
+      → ¬ Rose (h.disk_faults host) (h.disk_faults new_host) → ¬ Rose (h.say_faults host) (h.say_faults new_host)
+      → (status ≡ Done) ⊎ (status ≡ OutOfMemory)
   pub making_done : IsInit words ⊎ IsDrill words → h.tells → IsAbsent (h.reads host Left) (h.reads host Right)
-      → ¬ Rose (h.disk_faults host) (h.disk_faults new_host) → ¬ Rose (h.say_faults host) (h.say_faults new_host) → (status ≡ Done) ⊎ (status ≡ OutOfMemory)
+      → ¬ Rose (h.disk_faults host) (h.disk_faults new_host) → ¬ Rose (h.say_faults host) (h.say_faults new_host)
+      → (status ≡ Done) ⊎ (status ≡ OutOfMemory)

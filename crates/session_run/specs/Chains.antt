@@ -37,7 +37,9 @@ IsChain l r (link ∷ links) = Leads l r link × IsChain link.l link.r links
 
 -- what may be met in a run that begins so is a link of a chain, from each pair that is kept for the state of its start
 abbrev pub MomentsAreLinks : Type 0
-MomentsAreLinks = (start : Start) (old_l old_r l r u : List ℕ) → KeptFor old_l old_r start.state → (met : AfterPrefix start l r u) → Leads old_l old_r (record { at = start.at; lines = start.lines; k = met.k; l = l; r = r })
+MomentsAreLinks =
+    (start : Start) (old_l old_r l r u : List ℕ) → KeptFor old_l old_r start.state → (met : AfterPrefix start l r u)
+    → Leads old_l old_r (record { at = start.at; lines = start.lines; k = met.k; l = l; r = r })
 
 -- it may be met in a run of these lines, from the state for which an image of the start was kept
 pub record IsLinked {H : Type 0} (h : Ghosts H) (old : H) (start : Start) (l r u : List ℕ) : Type 0 where
@@ -60,11 +62,13 @@ EndsKept l r (link ∷ links) s = EndsKept link.l link.r links s
 abbrev pub NoneBringsBack : ClientState → List Link → List ℕ → Type 0
 NoneBringsBack s [] slug = Unit {0}
 NoneBringsBack s (link ∷ links) slug =
-    ((j : ℕ) (line : List ℕ) → j < link.k → slice_get link.lines j ≡ Some line → LineBringsBack link.at (run_at link.at s link.lines j) slug line → ⊥)
+    ((j : ℕ) (line : List ℕ) → j < link.k → slice_get link.lines j ≡ Some line
+    → LineBringsBack link.at (run_at link.at s link.lines j) slug line → ⊥)
     × NoneBringsBack (after link.at s link.lines link.k) links slug
 
 -- the slug is out at the start of some run, or by a line of it that counted, and none of those after that brings it back, in this run or a later one
 abbrev pub IsHeldOutOver : ClientState → List Link → List ℕ → Type 0
 IsHeldOutOver s [] slug = IsTrue (is_in s.enrolment.opted_out slug)
 IsHeldOutOver s (link ∷ links) slug =
-    (IsHeldOut link.at s link.lines link.k slug × NoneBringsBack (after link.at s link.lines link.k) links slug) ⊎ IsHeldOutOver (after link.at s link.lines link.k) links slug
+    (IsHeldOut link.at s link.lines link.k slug × NoneBringsBack (after link.at s link.lines link.k) links slug)
+    ⊎ IsHeldOutOver (after link.at s link.lines link.k) links slug

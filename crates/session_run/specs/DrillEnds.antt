@@ -1,18 +1,17 @@
 -- What is promised of a drill.
-use Rattle.std.specs.Prelude.{◌≡◌, ◌⊎◌, ◌+◌, ℕ, List, [], ◌∷◌, ◌++◌, take}
+use Rattle.std.specs.Prelude.{◌≡◌, ◌⊎◌, ◌+◌, ℕ, List, ◌++◌, take}
 use Rattle.host_model.specs.declared.side.Side.TheVariants.{Left, Right}
 use Rattle.host_model.specs.declared.host.Host.{Ghosts}
 use Rattle.host_model.specs.Hosts.{MeetsAll}
-use Rattle.pair_store.specs.Repair.{repair_cost}
 use Rattle.client_state.specs.declared.client_state.ClientState.{ClientState}
 use Rattle.client_store.specs.Moments.{IsLeftAmong}
 use Rattle.row_store.specs.Rows.{HasPlace}
 use Rattle.client_store.specs.OpenStore.{AllKept, AllKeptAmong}
-use Rattle.client_store.specs.Places.{making_bytes}
+use Rattle.client_store.specs.Places.{making_bytes, place_made}
 use Rattle.session_run.specs.declared.status.RunStatus.{RunStatus}
 use Rattle.session_run.specs.declared.status.RunStatus.TheVariants.{Done, DiskFault, SayFault, OutOfMemory}
 use Rattle.session_run.specs.Drills.{drill_bytes, drill_fresh, drill_ready, drill_start, drill_summary, DuringDrill}
-use Rattle.session_run.specs.Ends.{EndsWhole, EndsBefore, EndsWithin, EndsInAnswer, StaysAmong}
+use Rattle.session_run.specs.Ends.{EndsWhole, EndsBefore, EndsWithin, EndsInAnswer, StaysAs}
 use Rattle.session_run.specs.Making.{Made}
 use Rattle.session_run.specs.Runs.{ServesValues}
 use Rattle.session_run.specs.Starts.{Start, line_count, last_state, answers, written_at}
@@ -45,10 +44,14 @@ AsksForAny lines = Unit {0}
 -- what follows `ready`: the lines from the new store's state, and the summary
 abbrev pub ScriptEnds : {H : Type 0} → Ghosts H → Start → List ℕ → H → RunStatus → Type 0
 ScriptEnds h start summary host Done = EndsSummed h start summary host
-ScriptEnds h start summary host OutOfMemory = EndsBefore h AsksForAny start host ⊎ StaysAmong h AsksForAny (start.state ∷ []) start host ⊎ EndsWhole h AsksForAny start host
-ScriptEnds h start summary host DiskFault = EndsWithin h AsksForAny start host ⊎ StaysAmong h AsksForAny (start.state ∷ []) start host
+ScriptEnds h start summary host OutOfMemory = EndsBefore h AsksForAny start host ⊎ StaysAs h AsksForAny start host ⊎ EndsWhole h AsksForAny start host
+ScriptEnds h start summary host DiskFault = EndsWithin h AsksForAny start host ⊎ StaysAs h AsksForAny start host
 ScriptEnds h start summary host SayFault = EndsInAnswer h AsksForAny start host ⊎ EndsInSummary h start summary host
 ScriptEnds h start summary host status = ⊥
+
+-- what its lines begin with where its store was made: the opening writes nothing there
+abbrev pub made_start : {H : Type 0} → Ghosts H → ℕ → ℕ → ℕ → H → Start
+made_start h start count now made = drill_start start count now (place_made (drill_fresh now)) (h.said made) (h.written made)
 
 -- and what follows the `ready` of a drill: the store was made on the host `made`, which its lines open
 pub record ReadyEnds {H : Type 0} (h : Ghosts H) (start count now : ℕ) (old new : H) (status : RunStatus) : Type 0 where
@@ -56,13 +59,14 @@ pub record ReadyEnds {H : Type 0} (h : Ghosts H) (start count now : ℕ) (old ne
   pub kept : AllKept h made (drill_fresh now)
   pub said : h.said made ≡ h.said old ++ drill_ready
   pub cost : h.written made ≡ h.written old + making_bytes (drill_fresh now)
-  pub place : ℕ
-  pub placed : HasPlace (h.reads made Left) (h.reads made Right) place
-  pub ends : ScriptEnds h (drill_start start count now place (h.said made) (h.written made + repair_cost (h.reads made Left) (h.reads made Right))) (drill_summary start count now) new status
+  pub placed : HasPlace (h.reads made Left) (h.reads made Right) (place_made (drill_fresh now))
+  pub ends : ScriptEnds h (made_start h start count now made) (drill_summary start count now) new status
 
--- a whole drill: its store was not made, or not said to be ready, and this is as in the making of a store that is not done. Or what follows `ready` has ended
+-- a whole drill: its store was not made, or not said to be ready, and this is as in the making of a store that is not done. Or what follows
+-- `ready` has ended
 abbrev pub DrillEnds : {H : Type 0} → Ghosts H → ℕ → ℕ → ℕ → H → H → RunStatus → Type 0
-DrillEnds h start count now old new status = ((¬ (status ≡ Done)) × Made h drill_bytes now old new status) ⊎ ReadyEnds h start count now old new status
+DrillEnds h start count now old new status =
+    ((¬ (status ≡ Done)) × Made h drill_bytes now old new status) ⊎ ReadyEnds h start count now old new status
 
 -- a drill, which makes its store, does the lines of its script over its files, and then says the summary of the last state
 pub record Drilled {H : Type 0} (h : Ghosts H) (start count now : ℕ) (old new : H) (status : RunStatus) : Type 0 where

@@ -34,7 +34,8 @@ file_among manifest context recipes name =
 
 -- its files and its moment
 unfoldable pub drill_setting : ℕ → ℕ → ℕ → Setting
-drill_setting start count now = record { files = file_among (drill start count).manifest (drill start count).context (drill start count).recipes; now = now }
+drill_setting start count now =
+    record { files = file_among (drill start count).manifest (drill start count).context (drill start count).recipes; now = now }
 
 -- the lines of its script
 unfoldable pub drill_lines : List (List ℕ)
@@ -42,7 +43,8 @@ drill_lines = lines_of script
 
 -- what its lines begin with, where the next record begins at this place, and behind this text and so many written bytes
 abbrev pub drill_start : ℕ → ℕ → ℕ → ℕ → List ℕ → ℕ → Start
-drill_start start count now place said written = record { at = drill_setting start count now; state = drill_fresh now; place = place; lines = drill_lines; said = said; written = written }
+drill_start start count now place said written =
+    record { at = drill_setting start count now; state = drill_fresh now; place = place; lines = drill_lines; said = said; written = written }
 
 -- the summary of the state after its script
 abbrev pub drill_summary : ℕ → ℕ → ℕ → List ℕ
@@ -61,4 +63,5 @@ AfterReady start summary l r u = AfterPrefix start l r u ⊎ InSummary start sum
 -- during a drill: as in the making of its store until `ready` is said, and from then on as above
 abbrev pub DuringDrill : ℕ → ℕ → ℕ → List ℕ → List ℕ → List ℕ → List ℕ → Type 0
 DuringDrill start count now said l r u =
-    DuringMaking said (drill_fresh now) drill_ready l r u ⊎ AfterReady (drill_start start count now 0 (said ++ drill_ready) 0) (drill_summary start count now) l r u
+    DuringMaking said (drill_fresh now) drill_ready l r u
+    ⊎ AfterReady (drill_start start count now 0 (said ++ drill_ready) 0) (drill_summary start count now) l r u

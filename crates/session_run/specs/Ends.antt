@@ -8,6 +8,7 @@ use Rattle.session_run.specs.declared.faults.RunFault.TheVariants as run
 use Rattle.session_run.specs.declared.status.RunStatus.{RunStatus}
 use Rattle.session_run.specs.declared.status.RunStatus.TheVariants.{Done, ScriptTooLong, SourceFault, ShelfFault, DiskFault, SayFault, OutOfMemory}
 use Rattle.session_run.specs.Files.{NamesFile}
+use Rattle.session_run.specs.Moments.{EndsEarly}
 use Rattle.session_run.specs.Starts.{Start, line_count, state_at, last_state, answers, written_at}
 
 -- a line that leads from s to t, with its answer. The disk fails only where the state changes, and the output only where the answer isn't empty
@@ -75,20 +76,33 @@ LinesEnd h asked start host (Err run.OutOfMemory) = EndsBefore h asked start hos
 LinesEnd h asked start host (Err run.DiskFault) = EndsWithin h asked start host
 LinesEnd h asked start host (Err run.SayFault) = EndsInAnswer h asked start host
 
--- no line is done: each image is still kept for one of these states, nothing is said, and no file is asked for
-pub record StaysAmong {H : Type 0} (h : Ghosts H) (asked : List (List ℕ) → Type 0) (states : List ClientState) (start : Start) (host : H) : Type 0 where
-  pub kept : AllKeptAmong h host states
+-- no line is done: nothing is said, no more is written than the opening writes, and no file is asked for
+pub record EndsUnbegun {H : Type 0} (h : Ghosts H) (asked : List (List ℕ) → Type 0) (start : Start) (host : H) : Type 0 where
   pub text : h.said host ≡ start.said
   pub most : h.written host ≤ start.written
   pub asks : asked []
 
+-- so it is where the opening ended behind the syncs: each image is kept for the state of the start
+pub record StaysAs {H : Type 0} (h : Ghosts H) (asked : List (List ℕ) → Type 0) (start : Start) (host : H) : Type 0 where
+  pub kept : AllKept h host start.state
+  pub unbegun : EndsUnbegun h asked start host
+
+-- and where the run ended before both sides were synced: each is still kept for one of these states
+pub record StaysAmong {H : Type 0} (h : Ghosts H) (asked : List (List ℕ) → Type 0) (states : List ClientState) (start : Start)
+    (old host : H) (status : RunStatus) : Type 0 where
+  pub early : EndsEarly h old host status
+  pub kept : AllKeptAmong h host states
+  pub unbegun : EndsUnbegun h asked start host
+
 -- a run from a state, which was one of these
-abbrev pub RunEnds : {H : Type 0} → Ghosts H → (List (List ℕ) → Type 0) → List ClientState → Start → H → RunStatus → Type 0
-RunEnds h asked states start host Done = EndsWhole h asked start host
-RunEnds h asked states start host ShelfFault = EndsAtFile h asked start host
-RunEnds h asked states start host OutOfMemory = EndsBefore h asked start host ⊎ StaysAmong h asked states start host
-RunEnds h asked states start host DiskFault = EndsWithin h asked start host ⊎ StaysAmong h asked states start host
-RunEnds h asked states start host SayFault = EndsInAnswer h asked start host
-RunEnds h asked states start host ScriptTooLong = StaysAmong h asked states start host
-RunEnds h asked states start host SourceFault = StaysAmong h asked states start host
-RunEnds h asked states start host status = ⊥
+abbrev pub RunEnds : {H : Type 0} → Ghosts H → (List (List ℕ) → Type 0) → List ClientState → Start → H → H → RunStatus → Type 0
+RunEnds h asked states start old host Done = EndsWhole h asked start host
+RunEnds h asked states start old host ShelfFault = EndsAtFile h asked start host
+RunEnds h asked states start old host SayFault = EndsInAnswer h asked start host
+RunEnds h asked states start old host DiskFault =
+    EndsWithin h asked start host ⊎ StaysAs h asked start host ⊎ StaysAmong h asked states start old host DiskFault
+RunEnds h asked states start old host OutOfMemory =
+    EndsBefore h asked start host ⊎ StaysAs h asked start host ⊎ StaysAmong h asked states start old host OutOfMemory
+RunEnds h asked states start old host ScriptTooLong = StaysAmong h asked states start old host ScriptTooLong
+RunEnds h asked states start old host SourceFault = StaysAmong h asked states start old host SourceFault
+RunEnds h asked states start old host status = ⊥

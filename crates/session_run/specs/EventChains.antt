@@ -26,8 +26,9 @@ abbrev pub events_over : List Turn → List Event → List Event
 events_over [] es = es
 events_over (turn ∷ turns) es = events_over turns (noted turn.at.now (command_done turn) es)
 
--- After any runs from a store without events, what a moment sees of a name in the counts of the last pair is what it sees of the events of the lines that counted. The moment of an event is that of its run, or of an earlier event where that is later.
+-- After any runs from a store without events, what a moment sees of a name in the counts of the last pair is what it sees of the events of
+-- the lines that counted. The moment of an event is that of its run, or of an earlier event where that is later.
 abbrev pub EventsAreKept : Type 0
 EventsAreKept =
-    (l r : List ℕ) (s t : ClientState) (links : List Link) → KeptFor l r s → IsChain l r links → s.events ≡ [] → EndsKept l r links t → (now : ℕ) (name : List ℕ)
-    → get name (view_of now t.events) ≡ history_view now name (dated 0 (events_over (history s links) []))
+    (l r : List ℕ) (s t : ClientState) (links : List Link) → KeptFor l r s → IsChain l r links → s.events ≡ [] → EndsKept l r links t
+    → (now : ℕ) (name : List ℕ) → get name (view_of now t.events) ≡ history_view now name (dated 0 (events_over (history s links) []))

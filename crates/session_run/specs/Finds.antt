@@ -6,7 +6,8 @@ use Rattle.pair_store.specs.Repair.{IsUnwritten, IsLeftByOpening}
 use Rattle.client_state.specs.declared.client_state.ClientState.{ClientState}
 use Rattle.client_store.specs.Store.{StandsFor, IsStore, IsAbsent, IsBad}
 use Rattle.session_run.specs.declared.status.RunStatus.{RunStatus}
-use Rattle.session_run.specs.declared.status.RunStatus.TheVariants.{Done, Usage, ScriptTooLong, NoStore, AlreadyStore, BadStore, SourceFault, ShelfFault, DiskFault, SayFault, OutOfMemory}
+use Rattle.session_run.specs.declared.status.RunStatus.TheVariants.{Done, Usage, ScriptTooLong, NoStore, AlreadyStore, BadStore}
+use Rattle.session_run.specs.declared.status.RunStatus.TheVariants.{SourceFault, ShelfFault, DiskFault, SayFault, OutOfMemory}
 use Rattle.session_run.specs.Writes.{WritesNoMore}
 
 -- the call may have ended before the pair was judged
@@ -44,7 +45,8 @@ pub record MakingJudges (l r : List ℕ) (status : RunStatus) : Type 0 where
   pub already_store : IsStore l r → (status ≡ AlreadyStore) ⊎ EndedBefore status
   pub bad_store : IsBad l r → (status ≡ BadStore) ⊎ EndedBefore status
 
--- what a run leaves that opened no store: where there is none, nothing was written, and each image is what reads give. A damaged one is as reads gave it, but for the byte that an opening writes
+-- what a run leaves that opened no store: where there is none, nothing was written, and each image is what reads give. A damaged one is as
+-- reads gave it, but for the byte that an opening writes
 abbrev pub RunLeaves : {H : Type 0} → Ghosts H → H → H → RunStatus → Type 0
 RunLeaves h old new NoStore = IsUnwritten h old new
 RunLeaves h old new BadStore = IsLeftByOpening h old new

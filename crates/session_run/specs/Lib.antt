@@ -24,3 +24,4 @@ pub mod Steps
 pub mod Values
 pub mod Words
 pub mod Writes
+pub mod WrittenManifests

@@ -13,7 +13,8 @@ use Rattle.session_run.specs.Moments.{DuringLine}
 use Rattle.session_run.specs.Writes.{IsBelowMark}
 
 -- a line on this client that leads to the state t, with this answer
-pub record LineRan {H T : Type 0} (h : Ghosts H) (client : Client) (t : ClientState) (text : List ℕ) (old new : H) (result : Result T RunFault) : Type 0 where
+pub record LineRan {H T : Type 0} (h : Ghosts H) (client : Client) (t : ClientState) (text : List ℕ) (old new : H)
+    (result : Result T RunFault) : Type 0 where
   -- at each moment: the text of before with the old or the new state, or the new state with a prefix of the answer
   pub moments : HasGateOn h client old → MeetsAll h old new (DuringLine (h.said old) (state_of client) t text)
   -- what stands when it has ended, and what is said where it is done

@@ -1,15 +1,15 @@
 -- What is promised of the making of a store.
-use Rattle.std.specs.Prelude.{◌≡◌, ◌⊎◌, ◌≤◌, ◌+◌, ℕ, List, [], ◌∷◌, ◌++◌, take, codes}
+use Rattle.std.specs.Prelude.{◌≡◌, ◌⊎◌, ◌≤◌, ◌+◌, ℕ, List, [], ◌∷◌, ◌++◌, take, drop, codes}
 use Rattle.host_model.specs.declared.side.Side.TheVariants.{Left, Right}
 use Rattle.host_model.specs.declared.host.Host.{Ghosts}
 use Rattle.host_model.specs.Hosts.{MeetsAll}
-use Rattle.row_store.specs.Rows.{HasRows}
+use Rattle.row_store.specs.Rows.{HasRows, HasPlace}
 use Rattle.client_state.specs.declared.client_state.ClientState.{ClientState}
 use Rattle.client_store.specs.NewStates.{fresh}
 use Rattle.client_state.specs.Spelling.{rows_of}
 use Rattle.client_store.specs.Moments.{IsLeftAmong}
 use Rattle.client_store.specs.OpenStore.{AllKept, AllKeptAmong}
-use Rattle.client_store.specs.Places.{making_bytes}
+use Rattle.client_store.specs.Places.{making_bytes, place_made}
 use Rattle.client_store.specs.Store.{KeptFor, IsAbsent}
 use Rattle.client_words.specs.Answers.{hyphenated}
 use Rattle.session_run.specs.declared.status.RunStatus.{RunStatus}
@@ -52,6 +52,9 @@ pub record Made {H : Type 0} (h : Ghosts H) (id : List ℕ) (now : ℕ) (old new
   pub memory : status ≡ OutOfMemory → WritesNoMore h old new
   -- the rows of a store that is made are spelled, and in no older form
   pub spelled : status ≡ Done → HasRows (h.reads new Left) (h.reads new Right) (rows_of (fresh id now))
+  -- they stand on the left side, the next record begins behind them, and the right side is closed
+  pub placed : status ≡ Done → HasPlace (h.reads new Left) (h.reads new Right) (place_made (fresh id now))
+  pub closed : status ≡ Done → h.reads new Right ≡ 0 ∷ drop 1 (h.reads old Right)
   -- a store that is made takes exactly its bytes, and any other end takes no more
   pub cost : status ≡ Done → h.written new ≡ h.written old + making_bytes (fresh id now)
   pub most : IsAbsent (h.reads old Left) (h.reads old Right) → h.written new ≤ h.written old + making_bytes (fresh id now)

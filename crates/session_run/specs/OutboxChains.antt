@@ -1,7 +1,7 @@
 -- The changes of enrolments over a chain of runs, and those that the outbox holds.
 use Rattle.std.specs.Prelude.{◌≡◌, ◌+◌, ℕ, max, List, [], ◌∷◌, ◌++◌, length, Option, None, Some}
 use Rattle.change_outbox.specs.Changes.{changes_between}
-use Rattle.change_outbox.specs.Contents.{above, no_changes, numbered}
+use Rattle.change_outbox.specs.Contents.{Contents, above, no_changes, numbered}
 use Rattle.change_outbox.specs.declared.change.Change.{Change}
 use Rattle.client_state.specs.declared.client_state.ClientState.{ClientState}
 use Rattle.client_words.specs.declared.command.Command.{Command}
@@ -34,8 +34,14 @@ abbrev pub confirmed_over : List Turn → ℕ
 confirmed_over [] = 0
 confirmed_over (turn ∷ turns) = max (number_confirmed (command_done turn)) (confirmed_over turns)
 
--- After any runs from a store with a new outbox, the outbox of the last pair holds exactly those changes of the lines that counted, numbered from 1, whose number is above the greatest one that was confirmed, and its next number is one above their count.
+-- the outbox after these lines, from a new one: it holds exactly those of their changes, numbered from 1, whose number is above the greatest
+-- one that was confirmed, and its next number is one above their count
+abbrev pub outbox_over : List Turn → Contents
+outbox_over turns =
+    record { next = 1 + length (changes_over turns); entries = above (confirmed_over turns) (numbered 1 (changes_over turns)) }
+
+-- After any runs from a store with a new outbox, the outbox of the last pair is that of the lines that counted.
 abbrev pub OutboxIsKept : Type 0
 OutboxIsKept =
     (l r : List ℕ) (s t : ClientState) (links : List Link) → KeptFor l r s → IsChain l r links → s.outbox ≡ no_changes → EndsKept l r links t
-    → t.outbox ≡ record { next = 1 + length (changes_over (history s links)); entries = above (confirmed_over (history s links)) (numbered 1 (changes_over (history s links))) }
+    → t.outbox ≡ outbox_over (history s links)

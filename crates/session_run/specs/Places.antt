@@ -13,4 +13,5 @@ all_places at place run (line ∷ lines) = all_places at (place_after place run.
 abbrev pub all_bytes : Setting → ℕ → RunState → List (List ℕ) → ℕ
 all_bytes at place run [] = 0
 all_bytes at place run (line ∷ lines) =
-    bytes_for place run.state (run_after at run line).state + all_bytes at (place_after place run.state (run_after at run line).state) (run_after at run line) lines
+    bytes_for place run.state (run_after at run line).state
+    + all_bytes at (place_after place run.state (run_after at run line).state) (run_after at run line) lines

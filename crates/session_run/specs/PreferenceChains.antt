@@ -55,7 +55,8 @@ NoneLeaves slug changes = AllByRecursion (λ change. change.kind ≡ Leave → c
 -- a join of the slug sets this in one of these lines, and no line behind that makes a leave of the slug
 abbrev pub IsSetByJoin : List Turn → List ℕ → Setting → Type 0
 IsSetByJoin [] slug setting = ⊥
-IsSetByJoin (turn ∷ turns) slug setting = (JoinsWith turn slug setting × AllByRecursion (λ later. NoneLeaves slug (changes_by later)) turns) ⊎ IsSetByJoin turns slug setting
+IsSetByJoin (turn ∷ turns) slug setting =
+    (JoinsWith turn slug setting × AllByRecursion (λ later. NoneLeaves slug (changes_by later)) turns) ⊎ IsSetByJoin turns slug setting
 
 -- it holds of the holder, where there is one
 abbrev pub OfHolder : (List ℕ → Type 0) → Option Hold → Type 0
@@ -68,7 +69,8 @@ AreSetByJoins turns ps = AllByRecursion (λ p. OfHolder (λ slug. IsSetByJoin tu
 
 -- ---- over chains
 
--- After any runs from a store without preferences, the user's map of the last pair's preferences is what the lines that counted set and took away. In place of each that is held it has the value of before.
+-- After any runs from a store without preferences, the user's map of the last pair's preferences is what the lines that counted set and took
+-- away. In place of each that is held it has the value of before.
 abbrev pub UserMapIsKept : Type 0
 UserMapIsKept =
     (l r : List ℕ) (s t : ClientState) (links : List Link) → KeptFor l r s → IsChain l r links → s.preferences ≡ [] → EndsKept l r links t
@@ -83,7 +85,8 @@ HeldAreSetByJoins =
 -- Whoever holds one then, the client takes part in the holder's recipe, also where the store had preferences.
 abbrev pub HoldersTakePart : Type 0
 HoldersTakePart =
-    (l r : List ℕ) (s t : ClientState) (links : List Link) → KeptFor l r s → IsChain l r links → EndsKept l r links t → HaveEnrolledHolders t.enrolment t.preferences
+    (l r : List ℕ) (s t : ClientState) (links : List Link) → KeptFor l r s → IsChain l r links → EndsKept l r links t
+    → HaveEnrolledHolders t.enrolment t.preferences
 
 -- the client takes part in no recipe
 abbrev pub TakesPartInNone : ClientState → Type 0

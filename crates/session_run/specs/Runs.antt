@@ -21,7 +21,8 @@ use Rattle.session_run.specs.Values.{value_line, IsServedValue}
 -- each value that a line is answered is the one that the manifest serves which was set last, with the types of the feature's variables
 abbrev pub ServesValues : Start → Type 0
 ServesValues start =
-    (k : ℕ) (line text : List ℕ) → slice_get start.lines k ≡ Some line → answer start.at (run_at start.at start.state start.lines k) line ≡ value_line text
+    (k : ℕ) (line text : List ℕ) → slice_get start.lines k ≡ Some line
+    → answer start.at (run_at start.at start.state start.lines k) line ≡ value_line text
     → IsServedValue start.at start.state start.lines k line text
 
 -- a pair stands for a state by the old form of its rows
@@ -51,7 +52,8 @@ pub record StandsAfter {H : Type 0} (h : Ghosts H) (start : Start) (old new : H)
 
 -- lines that were done over an open store, which had a byte at the gate behind its records where `gated` holds. Of some lines `asked`
 -- tells whether the shelf was asked for nothing but what they ask for
-pub record LinesRan {H T : Type 0} (h : Ghosts H) (asked : List (List ℕ) → Type 0) (gated : Type 0) (start : Start) (old new : H) (result : Result T RunFault) : Type 0 where
+pub record LinesRan {H T : Type 0} (h : Ghosts H) (asked : List (List ℕ) → Type 0) (gated : Type 0) (start : Start) (old new : H)
+    (result : Result T RunFault) : Type 0 where
   pub moments : gated → MeetsAll h old new (AfterPrefix start)
   pub ends : gated → LinesEnd h asked start new result
   pub images : OnOk result (AllStand h new (last_state start))
@@ -62,18 +64,21 @@ pub record LinesRan {H T : Type 0} (h : Ghosts H) (asked : List (List ℕ) → T
 -- A run. Where the store's state is s, and its opening leaves the next record at a place and writes so many bytes, the lines begin with
 -- `from s place bytes`. What may be met at a moment depends on neither number, and there both are 0. Of some lines `asked` tells whether
 -- the shelf was asked for nothing but what they ask for.
-pub record Ran {H : Type 0} (h : Ghosts H) (asked : List (List ℕ) → Type 0) (from : ClientState → ℕ → ℕ → Start) (old new : H) (status : RunStatus) : Type 0 where
+pub record Ran {H : Type 0} (h : Ghosts H) (asked : List (List ℕ) → Type 0) (from : ClientState → ℕ → ℕ → Start) (old new : H)
+    (status : RunStatus) : Type 0 where
   -- whenever a crash comes, inside a call too, the two images are kept for the state after the first k lines, each whose answer was said
   -- among them, and what was said is a prefix of the answers to them
   pub crash : (s : ClientState) → AllKept h old s → MeetsAll h old new (AfterPrefix (from s 0 0))
   -- after a run that the disk has ended, whose images are each kept for one of some states: that holds until both sides are synced, and
-  -- nothing is said. From then on the state is the one for which reads are kept
-  pub phases : (states : List ClientState) (s : ClientState) → AllKeptAmong h old states → ReadsKept h old s → InPhases h states (from s 0 0) old new status
+  -- nothing is said. From then on the state is the one for which reads are kept, also where the disk fails in the opening
+  pub phases : (states : List ClientState) (s : ClientState) → AllKeptAmong h old states → ReadsKept h old s
+      → InPhases h states (from s 0 0) old new status
   -- what stands when it has ended, how many bytes were written, and which files were asked for, status by status
   pub ends : (states : List ClientState) (s : ClientState) → AllKeptAmong h old states → ReadsKept h old s
-      → (place bytes : ℕ) × OpensWith (h.reads old Left) (h.reads old Right) s place bytes × RunEnds h asked states (from s place bytes) new status
+      → (place bytes : ℕ) × OpensWith (h.reads old Left) (h.reads old Right) s place bytes × RunEnds h asked states (from s place bytes) old new status
   -- a chain's link: whenever a crash comes, and when it has ended, each pair of images is one that the run leads to from a pair of its start
-  pub links : (states : List ClientState) (s : ClientState) → AllKeptAmong h old states → ReadsKept h old s → MeetsAll h old new (IsLinked h old (from s 0 0))
+  pub links : (states : List ClientState) (s : ClientState) → AllKeptAmong h old states → ReadsKept h old s
+      → MeetsAll h old new (IsLinked h old (from s 0 0))
   -- without a crash: where it answers Done, all lines were done and answered from what reads gave
   pub done : status ≡ Done → (s : ClientState) → ReadsStand h old s
       → (place bytes : ℕ) × OpensWith (h.reads old Left) (h.reads old Right) s place bytes × StandsAfter h (from s place bytes) old new

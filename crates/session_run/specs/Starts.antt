@@ -18,11 +18,13 @@ pub record Start : Type 0 where
 
 -- the lines are done over this shelf and this host
 abbrev pub start_on : {F H : Type 0} → shelves.Ghosts F → Ghosts H → ℕ → F → H → List (List ℕ) → ClientState → ℕ → Start
-start_on f h now shelf host lines s place = record { at = setting f shelf now; state = s; place = place; lines = lines; said = h.said host; written = h.written host }
+start_on f h now shelf host lines s place =
+    record { at = setting f shelf now; state = s; place = place; lines = lines; said = h.said host; written = h.written host }
 
 -- so they are behind an opening over it, which leaves the next record at this place and writes so many bytes
 abbrev pub opened_on : {F H : Type 0} → shelves.Ghosts F → Ghosts H → ℕ → F → H → List (List ℕ) → ClientState → ℕ → ℕ → Start
-opened_on f h now shelf host lines s place bytes = record { at = setting f shelf now; state = s; place = place; lines = lines; said = h.said host; written = h.written host + bytes }
+opened_on f h now shelf host lines s place bytes =
+    record { at = setting f shelf now; state = s; place = place; lines = lines; said = h.said host; written = h.written host + bytes }
 
 -- how many lines there are
 abbrev pub line_count : Start → ℕ

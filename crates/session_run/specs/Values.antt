@@ -19,7 +19,8 @@ use Rattle.session_run.specs.Steps.{RunState, answer, run_at}
 abbrev pub value_line : List ℕ → List ℕ
 value_line text = codes "value " ++ text ++ 10 ∷ []
 
--- the line asks for a feature, and the text is that of the value which the session's manifest serves of it, which has the types of the feature's variables
+-- the line asks for a feature, and the text is that of the value which the session's manifest serves of it, which has the types of the
+-- feature's variables
 pub record IsTypedValue (run : RunState) (line text : List ℕ) : Type 0 where
   pub name : List ℕ
   pub command : command_of line ≡ Ok (Feature name)
@@ -48,7 +49,8 @@ pub record IsSetLast (at : Setting) (s : ClientState) (lines : List (List ℕ)) 
   pub line : List ℕ
   pub is_line : slice_get lines j ≡ Some line
   pub sets : LineSets at (run_at at s lines j) line m
-  pub last : (i : ℕ) (other : List ℕ) (that : Manifest) → j < i → i < k → slice_get lines i ≡ Some other → LineSets at (run_at at s lines i) other that → ⊥
+  pub last : (i : ℕ) (other : List ℕ) (that : Manifest) → j < i → i < k → slice_get lines i ≡ Some other
+      → LineSets at (run_at at s lines i) other that → ⊥
 
 -- this line, behind k others, is answered a value of its type, which the manifest serves that was set last
 pub record IsServedValue (at : Setting) (s : ClientState) (lines : List (List ℕ)) (k : ℕ) (line text : List ℕ) : Type 0 where

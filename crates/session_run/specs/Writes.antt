@@ -13,7 +13,8 @@ use Rattle.pair_store.specs.Repair.{repair_cost}
 abbrev pub IsBelowMark : {H : Type 0} → Ghosts H → H → List ℕ → List ℕ → List ℕ → Type 0
 IsBelowMark h old l r u = (side : Side) → SameBehind MARK (h.images old side) (on side l r)
 
--- nothing is said, and no byte is written but the one that an opening writes where both sides are open: at each moment the images are those of the start, or what that leaves of what reads gave
+-- nothing is said, and no byte is written but the one that an opening writes where both sides are open: at each moment the images are those
+-- of the start, or what that leaves of what reads gave
 pub record WritesNoMore {H : Type 0} (h : Ghosts H) (old new : H) : Type 0 where
   pub moments : MeetsAll h old new (IsOpening h old)
   pub text : h.said new ≡ h.said old

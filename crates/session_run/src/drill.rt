@@ -1,5 +1,5 @@
 // A drill: its store is made, its script is run over its files from memory, and the summary of the last state is said.
-ghost use Rattle.std.specs.Prelude.{◌≡◌, ◌⊎◌, ◌≤◌, ◌+◌, ℕ};
+ghost use Rattle.std.specs.Prelude.{◌≡◌, ◌⊎◌, ◌≤◌};
 ghost use Rattle.host_model.specs.Hosts.{MeetsAll};
 ghost use Rattle.host_model.specs.Moments.{IsSaying, KeepsSide};
 ghost use Rattle.host_model.specs.declared.side.Side.{Side};
@@ -13,7 +13,8 @@ ghost use Rattle.recipe_drill.specs.Summary as counts;
 ghost use Rattle.row_store.specs.Rows.{HasRows, HasPlace};
 ghost use Rattle.client_state.specs.Spelling.{rows_of};
 ghost use Rattle.client_store.specs.OpenStore.{AllKept};
-ghost use Rattle.session_run.specs.DrillEnds.{SummaryEnds, ScriptEnds, Drilled};
+ghost use Rattle.client_store.specs.Places.{place_made};
+ghost use Rattle.session_run.specs.DrillEnds.{SummaryEnds, ScriptEnds, made_start, Drilled};
 ghost use Rattle.session_run.specs.Drills.{drill_bytes, drill_fresh, drill_start, drill_summary, AfterReady};
 ghost use Rattle.session_run.specs.FaultCauses.{IsStatusOf, HasHostCauses};
 ghost use Rattle.session_run.specs.Finds.{MakingFound};
@@ -95,13 +96,14 @@ fn run_script<H: Host>(
     requires room { HasRoom drill }
     requires made { H.tells → AllKept H.Host host.old (drill_fresh now) }
     requires spelled { H.tells → HasRows (H.reads host.old Left) (H.reads host.old Right) (rows_of (drill_fresh now)) }
+    requires placed { H.tells → HasPlace (H.reads host.old Left) (H.reads host.old Right) (place_made (drill_fresh now)) }
+    requires whole { H.tells → repair_cost (H.reads host.old Left) (H.reads host.old Right) ≡ 0 }
 
     // At each moment the images are kept for the state after the first k lines, each that was answered among them. A
     // prefix of the summary is said only where all answers were, and the images are kept for the last state.
     ensures any_moment { H.tells → MeetsAll H.Host host.old host.new
         (AfterReady (drill_start start count now 0 (H.said host.old) 0) (drill_summary start count now)) }
-    ensures ends { H.tells → ((place : ℕ) × HasPlace (H.reads host.old Left) (H.reads host.old Right) place × ScriptEnds H.Host (drill_start start count now place (H.said host.old)
-        (H.written host.old + repair_cost (H.reads host.old Left) (H.reads host.old Right))) (drill_summary start count now) host.new result) }
+    ensures ends { H.tells → ScriptEnds H.Host (made_start H.Host start count now host.old) (drill_summary start count now) host.new result }
     ensures below { H.tells → MeetsAll H.Host host.old host.new (IsBelowMark H.Host host.old) }
     ensures is_of { IsOfMaking result }
     ensures host_causes { HasHostCauses H.Host (IsStatusOf result) host.old host.new }

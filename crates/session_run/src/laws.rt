@@ -13,6 +13,7 @@ ghost use Rattle.session_run.specs.PreferenceChains.{AreTheUsers, HeldAreSetByJo
 ghost use Rattle.session_run.specs.Runs.{ServesValues};
 ghost use Rattle.session_run.specs.Starts.{Start};
 ghost use Rattle.session_run.specs.Steps.{after};
+ghost use Rattle.session_run.specs.WrittenManifests.{WritesManifests};
 
 /// What may be met at a moment of a run is a link of a chain: so is what a crash leaves then, and what stands when the run
 /// has ended, with whatever status. `Ran` says in `links` that each is met from an image of the run's start, and `HasCauses`
@@ -73,4 +74,10 @@ pub fn opt_outs_stay()
 /// and it has the types of the feature's variables.
 pub fn values_are_served()
     ensures { (start : Start) → start.at.now ≤ last_moment → IsSound start.state → ServesValues start }
+{}
+
+/// Where a `write-manifest` is answered a manifest, a file with that text, of at most 4,194,304 bytes, makes the manifest
+/// again that the run had set last, for its channel.
+pub fn manifests_are_made_again()
+    ensures { (start : Start) → WritesManifests start }
 {}

@@ -17,7 +17,7 @@ mod words;
 
 pub use entry::nimbus;
 pub use laws::{
-    event_chain, kept_chain, opt_outs_stay, outbox_chain, pref_chain, runs_are_links,
-    runs_stay_sound, values_are_served,
+    event_chain, kept_chain, manifests_are_made_again, opt_outs_stay, outbox_chain, pref_chain,
+    runs_are_links, runs_stay_sound, values_are_served,
 };
 pub use status::RunStatus;

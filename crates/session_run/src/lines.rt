@@ -1,10 +1,9 @@
 // All lines of a script.
-ghost use Rattle.std.specs.Prelude.{◌≡◌, ◌≤◌, ℕ, List, All, OnOk, IsErrOf, length, map};
+ghost use Rattle.std.specs.Prelude.{◌≡◌, ◌≤◌, All, OnOk, IsErrOf, length, map};
 ghost use Rattle.host_model.specs.Hosts.{MeetsAll};
 ghost use Rattle.enrol_states.specs.State.{last_moment};
 ghost use Rattle.jexl_transforms.specs.Table.{HasStandardNames};
 ghost use Rattle.client_core.specs.Clients.{state_of, session_of, end_of, IsOpenOn, HasGateOn};
-ghost use Rattle.client_steps.specs.Settings.{setting};
 ghost use Rattle.client_steps.specs.Sessions.{no_session};
 ghost use Rattle.client_words.specs.Commands.{bytes_at, IsWithin};
 ghost use Rattle.session_run.specs.FaultCauses.{HasShelfCauses, HasHostCauses};

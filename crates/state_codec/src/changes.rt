@@ -46,8 +46,7 @@ pub fn write_state(alloc: Global, state: &State) -> Result<Vec<u8>, AllocError>
 
 /// The batch from the rows of a state to those of the next: a put for each row that is new or differs, a delete for each that
 /// is gone, and nothing else. Its cost is that of comparing the states: a row is made only where it changes, and recipes are
-/// compared as values. Where it is known that a list of recipes is as before, `change_after` gives the same batch and looks at
-/// none of them.
+/// compared as values.
 pub fn change_between(alloc: Global, old: &State, new: &State) -> Result<Batch, AllocError>
     requires old_state { IsConsistent old.now }
     requires new_state { IsConsistent new.now }
@@ -63,9 +62,9 @@ pub fn change_between(alloc: Global, old: &State, new: &State) -> Result<Batch, 
     change_after(alloc, old, new, RecipeLists::MayDiffer)
 }
 
-/// The batch of `change_between`, where it is known which lists of recipes are as before: these aren't looked at, so the cost
-/// is that of the other lists, which are walked once.
-pub fn change_after(
+// The batch of `change_between`, where it is known which lists of recipes are as before: these aren't looked at, so the cost
+// is that of the other lists, which are walked once.
+fn change_after(
     alloc: Global,
     old: &State,
     new: &State,

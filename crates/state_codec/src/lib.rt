@@ -17,9 +17,7 @@ mod sections;
 mod size;
 mod state_reading;
 
-pub use changes::{
-    change_after, change_between, first_changes, later_changes, whole_batch, write_state,
-};
+pub use changes::{change_between, first_changes, later_changes, whole_batch, write_state};
 pub use laws::{one_spelling, one_state};
 pub use old_form::{migration, needs_migration};
 pub use reading::read_state;

@@ -1,5 +1,5 @@
 //! Calls on row stores.
-ghost use Rattle.std.specs.Prelude.{◌≤◌, length, IfOk, IsTrue};
+ghost use Rattle.std.specs.Prelude.{◌≡◌, ◌≤◌, length, IfOk, IsTrue};
 ghost use Rattle.gate_journal.specs.declared.frame.TheConstants.{MAX_PAYLOAD};
 ghost use Rattle.pair_store.specs.declared.mark.TheConstants.{MAX_WHOLE};
 ghost use Rattle.row_batches.specs.Batch.{applied, batch_text, whole_of};
@@ -58,7 +58,7 @@ pub(crate) fn open_state(
     answer: &mut Vec<u8>,
 ) -> Result<(), AllocError> {
     match RowStore::open(alloc, host) {
-        Ok(opened) => {
+        Ok(mut opened) => {
             let added = add_form(alloc, opened.rows(), answer);
             *rows = Some(opened);
             added
@@ -76,7 +76,7 @@ fn add_form(alloc: Global, rows: &[StoreRow], answer: &mut Vec<u8>) -> Result<()
 }
 
 /// Adds all rows.
-pub(crate) fn add_all(rows: &Option<RowStore>, answer: &mut Vec<u8>) -> Result<(), AllocError> {
+pub(crate) fn add_all(rows: &mut Option<RowStore>, answer: &mut Vec<u8>) -> Result<(), AllocError> {
     match rows {
         Some(rows) => add_rows(rows.rows(), answer),
         None => answer.extend_from_slice(b"no rows"),
@@ -192,9 +192,10 @@ fn ready_of(alloc: Global, rows: &mut RowStore, batch: Batch) -> Result<Ready, U
 }
 
 // Whether a batch and the whole of the rows behind it are short enough.
-fn fits(alloc: Global, rows: &RowStore, batch: &Batch) -> Result<bool, AllocError>
+fn fits(alloc: Global, rows: &mut RowStore, batch: &Batch) -> Result<bool, AllocError>
+    ensures same { rows.new ≡ rows.old }
     ensures size { IfOk result (λ fits. IsTrue fits → length (batch_text batch.now) ≤ MAX_PAYLOAD) }
-    ensures whole_size { IfOk result (λ fits. IsTrue fits → length (batch_text (whole_of (applied batch.now rows.now.rows))) ≤ MAX_WHOLE) }
+    ensures whole_size { IfOk result (λ fits. IsTrue fits → length (batch_text (whole_of (applied batch.now rows.old.rows))) ≤ MAX_WHOLE) }
 {
     let whole = batch.whole_after(alloc, rows.rows())?;
     Ok(batch.size() <= MAX_PAYLOAD as u128 && whole.len() <= MAX_WHOLE)

@@ -1,11 +1,12 @@
 use Rattle.std.proofs.Common.{◌≡◌, ◌++◌, ◌+◌, length}
 use Rattle.change_outbox.specs.Changes.{changes_between}
+use Rattle.change_outbox.specs.Contents.{numbered}
 use Rattle.change_outbox.specs.Walking.{AreInOrder}
 use Rattle.change_outbox.proofs.slug_changes.changes_of.Given as goal
 
 abbrev pub invariant-loop-step : goal.invariant-loop-step
 invariant-loop-step l = record {
-  changes : l.changes ++ changes_between l.olds l.news ≡ changes_between l.old l.new;
+  changes : l.changes ++ numbered (length l.changes) (changes_between l.olds l.news) ≡ numbered 0 (changes_between l.old l.new);
   order : AreInOrder l.olds l.news;
 }
 

@@ -7,7 +7,9 @@ use Rattle.fml_imports.specs.declared.joining.Linked.{Linked}
 use Rattle.fml_link.specs.Files.{named_by, with_named, files_of}
 use Rattle.fml_link.specs.Outcome.{Fails}
 use Rattle.fml_link.specs.declared.fault.LinkFault.{LinkFault}
-use Rattle.fml_link.proofs.Asking.{root_stays_first, asked_longer, asked_one_more}
+use Rattle.fml_link.specs.Laws.{are_distinct}
+use Rattle.fml_link.proofs.Asking.{root_stays_first, asked_longer, asked_all, asked_one_more}
+use Rattle.fml_link.proofs.FileLists.{named_distinct}
 use Rattle.fml_link.proofs.Listing.{named_within, list_first, list_turn, read_turn, listed_full, listed_none}
 use Rattle.fml_link.proofs.files.files_of.Goals as goal
 
@@ -16,12 +18,13 @@ loop-place-init g c = record {
   met = c.in_ok-list.ensures.met;
   few = subst (λ (l : List (List ℕ × List ℕ)). length l ≤ 64) (sym c.in_ok-list.ensures.list) (omega arith);
   first = ap (λ (l : List (List ℕ × List ℕ)). slice_get l 0) c.in_ok-list.ensures.list;
+  distinct = ap are_distinct c.in_ok-list.ensures.list;
   listed = λ tells. list_first (g.F.Shelf.file c.args.shelf.now) c.args.root.now c.args.channel.now ∙ ap (λ l. Ok l) (sym c.in_ok-list.ensures.list);
   read = λ tells. ap (λ l. Ok l) (sym c.new-files.ensures);
   modules = subst AreRead (sym c.new-files.ensures) (all_nil (λ (f : Linked). IsRead f.module));
   files = λ tells other. refl;
   asked = refl;
-  faults = omega arith;
+  quiet = refl;
 }
 
 pub returns-in-None-clause-reads : goal.returns-in-None-clause-reads
@@ -45,28 +48,39 @@ loop-place-preserved g c =
       met = c.in_ok-add_named-in-Some.ensures.met;
       few = named_within (named_by f.1 one.module) list longer c.loop-place.invariant.few more;
       first = root_stays_first (named_by f.1 one.module) list longer (c.args.root.now, c.args.channel.now) more c.loop-place.invariant.first;
+      distinct = named_distinct (named_by f.1 one.module) list longer c.loop-place.invariant.distinct more;
       listed = λ tells. list_turn file c.args.root.now c.args.channel.now now c.loop-place.place list longer f one.module (c.loop-place.invariant.listed tells) c.in-Some.ensures (c.loop-place.invariant.files tells f.0) (c.in_ok-file-in-Some.ensures.reads tells) more;
       read = λ tells. read_turn file now c.loop-place.place list longer (named_by f.1 one.module) f files one c.in-Some.ensures (c.loop-place.invariant.files tells f.0) (c.in_ok-file-in-Some.ensures.reads tells) listed more (c.loop-place.invariant.read tells) ∙ ap (λ l. Ok l) (sym pushed);
       modules = subst AreRead (sym pushed) (all_push (λ (f : Linked). IsRead f.module) files one c.loop-place.invariant.modules c.in_ok-file-in-Some.ensures.read);
       files = λ tells other. c.in_ok-file-in-Some.ensures.files tells other ∙ c.loop-place.invariant.files tells other;
       asked = asked_longer g.F.Shelf.asks c.args.shelf.now c.loop-place.shelf c.linked_file.new.shelf (named_by f.1 one.module) list longer c.loop-place.place f c.in-Some.ensures more c.loop-place.invariant.asked c.in_ok-file-in-Some.ensures.asked;
-      faults = omega (arith, c.loop-place.invariant.faults, c.in_ok-file-in-Some.ensures.faults);
+      quiet = c.in_ok-file-in-Some.ensures.quiet (λ is. absurd cc) ∙ c.loop-place.invariant.quiet;
     }
+
+pub returns-in-None-clause-asked : goal.returns-in-None-clause-asked
+returns-in-None-clause-asked g c =
+    let so_far = c.loop-place.invariant in
+    asked_all g.F.Shelf c.args.root.now c.args.channel.now c.args.shelf.now c.loop-place.shelf c.loop-place.list.list c.loop-place.place so_far.first so_far.distinct so_far.few so_far.listed so_far.asked
+
+pub returns-clause-asked : goal.returns-clause-asked
+returns-clause-asked g c =
+    let so_far = c.loop-place.invariant in
+    asked_all g.F.Shelf c.args.root.now c.args.channel.now c.args.shelf.now c.loop-place.shelf c.loop-place.list.list c.loop-place.place so_far.first so_far.distinct so_far.few so_far.listed so_far.asked
 
 pub returns-in_err-file-in-Some-clause-asked : goal.returns-in_err-file-in-Some-clause-asked
 returns-in_err-file-in-Some-clause-asked g c =
-    asked_one_more g.F.Shelf.asks c.args.root.now c.args.channel.now c.args.shelf.now c.loop-place.shelf c.linked_file.new.shelf c.loop-place.list.list c.loop-place.place c.in-Some.listed.now
-    c.loop-place.invariant.first c.in-Some.ensures c.loop-place.invariant.asked c.in_err-file-in-Some.ensures.asked
+    asked_one_more g.F.Shelf c.args.root.now c.args.channel.now c.args.shelf.now c.loop-place.shelf c.linked_file.new.shelf c.loop-place.list.list c.loop-place.place c.in-Some.listed.now
+    c.loop-place.invariant.first c.loop-place.invariant.distinct c.loop-place.invariant.few c.loop-place.invariant.listed c.in-Some.ensures c.loop-place.invariant.asked c.in_err-file-in-Some.ensures.asked
 
 pub returns-in_err-add_named-in-Some-clause-asked : goal.returns-in_err-add_named-in-Some-clause-asked
 returns-in_err-add_named-in-Some-clause-asked g c =
-    asked_one_more g.F.Shelf.asks c.args.root.now c.args.channel.now c.args.shelf.now c.loop-place.shelf c.linked_file.new.shelf c.loop-place.list.list c.loop-place.place c.in-Some.listed.now
-    c.loop-place.invariant.first c.in-Some.ensures c.loop-place.invariant.asked c.in_ok-file-in-Some.ensures.asked
+    asked_one_more g.F.Shelf c.args.root.now c.args.channel.now c.args.shelf.now c.loop-place.shelf c.linked_file.new.shelf c.loop-place.list.list c.loop-place.place c.in-Some.listed.now
+    c.loop-place.invariant.first c.loop-place.invariant.distinct c.loop-place.invariant.few c.loop-place.invariant.listed c.in-Some.ensures c.loop-place.invariant.asked c.in_ok-file-in-Some.ensures.asked
 
 pub returns-in_err-push-in-Some-clause-asked : goal.returns-in_err-push-in-Some-clause-asked
 returns-in_err-push-in-Some-clause-asked g c =
-    asked_one_more g.F.Shelf.asks c.args.root.now c.args.channel.now c.args.shelf.now c.loop-place.shelf c.linked_file.new.shelf c.loop-place.list.list c.loop-place.place c.in-Some.listed.now
-    c.loop-place.invariant.first c.in-Some.ensures c.loop-place.invariant.asked c.in_ok-file-in-Some.ensures.asked
+    asked_one_more g.F.Shelf c.args.root.now c.args.channel.now c.args.shelf.now c.loop-place.shelf c.linked_file.new.shelf c.loop-place.list.list c.loop-place.place c.in-Some.listed.now
+    c.loop-place.invariant.first c.loop-place.invariant.distinct c.loop-place.invariant.few c.loop-place.invariant.listed c.in-Some.ensures c.loop-place.invariant.asked c.in_ok-file-in-Some.ensures.asked
 
 pub returns-in_err-add_named-in-Some-clause-reads : goal.returns-in_err-add_named-in-Some-clause-reads
 returns-in_err-add_named-in-Some-clause-reads g c = λ tells.

@@ -1,20 +1,46 @@
-use Rattle.std.proofs.Common.{◌<◌, length, get_or, ap, ◌∙◌, subst}
-use Rattle.pref_bindings.proofs.BoundValues.{named_at, set_next}
+use Rattle.std.proofs.Common.{◌≡◌, ◌<◌, length, get_or, take, sym, ap, ◌∙◌, subst, fold}
+use Rattle.std.specs.List.{AllByRecursion, filter_map, flat_map}
+use Rattle.std.proofs.lemmas.List.{take_all}
+use Rattle.std.specs.Prelude.{IsTrue}
+use Rattle.plain_text.specs.Names.{is_name}
+use Rattle.enrol_states.proofs.Answered.{if_ok}
+use Rattle.pref_bindings.specs.Bindings.{of_feature}
+use Rattle.pref_bindings.specs.Bound.{in_order, setting_of, with_setting}
+use Rattle.pref_bindings.proofs.BoundValues.{feature_next, named_own}
+use Rattle.pref_bindings.proofs.SameSettings.{all_looked_up}
 use Rattle.pref_bindings.proofs.bound.set_by_branch.Goals as goal
 
-pub loop-binding-preserved : goal.loop-binding-preserved
-loop-binding-preserved c =
-    let i = c.loop-binding.binding-index in
-    let b = c.binding-item.result in
-    let same = c.as_slice-binding-items.ensures.bindings in
+pub add_settings-requires-clause-names : goal.add_settings-requires-clause-names
+add_settings-requires-clause-names c =
+    let all = c.args.bindings.now in
+    let feature = c.set-item.result.feature in
+    let own : c.of_feature-own.result.now ≡ of_feature feature all = c.of_feature-own.ensures ∙ ap (λ t. of_feature t c.as_slice-all.result.now) c.as_str.ensures.text ∙ ap (of_feature feature) c.as_slice-all.ensures.bindings in
+    subst (AllByRecursion (λ b. IsTrue (is_name b.preference))) (sym own) (named_own feature all c.as_slice-all.ensures.are.names)
+
+pub loop-set-preserved : goal.loop-set-preserved
+loop-set-preserved c =
+    let m = c.args.manifest.now in
+    let branch = c.args.branch.now in
+    let all = c.args.bindings.now in
+    let i = c.loop-set.set-index in
+    let set = c.set-item.result in
+    let same = c.as_slice-set-items.ensures in
+    let own : c.of_feature-own.result.now ≡ of_feature set.feature all = c.of_feature-own.ensures ∙ ap (λ t. of_feature t c.as_slice-all.result.now) c.as_str.ensures.text ∙ ap (of_feature set.feature) c.as_slice-all.ensures.bindings in
     record {
-      values = c.in_ok-add_setting.ensures.added ∙ set_next c.args.manifest.now c.args.branch.now c.args.bindings.now i b (subst (λ bs. i < length bs) same c.loop-binding-test.true) (c.binding-item.is ∙ ap (λ bs. get_or bs i b) same) c.loop-binding.settings.entries c.loop-binding.invariant.values;
-      each = c.in_ok-add_setting.ensures.settings;
+      values =
+          c.in_ok-add_settings.ensures.added ∙ ap (λ bs. fold with_setting c.loop-set.settings.entries (filter_map (setting_of m branch) bs)) own
+          ∙ ap (λ vs. fold with_setting vs (filter_map (setting_of m branch) (of_feature set.feature all))) c.loop-set.invariant.values
+          ∙ sym (feature_next m branch all i set (subst (λ fs. i < length fs) same c.loop-set-test.true) (c.set-item.is ∙ ap (λ fs. get_or fs i set) same));
+      each = c.in_ok-add_settings.ensures.settings;
     }
 
-pub add_setting-requires-clause-name : goal.add_setting-requires-clause-name
-add_setting-requires-clause-name c =
-    let i = c.loop-binding.binding-index in
-    let b = c.binding-item.result in
-    let same = c.as_slice-binding-items.ensures.bindings in
-    named_at c.args.bindings.now i b (subst (λ bs. i < length bs) same c.loop-binding-test.true) (c.binding-item.is ∙ ap (λ bs. get_or bs i b) same) c.as_slice-binding-items.ensures.are.names
+pub returns-clause-values : goal.returns-clause-values
+returns-clause-values c =
+    let m = c.args.manifest.now in
+    let branch = c.args.branch.now in
+    let all = c.args.bindings.now in
+    let i = c.loop-set.set-index in
+    let whole : take i branch.features ≡ branch.features = subst (λ fs. take i fs ≡ fs) c.as_slice-set-items.ensures (take_all i c.as_slice-set-items.result.now c.loop-set-test.false) in
+    if_ok c.in_order.result _ _
+    (c.loop-set.invariant.values ∙ ap (λ fs. in_order (filter_map (setting_of m branch) (flat_map (λ f. of_feature f.feature all) fs))) whole ∙ all_looked_up m branch all c.as_slice-all.ensures.are.once)
+    c.in_order.ensures.values

@@ -2,7 +2,7 @@ use Rattle.std.proofs.Common.{rules, ◌≡◌, sym, subst}
 use Rattle.std.specs.List.{remove}
 use Rattle.std.proofs.lemmas.Fn.{always_returns_same}
 use Rattle.enrol_states.specs.Order.{Rise}
-use Rattle.enrol_states.proofs.Answered.{if_ok, if_matched}
+use Rattle.enrol_states.proofs.Answered.{if_ok}
 use Rattle.enrol_states.proofs.Ordered.{order_by}
 use Rattle.pref_bindings.specs.Preferences.{names_of}
 use Rattle.pref_bindings.specs.Changes.{without_name}
@@ -26,4 +26,4 @@ returns-in-Err c =
     let nowhere = c.in-Err.ensures.position (order_by name_of name) (always_returns_same _ _ _ (λ a r g called. search rules)) in
     let rise = subst (λ ps. Rise (names_of ps)) (sym c.as_slice.ensures) c.requires in
     let left = without_missed name preferences c.in-Err.field-0 rise nowhere in
-    if_matched c.clone.result _ _ _ (subst (λ ps. ps ≡ without_name name ps) c.as_slice.ensures left) c.clone.ensures.cases
+    subst (λ ps. ps ≡ without_name name ps) c.as_slice.ensures left

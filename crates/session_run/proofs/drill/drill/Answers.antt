@@ -10,6 +10,7 @@ use Rattle.session_run.specs.Writes.{IsBelowMark}
 use Rattle.session_run.proofs.Causing.{causes_behind}
 use Rattle.session_run.proofs.Drilling.{found_made, drilled_made, drilled_unmade, drilled_unbegun}
 use Rattle.session_run.proofs.Judging.{making_judges}
+use Rattle.session_run.proofs.SpelledStores.{closed_cost}
 use Rattle.session_run.proofs.Writing.{met_now, no_more}
 use Rattle.session_run.proofs.drill.drill.Goals as goal
 
@@ -20,8 +21,7 @@ returns-in-Done-clause-drilled g c tells =
     let mid = c.init.new.host in
     let made = subst (λ (id : List ℕ). Made h id c.args.now old mid Done) c.id_bytes.ensures (c.in-Done.ensures.made tells) in
     let script = c.run_script.ensures in
-    let ends = script.ends tells in
-    drilled_made h c.args.start c.args.count c.args.now old mid c.run_script.new.host c.run_script.result made (c.in-Done.ensures.found tells).finds ends.0 ends.1 ends.2 c.requires.moment
+    drilled_made h c.args.start c.args.count c.args.now old mid c.run_script.new.host c.run_script.result made (c.in-Done.ensures.found tells).finds (script.ends tells) c.requires.moment
     (g.met.H.Host.read_is_image old Left tells) (g.met.H.Host.read_is_image old Right tells) (g.met.H.Host.read_is_image mid Left tells) (g.met.H.Host.read_is_image mid Right tells)
     (met_now h old mid (IsBelowMark h old) made.below (g.met.H.Host.counts_now mid) tells) (script.any_moment tells) (script.below tells)
 
@@ -31,12 +31,11 @@ returns-in-Done-clause-found g c tells =
     let old = c.args.host.now in
     let mid = c.init.new.host in
     let made = subst (λ (id : List ℕ). Made h id c.args.now old mid Done) c.id_bytes.ensures (c.in-Done.ensures.made tells) in
-    let ends = c.run_script.ensures.ends tells in
-    found_made h c.args.start c.args.count c.args.now old mid c.run_script.new.host c.run_script.result made (c.in-Done.ensures.found tells).finds ends.0 ends.1 ends.2
+    found_made h c.args.start c.args.count c.args.now old mid c.run_script.new.host c.run_script.result made (c.in-Done.ensures.found tells).finds (c.run_script.ensures.ends tells)
 
 pub returns-in-Done-clause-host_causes : goal.returns-in-Done-clause-host_causes
 returns-in-Done-clause-host_causes g c =
-    causes_behind g.H.Host c.args.host.now c.init.new.host c.run_script.new.host c.init.ensures.host_causes.disk_later (c.in-Done.ensures.host_causes.say_quiet (λ is. absurd cc)) (IsStatusOf c.run_script.result) c.run_script.ensures.host_causes
+    causes_behind g.H.Host c.args.host.now c.init.new.host c.run_script.new.host (c.in-Done.ensures.host_causes.disk_quiet (λ is. absurd cc)) (c.in-Done.ensures.host_causes.say_quiet (λ is. absurd cc)) (IsStatusOf c.run_script.result) c.run_script.ensures.host_causes
 
 pub returns-in_default-init-clause-drilled : goal.returns-in_default-init-clause-drilled
 returns-in_default-init-clause-drilled g c tells =
@@ -58,7 +57,7 @@ returns-in_default-clause-found g c tells =
     let old = c.args.host.now in
     record { finds = tt; judges = making_judges (h.reads old Left) (h.reads old Right) OutOfMemory tt; leaves = tt; quiet = λ found. no_more h old (λ l r u met. g.met.H.Host.only_now old l r u tells met) }
 
--- the store that was made is kept for its state, and its rows are spelled
+-- the store that was made is kept for its state, its rows are spelled on the left side, and the right one is closed
 pub run_script-requires-clause-made : goal.run_script-requires-clause-made
 run_script-requires-clause-made g c tells =
     let h = g.H.Host in
@@ -68,3 +67,14 @@ pub run_script-requires-clause-spelled : goal.run_script-requires-clause-spelled
 run_script-requires-clause-spelled g c tells =
     let h = g.H.Host in
     (subst (λ (id : List ℕ). Made h id c.args.now c.args.host.now c.init.new.host Done) c.id_bytes.ensures (c.in-Done.ensures.made tells)).spelled refl
+
+pub run_script-requires-clause-placed : goal.run_script-requires-clause-placed
+run_script-requires-clause-placed g c tells =
+    let h = g.H.Host in
+    (subst (λ (id : List ℕ). Made h id c.args.now c.args.host.now c.init.new.host Done) c.id_bytes.ensures (c.in-Done.ensures.made tells)).placed refl
+
+pub run_script-requires-clause-whole : goal.run_script-requires-clause-whole
+run_script-requires-clause-whole g c tells =
+    let h = g.H.Host in
+    let mid = c.init.new.host in
+    closed_cost (h.reads mid Left) (h.reads mid Right) _ ((c.in-Done.ensures.made tells).closed refl)

@@ -8,7 +8,7 @@ use Rattle.client_core.proofs.Holding.{open_said, gate_said}
 use Rattle.session_run.specs.Writes.{IsBelowMark}
 use Rattle.session_run.specs.declared.faults.RunFault.TheVariants.{DiskFault, SayFault}
 use Rattle.session_run.proofs.Answering.{written_met, line_met}
-use Rattle.session_run.proofs.Causing.{unsaid_causes}
+use Rattle.session_run.proofs.Causing.{unwritten_causes, unsaid_causes}
 use Rattle.session_run.proofs.Ending.{written_ends, said_ends}
 use Rattle.session_run.proofs.Undone.{err_ok}
 use Rattle.session_run.proofs.Outcomes.{err_cost}
@@ -37,6 +37,11 @@ returns-in_err-commit-clause-stays_open g c tells = record {
   gate_made = err_ok _ c.from_residual.result DiskFault c.from_residual.ensures.1;
   below = below_of g.H.Host c.args.host.now c.commit.new.host (c.commit.ensures.below tells);
 }
+
+pub returns-in_err-commit-clause-host_causes : goal.returns-in_err-commit-clause-host_causes
+returns-in_err-commit-clause-host_causes g c =
+    let commit = c.commit.ensures in
+    unwritten_causes g.H.Host c.args.host.now c.commit.new.host commit.cause.later c.in_err-commit.ensures.cause.failed commit.say_faults c.from_residual.result c.from_residual.ensures.1
 
 -- ---- the output has failed
 
@@ -79,7 +84,7 @@ returns-in_err-say_answer-clause-stays_open g c tells =
 pub returns-in_err-say_answer-clause-host_causes : goal.returns-in_err-say_answer-clause-host_causes
 returns-in_err-say_answer-clause-host_causes g c =
     let said = c.in_err-say_answer.ensures in
-    unsaid_causes g.H.Host c.args.host.now c.say_answer.new.host (omega (arith, c.commit.ensures.cause.later, said.disk_faults)) (omega (arith, c.commit.ensures.say_faults, said.cause.later)) (omega (arith, c.commit.ensures.say_faults, said.cause.failed))
+    unsaid_causes g.H.Host c.args.host.now c.say_answer.new.host (said.disk_faults ∙ c.in_ok-commit.ensures.disk_quiet) (omega (arith, c.commit.ensures.say_faults, said.cause.later)) (omega (arith, c.commit.ensures.say_faults, said.cause.failed))
     c.from_residual-in_err-say_answer.result c.from_residual-in_err-say_answer.ensures.1
 
 -- ---- the line is done and answered

@@ -62,7 +62,7 @@ returns-in_err-say_answer-clause-stays_open g c tells = record {
 pub returns-in_err-say_answer-clause-host_causes : goal.returns-in_err-say_answer-clause-host_causes
 returns-in_err-say_answer-clause-host_causes g c =
     let said = c.in_err-say_answer.ensures in
-    unsaid_causes g.H.Host c.args.host.now c.say_answer.new.host (omega (arith, said.disk_faults)) said.cause.later said.cause.failed c.from_residual-in_err-say_answer.result c.from_residual-in_err-say_answer.ensures.1
+    unsaid_causes g.H.Host c.args.host.now c.say_answer.new.host said.disk_faults said.cause.later said.cause.failed c.from_residual-in_err-say_answer.result c.from_residual-in_err-say_answer.ensures.1
 
 -- ---- the line is answered
 

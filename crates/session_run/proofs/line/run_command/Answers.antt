@@ -1,5 +1,6 @@
 -- The step that is prepared is the command's, and it is committed and answered.
-use Rattle.std.proofs.Common.{◌≡◌, List, [], ℕ, ◌∙◌, ap, subst, sym, OnOk}
+use Rattle.std.proofs.Common.{◌≡◌, List, [], ℕ, ◌∙◌, ap, subst, sym, Result, Err, OnOk}
+use Rattle.std.specs.Prelude.{IsErrOf}
 use Rattle.client_state.specs.declared.client_state.ClientState.{ClientState}
 use Rattle.client_steps.specs.declared.session.Session.{Session}
 use Rattle.client_core.specs.Clients.{state_of, session_of, end_of, step_of}
@@ -8,9 +9,13 @@ use Rattle.client_core.specs.Prepared.{next_state}
 use Rattle.client_steps.specs.Settings.{setting}
 use Rattle.client_core.proofs.Holding.{open_again, gate_again, end_again}
 use Rattle.client_words.specs.Answers.{answer_lines}
+use Rattle.session_run.specs.declared.faults.RunFault.{RunFault}
 use Rattle.session_run.specs.declared.faults.RunFault.TheVariants.{OutOfMemory}
+use Rattle.session_run.specs.FaultCauses.{HasShelfCauses}
 use Rattle.session_run.specs.Lines.{LineRan}
 use Rattle.session_run.specs.Statuses.{of_step}
+use Rattle.session_run.proofs.Causing.{unfailed_causes, unprepared_causes}
+use Rattle.session_run.proofs.Ending.{err_is}
 use Rattle.session_run.proofs.Undone.{undone_ran, undone_open, ran_again}
 use Rattle.session_run.proofs.Outcomes.{on_ok, both_ok, unprepared_ends, unanswered_ends}
 use Rattle.session_run.proofs.line.run_command.Goals as goal
@@ -40,6 +45,14 @@ returns-in_err-prepared-clause-somehow g c tells =
       ),
     )
 
+pub returns-in_err-prepared-clause-shelf_causes : goal.returns-in_err-prepared-clause-shelf_causes
+returns-in_err-prepared-clause-shelf_causes g c =
+    let f = g.F.Shelf in
+    let fault = c.in_err-prepared.field-0.0 in
+    let failed = c.in_err-prepared.ensures in
+    subst (λ (r : Result (Unit {0}) RunFault). HasShelfCauses f (IsErrOf r) c.args.shelf.now c.prepare.new.shelf) (sym (err_is c.from_residual.result (of_step fault) c.from_residual.ensures.1))
+    (unprepared_causes f fault c.args.shelf.now c.prepare.new.shelf failed.cause failed.quiet failed.faults failed.files)
+
 pub returns-in_err-prepared-clause-stays_open : goal.returns-in_err-prepared-clause-stays_open
 returns-in_err-prepared-clause-stays_open g c tells =
     let start = c.args.host.now in
@@ -67,6 +80,14 @@ returns-in_err-text-clause-somehow g c tells =
       ([], undone_ran h client start (λ l r u met. g.met.H.Host.only_now start l r u tells met) result OutOfMemory and (c.requires.holds tells) (state_of client) [] (λ kept. unanswered_ends h start (state_of client) _ _ kept result and)),
     )
 
+pub returns-in_err-text-clause-shelf_causes : goal.returns-in_err-text-clause-shelf_causes
+returns-in_err-text-clause-shelf_causes g c =
+    let f = g.F.Shelf in
+    let new = c.prepare.new.shelf in
+    let done = c.in_ok-prepared.ensures in
+    subst (λ (r : Result (Unit {0}) RunFault). HasShelfCauses f (IsErrOf r) c.args.shelf.now new) (sym (err_is c.from_residual-in_err-text.result OutOfMemory c.from_residual-in_err-text.ensures.1))
+    (unfailed_causes f (IsErrOf {T = Unit {0}} (Err OutOfMemory)) c.args.shelf.now new (λ is. absurd cc) (done.quiet (λ is. absurd cc)) done.files)
+
 pub returns-in_err-text-clause-stays_open : goal.returns-in_err-text-clause-stays_open
 returns-in_err-text-clause-stays_open g c tells =
     let start = c.args.host.now in
@@ -90,6 +111,11 @@ returns-clause-ran g c shelf_tells tells =
     subst (λ (text : List ℕ). LineRan h old to.state text start new c.commit.result) words
     (subst (λ (t : ClientState). LineRan h old t c.as_str.result.now start new c.commit.result) leads.state
     (ran_again h old fresh c.in_ok-prepared.ensures.same (next_state fresh c.in_ok-prepared.prepared) c.as_str.result.now start new c.commit.result (c.commit.ensures.ran tells)))
+
+pub returns-clause-shelf_causes : goal.returns-clause-shelf_causes
+returns-clause-shelf_causes g c =
+    let done = c.in_ok-prepared.ensures in
+    unfailed_causes g.F.Shelf (IsErrOf c.commit.result) c.args.shelf.now c.prepare.new.shelf c.commit.ensures.only.0 (done.quiet (λ is. absurd cc)) done.files
 
 pub returns-clause-somehow : goal.returns-clause-somehow
 returns-clause-somehow g c tells =

@@ -13,13 +13,13 @@ use Rattle.session_run.specs.declared.faults.RunFault.{RunFault}
 use Rattle.client_words.specs.Commands.{bytes_at}
 use Rattle.session_run.specs.Places.{all_bytes}
 use Rattle.session_run.specs.Steps.{RunState, run_of, begun, after, out}
-use Rattle.session_run.specs.FaultCauses.{HasHostCauses}
+use Rattle.session_run.specs.FaultCauses.{HasHostCauses, HasShelfCauses}
 use Rattle.session_run.specs.Files.{LinesAsked}
 use Rattle.session_run.specs.Moments.{AfterPrefix}
 use Rattle.session_run.specs.Runs.{LinesRan}
 use Rattle.session_run.specs.Writes.{IsBelowMark}
 use Rattle.session_run.proofs.Asking.{none_asked, asked_more, asked_all}
-use Rattle.session_run.proofs.Causing.{causes_behind}
+use Rattle.session_run.proofs.Causing.{causes_behind, shelf_behind}
 use Rattle.session_run.proofs.Ending.{err_is}
 use Rattle.session_run.proofs.Linking.{keeps_ended, keeps_done}
 use Rattle.session_run.proofs.Lining.{state_more, said_more, place_more, cost_more, most_more, changes_here, met_more, ends_more}
@@ -52,8 +52,8 @@ loop-span-init g c =
       cost = λ shelf_tells tells. omega arith;
       below = λ tells. below_unwritten h start (λ l r u met. g.met.H.Host.only_now start l r u tells met);
       below_now = λ tells. at_each h start start;
-      shelf_faults = omega arith;
-      disk_faults = omega arith;
+      shelf_faults = refl;
+      disk_faults = refl;
       say_faults = refl;
     }
 
@@ -82,7 +82,7 @@ returns-in_err-run_line-clause-ran g c shelf_tells tells =
       moments = λ gate. met_more at _ same s lines i line within more (run_of c.loop-span.client) (inv.state shelf_tells) h c.args.host.now c.loop-span.host new (inv.said shelf_tells tells) place written (inv.any_moment shelf_tells tells gate)
           ((c.run_line.ensures.ran shelf_tells tells).moments (inv.gate tells gate));
       ends = λ gate. ends_more at _ same s lines i line within more (run_of c.loop-span.client) (inv.state shelf_tells) h c.args.host.now c.loop-span.host new (inv.said shelf_tells tells) (LinesAsked g.F.Shelf c.args.shelf.now c.run_line.new.shelf) place written fault
-          (asked_more g.F.Shelf c.args.shelf.now c.loop-span.shelf c.run_line.new.shelf lines i line more inv.asked c.run_line.ensures.asked)
+          (asked_more g.F.Shelf c.args.shelf.now c.loop-span.shelf c.run_line.new.shelf lines i line more inv.files inv.asked c.run_line.ensures.asked)
           (most_more at _ same s lines i line within more (run_of c.loop-span.client) (inv.state shelf_tells) place (end_of c.loop-span.client) written (h.written c.loop-span.host) (h.written new) (inv.place shelf_tells) (inv.cost shelf_tells tells) (c.run_line.ensures.ran shelf_tells tells).cost.most) there
           (λ is. c.in_err-run_line.ensures.named (ap Err is)) ((c.in_err-run_line.ensures.ran shelf_tells tells).ends (inv.gate tells gate));
       images = tt;
@@ -116,7 +116,7 @@ loop-span-preserved g c =
     record {
       holds = λ tells. (done.stays_open tells).holds;
       files = λ tells name. done.shelf_causes.files tells name ∙ inv.files tells name;
-      asked = asked_more g.F.Shelf c.args.shelf.now c.loop-span.shelf c.run_line.new.shelf lines i line more inv.asked done.asked;
+      asked = asked_more g.F.Shelf c.args.shelf.now c.loop-span.shelf c.run_line.new.shelf lines i line more inv.files inv.asked done.asked;
       state = λ tells. state_more at here (same tells) s lines i line within more now (inv.state tells) next (done.state tells);
       said = λ shelf_tells tells. said_more at here (same shelf_tells) s lines i line within more now (inv.state shelf_tells) (h.said c.loop-span.host) (h.said c.args.host.now) (h.said new) (inv.said shelf_tells tells) (done.ran shelf_tells tells).said;
       gate = λ tells gate. (done.stays_open tells).gate (inv.gate tells gate);
@@ -131,8 +131,8 @@ loop-span-preserved g c =
           (inv.place shelf_tells) (inv.cost shelf_tells tells) (done.ran shelf_tells tells).cost.exact;
       below = λ tells. below_all tells;
       below_now = λ tells. met_now h c.args.host.now new (IsBelowMark h c.args.host.now) (below_all tells) (g.met.H.Host.counts_now new) tells;
-      shelf_faults = omega (arith, inv.shelf_faults, done.shelf_causes.later);
-      disk_faults = omega (arith, inv.disk_faults, done.host_causes.disk_later);
+      shelf_faults = done.shelf_causes.quiet (λ is. absurd cc) ∙ inv.shelf_faults;
+      disk_faults = done.host_causes.disk_quiet (λ is. absurd cc) ∙ inv.disk_faults;
       say_faults = done.host_causes.say_quiet (λ is. absurd cc) ∙ inv.say_faults;
     }
 
@@ -172,6 +172,14 @@ returns-in_err-run_line-clause-host_causes g c =
     subst (λ (r : Result (Unit {0}) RunFault). HasHostCauses h (IsErrOf r) c.args.host.now new) (sym (err_is c.from_residual.result fault c.from_residual.ensures.1))
     (causes_behind h c.args.host.now c.loop-span.host new inv.disk_faults inv.say_faults (IsErrOf {T = Unit {0}} (Err fault)) c.in_err-run_line.ensures.host_causes)
 
+pub returns-in_err-run_line-clause-shelf_causes : goal.returns-in_err-run_line-clause-shelf_causes
+returns-in_err-run_line-clause-shelf_causes g c =
+    let f = g.F.Shelf in
+    let inv = c.loop-span.invariant in
+    let fault = c.in_err-run_line.field-0.0 in
+    subst (λ (r : Result (Unit {0}) RunFault). HasShelfCauses f (IsErrOf r) c.args.shelf.now c.run_line.new.shelf) (sym (err_is c.from_residual.result fault c.from_residual.ensures.1))
+    (shelf_behind f (IsErrOf {T = Unit {0}} (Err fault)) c.args.shelf.now c.loop-span.shelf c.run_line.new.shelf inv.shelf_faults inv.files c.in_err-run_line.ensures.shelf_causes)
+
 -- ---- what is kept
 
 pub returns-in_err-run_line-clause-later : goal.returns-in_err-run_line-clause-later
@@ -198,7 +206,7 @@ returns-in_err-run_line-clause-asked g c =
     let i = c.loop-span.span-index in
     let line = c.bytes_at-line.result.now in
     let more = line_more script spans i _ line c.loop-span-test.true c.bytes_at-line.ensures in
-    asked_all f c.args.shelf.now c.run_line.new.shelf (i + 1) lines (asked_more f c.args.shelf.now c.loop-span.shelf c.run_line.new.shelf lines i line more c.loop-span.invariant.asked c.run_line.ensures.asked)
+    asked_all f c.args.shelf.now c.run_line.new.shelf (i + 1) lines (asked_more f c.args.shelf.now c.loop-span.shelf c.run_line.new.shelf lines i line more c.loop-span.invariant.files c.loop-span.invariant.asked c.run_line.ensures.asked)
 
 pub returns-clause-asked : goal.returns-clause-asked
 returns-clause-asked g c =

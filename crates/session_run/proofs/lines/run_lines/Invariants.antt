@@ -34,7 +34,7 @@ invariant-loop-span g l =
       cost : f.tells → h.tells → h.written l.host ≡ h.written l.fn.host + all_bytes at (end_of l.fn.client) (begun s) (take i lines);
       below : h.tells → MeetsAll h l.fn.host l.host (IsBelowMark h l.fn.host);
       below_now : h.tells → (left right : List ℕ) → h.images l.host Left left → h.images l.host Right right → IsBelowMark h l.fn.host left right (h.said l.host);
-      shelf_faults : f.faults l.fn.shelf ≤ f.faults l.shelf;
-      disk_faults : h.disk_faults l.fn.host ≤ h.disk_faults l.host;
+      shelf_faults : f.faults l.shelf ≡ f.faults l.fn.shelf;
+      disk_faults : h.disk_faults l.host ≡ h.disk_faults l.fn.host;
       say_faults : h.say_faults l.host ≡ h.say_faults l.fn.host;
     }

@@ -3,6 +3,7 @@ use Rattle.std.proofs.Common.{◌≡◌, ◌≤◌, ◌+◌, List, ℕ, ◌++◌
 use Rattle.host_model.specs.declared.side.Side.TheVariants.{Left, Right}
 use Rattle.host_model.specs.Hosts.{NowOf}
 use Rattle.host_model.proofs.Meeting.{started, met_weaker}
+use Rattle.client_store.specs.declared.faults.MakeFault.TheVariants.{DiskFault}
 use Rattle.client_store.specs.NewStates.{fresh}
 use Rattle.client_store.specs.Moments.{IsLeftAmong}
 use Rattle.client_store.specs.Places.{making_bytes}
@@ -15,7 +16,7 @@ use Rattle.session_run.specs.Statuses.{of_making, IsOfMaking}
 use Rattle.session_run.specs.declared.status.RunStatus.TheVariants.{Done, SayFault, OutOfMemory}
 use Rattle.session_run.specs.Writes.{IsBelowMark}
 use Rattle.session_run.proofs.Belonging.{making_is_of, making_leaves, making_finds, making_not_done, making_memory, making_never}
-use Rattle.session_run.proofs.Causing.{done_causes, said_causes, making_causes_of}
+use Rattle.session_run.proofs.Causing.{make_fault_is, done_causes, said_causes, making_causes_of}
 use Rattle.session_run.proofs.Judging.{making_judges}
 use Rattle.session_run.proofs.MadeStores.{IsMade, made_said}
 use Rattle.session_run.proofs.Writing.{met_now, below_of, below_then, below_saying, below_unwritten, no_more}
@@ -33,7 +34,7 @@ returns-in-Ok-say-clause-made g c tells =
     let absent = make.finds tells in
     let is_ready : c.as_bytes.result.now ≡ ready c.args.id = c.as_bytes.ensures.value ∙ c.as_str.ensures.text ∙ c.in-Ok.ensures in
     let below = below_of h old mid (make.below tells) in
-    let made = subst (λ (id : List ℕ). IsMade h old mid id c.args.now) c.from_bytes.ensures (record { kept = make.made tells; spelled = make.spelled tells; cost = (make.cost tells absent).exact }) in
+    let made = subst (λ (id : List ℕ). IsMade h old mid id c.args.now) c.from_bytes.ensures (record { kept = make.made tells; spelled = make.spelled tells; placed = make.place tells; closed = make.right tells; cost = (make.cost tells absent).exact }) in
     made_said h old mid new c.args.id c.as_bytes.result.now c.args.now is_ready absent (g.met.H.Host.read_is_image old Left tells) (g.met.H.Host.read_is_image old Right tells) made (make.any_moment tells) (make.text tells)
     (c.say.ensures.still tells) (c.say.ensures.cost tells) (c.say.ensures.time tells)
     (below_then h old mid new (g.met.H.Host.read_is_image mid Left tells) (g.met.H.Host.read_is_image mid Right tells) below
@@ -55,7 +56,7 @@ returns-in-Ok-make-clause-made g c tells =
     let absent = make.finds tells in
     let is_ready : c.as_bytes.result.now ≡ ready c.args.id = c.as_bytes.ensures.value ∙ c.as_str.ensures.text ∙ c.in-Ok.ensures in
     let below = below_of h old mid (make.below tells) in
-    let made = subst (λ (id : List ℕ). IsMade h old mid id c.args.now) c.from_bytes.ensures (record { kept = make.made tells; spelled = make.spelled tells; cost = (make.cost tells absent).exact }) in
+    let made = subst (λ (id : List ℕ). IsMade h old mid id c.args.now) c.from_bytes.ensures (record { kept = make.made tells; spelled = make.spelled tells; placed = make.place tells; closed = make.right tells; cost = (make.cost tells absent).exact }) in
     let part = c.in-Err-say.ensures.said_part tells in
     made_said h old mid new c.args.id c.as_bytes.result.now c.args.now is_ready absent (g.met.H.Host.read_is_image old Left tells) (g.met.H.Host.read_is_image old Right tells) made (make.any_moment tells) (make.text tells)
     (c.say.ensures.still tells) (c.say.ensures.cost tells) (c.say.ensures.time tells)
@@ -100,6 +101,8 @@ returns-clause-made g c tells =
           let wanting = ap Err (making_memory fault is) in
           record { moments = c.in-Err.ensures.memory wanting tells; text = made.text tells; most = c.in-Err.ensures.memory_cost wanting tells };
       spelled = λ is. absurd (making_never fault is);
+      placed = λ is. absurd (making_never fault is);
+      closed = λ is. absurd (making_never fault is);
       cost = λ is. absurd (making_never fault is);
       most = λ absent. subst (λ (id : List ℕ). h.written new ≤ h.written old + making_bytes (fresh id c.args.now)) c.from_bytes.ensures (made.cost tells absent).most;
       below = below_of h old new (made.below tells);
@@ -130,6 +133,8 @@ returns-in_default-clause-made g c tells =
       left = λ states all. met_weaker h.moment h.might old old _ (IsLeftAmong (h.said old) states) none (λ l r u met. (all l r met.0 met.1, met.2));
       memory = λ is. no_more h old (λ l r u met. g.met.H.Host.only_now old l r u tells met);
       spelled = λ is. absurd cc;
+      placed = λ is. absurd cc;
+      closed = λ is. absurd cc;
       cost = λ is. absurd cc;
       most = λ absent. omega arith;
       below = below_unwritten h old (λ l r u met. g.met.H.Host.only_now old l r u tells met);
@@ -145,14 +150,15 @@ returns-in_default-clause-found g c tells =
 
 pub returns-in-Ok-say-clause-host_causes : goal.returns-in-Ok-say-clause-host_causes
 returns-in-Ok-say-clause-host_causes g c =
-    done_causes g.H.Host c.args.host.now c.say.new.self (omega (arith, c.make.ensures.disk_faults, c.say.ensures.disk_faults)) (c.in-Ok-say.ensures.quiet ∙ c.make.ensures.say_faults)
+    done_causes g.H.Host c.args.host.now c.say.new.self (c.say.ensures.disk_faults ∙ c.in-Ok-make.ensures.disk_quiet (λ is. absurd cc)) (c.in-Ok-say.ensures.quiet ∙ c.make.ensures.say_faults)
 
 pub returns-in-Ok-make-clause-host_causes : goal.returns-in-Ok-make-clause-host_causes
 returns-in-Ok-make-clause-host_causes g c =
-    said_causes g.H.Host c.args.host.now c.say.new.self (omega (arith, c.make.ensures.disk_faults, c.say.ensures.disk_faults)) (omega (arith, c.make.ensures.say_faults, c.say.ensures.cause.later))
+    said_causes g.H.Host c.args.host.now c.say.new.self (c.say.ensures.disk_faults ∙ c.in-Ok-make.ensures.disk_quiet (λ is. absurd cc)) (omega (arith, c.make.ensures.say_faults, c.say.ensures.cause.later))
     (omega (arith, c.make.ensures.say_faults, c.in-Err-say.ensures.cause.failed))
 
 pub returns-clause-host_causes : goal.returns-clause-host_causes
 returns-clause-host_causes g c =
     subst (λ (status : RunStatus). HasHostCauses g.H.Host (IsStatusOf status) c.args.host.now c.make.new.host) (sym c.into.ensures)
-    (making_causes_of g.H.Host c.args.host.now c.make.new.host c.make.ensures.disk_faults c.make.ensures.say_faults c.in-Err.fault (λ is. c.in-Err.ensures.cause (ap Err is)))
+    (making_causes_of g.H.Host c.args.host.now c.make.new.host c.make.ensures.disk_faults c.make.ensures.say_faults c.in-Err.fault (λ is. c.in-Err.ensures.cause (ap Err is))
+    (λ other. c.in-Err.ensures.disk_quiet (λ is. other (make_fault_is c.in-Err.fault DiskFault is))))

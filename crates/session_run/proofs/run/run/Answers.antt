@@ -1,6 +1,8 @@
 -- A script is read, and run against the store.
 use Rattle.std.proofs.Common.{◌≡◌, inl, inr, List, ℕ, length, sym, ◌∙◌, ap, subst, arith}
 use Rattle.host_model.specs.declared.side.Side.TheVariants.{Left, Right}
+use Rattle.host_model.specs.Hosts.{NowOf}
+use Rattle.host_model.proofs.Meeting.{started}
 use Rattle.client_words.specs.Commands.{lines_of}
 use Rattle.session_run.specs.declared.status.RunStatus.{RunStatus}
 use Rattle.session_run.specs.Causes.{OpensNone}
@@ -12,8 +14,8 @@ use Rattle.session_run.specs.Runs.{Ran}
 use Rattle.session_run.specs.Starts.{opened_on}
 use Rattle.session_run.specs.Statuses.{of_script, IsOfLines, IsOfRun}
 use Rattle.session_run.proofs.Asking.{none_asked, lines_unasked}
-use Rattle.session_run.proofs.Belonging.{run_is_of, script_is_of, script_source, script_not_done, script_finds, script_leaves}
-use Rattle.session_run.proofs.Ending.{script_before}
+use Rattle.session_run.proofs.Belonging.{run_is_of, script_is_of, script_source, script_finds, script_leaves}
+use Rattle.session_run.proofs.Ending.{script_early}
 use Rattle.session_run.proofs.Judging.{run_judges}
 use Rattle.session_run.proofs.Linking.{goes_on_as}
 use Rattle.session_run.proofs.Opened.{ran_unreached}
@@ -88,7 +90,7 @@ returns-in-Err-clause-ran g c source_tells shelf_tells tells =
     let fault = c.in-Err.fault in
     subst (Ran h (LinesAsked g.F.Shelf c.args.shelf.now c.args.shelf.now) (opened_on g.F.Shelf h c.args.now c.args.shelf.now old lines) old old) (sym c.into.ensures)
     (ran_unreached g.F.Shelf h (LinesAsked g.F.Shelf c.args.shelf.now c.args.shelf.now) c.args.now c.requires.moment c.args.shelf.now old lines (g.met.H.Host.read_is_image old Left tells) (g.met.H.Host.read_is_image old Right tells)
-    (none_asked g.F.Shelf c.args.shelf.now) (of_script fault) (λ l r u met. g.met.H.Host.only_now old l r u tells met) (script_before fault) (script_not_done fault))
+    tells g.met.H.Host.counts_now (none_asked g.F.Shelf c.args.shelf.now) (of_script fault) (script_early h old fault) (started h.moment h.might old (NowOf h old) (λ l r u met. g.met.H.Host.only_now old l r u tells met)))
 
 pub returns-in-Err-clause-asked : goal.returns-in-Err-clause-asked
 returns-in-Err-clause-asked g c source_tells = lines_unasked g.F.Shelf (lines_of (g.S.Source.left c.args.source.now)) c.args.shelf.now

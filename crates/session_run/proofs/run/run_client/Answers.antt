@@ -1,7 +1,10 @@
 -- A store is opened, and its lines are done.
-use Rattle.std.proofs.Common.{◌≡◌, inr, List, ℕ, All, Ok, Err, length, map, refl, sym, ap, ◌∙◌, subst, arith}
+use Rattle.std.proofs.Common.{◌≡◌, List, ℕ, All, Ok, Err, length, map, refl, sym, ap, ◌∙◌, subst}
 use Rattle.host_model.specs.declared.side.Side.TheVariants.{Left, Right}
+use Rattle.host_model.specs.Hosts.{NowOf}
+use Rattle.host_model.proofs.Meeting.{started}
 use Rattle.client_core.specs.Clients.{state_of, end_of}
+use Rattle.client_store.specs.declared.faults.ClientFault.TheVariants as opening
 use Rattle.client_store.specs.Moments.{IsLeftAmong}
 use Rattle.client_steps.specs.Settings.{setting}
 use Rattle.client_store.specs.Store.{IsStore}
@@ -22,10 +25,10 @@ use Rattle.session_run.specs.Runs.{Ran}
 use Rattle.session_run.specs.Starts.{Start, opened_on, last_state}
 use Rattle.session_run.specs.Statuses.{of_store, of_run, IsOfLines}
 use Rattle.session_run.specs.Writes.{IsBelowMark}
-use Rattle.session_run.proofs.Opened.{unopened_before, store_not_done, run_finds, unopened_leaves, unopened_in, lines_find, lines_leave, ran_unbegun, ran_unreached, ran_opened}
+use Rattle.session_run.proofs.Opened.{run_finds, unopened_leaves, lines_find, lines_leave, ran_unreached, ran_unopened, ran_opened}
 use Rattle.session_run.proofs.Asking.{none_asked, lines_unasked}
 use Rattle.session_run.proofs.Belonging.{lines_are_of, lines_open, store_is_of}
-use Rattle.session_run.proofs.Causing.{unopened_causes, shelf_causes_of, host_causes_of, done_causes, opening_causes}
+use Rattle.session_run.proofs.Causing.{store_fault_is, unfailed_causes, unopened_causes, shelf_causes_of, host_causes_of, done_causes, opening_causes}
 use Rattle.session_run.proofs.Judging.{run_judges}
 use Rattle.session_run.proofs.Linking.{goes_on_from, goes_on_as}
 use Rattle.session_run.proofs.Starting.{same_start}
@@ -47,7 +50,7 @@ returns-in-Ok-run_lines-clause-ran g c shelf_tells tells =
     let client = c.in-Ok-open.client in
     let lines = map (bytes_at script) c.as_slice.result.now in
     let lines_are : lines ≡ lines_of script = lines_at script c.as_slice.result.now (c.as_slice.ensures ∙ c.in-Ok.ensures) in
-    ran_opened g.F.Shelf h (LinesAsked g.F.Shelf c.args.shelf.now c.run_lines.new.shelf) c.args.now c.requires.moment c.args.shelf.now old (lines_of script) (g.met.H.Host.read_is_image old Left tells) (g.met.H.Host.read_is_image old Right tells) mid new client (opened.phases tells) (opened.ends tells) (opened.text tells)
+    ran_opened g.F.Shelf h (LinesAsked g.F.Shelf c.args.shelf.now c.run_lines.new.shelf) c.args.now c.requires.moment c.args.shelf.now old (lines_of script) (g.met.H.Host.read_is_image old Left tells) (g.met.H.Host.read_is_image old Right tells) tells g.met.H.Host.counts_now mid new client (opened.phases tells) (opened.ends tells) (opened.text tells)
     lines lines_are (Ok c.in-Ok-run_lines.field-0) (c.in-Ok-run_lines.ensures.ran shelf_tells tells)
     (g.met.H.Host.read_is_image new Left tells) (g.met.H.Host.read_is_image new Right tells)
 
@@ -63,7 +66,7 @@ returns-in-Ok-open-clause-ran g c shelf_tells tells =
     let lines = map (bytes_at script) c.as_slice.result.now in
     let lines_are : lines ≡ lines_of script = lines_at script c.as_slice.result.now (c.as_slice.ensures ∙ c.in-Ok.ensures) in
     subst (Ran h (LinesAsked g.F.Shelf c.args.shelf.now c.run_lines.new.shelf) (opened_on g.F.Shelf h c.args.now c.args.shelf.now old (lines_of script)) old new) (sym c.into.ensures)
-    (ran_opened g.F.Shelf h (LinesAsked g.F.Shelf c.args.shelf.now c.run_lines.new.shelf) c.args.now c.requires.moment c.args.shelf.now old (lines_of script) (g.met.H.Host.read_is_image old Left tells) (g.met.H.Host.read_is_image old Right tells) mid new client (opened.phases tells) (opened.ends tells) (opened.text tells)
+    (ran_opened g.F.Shelf h (LinesAsked g.F.Shelf c.args.shelf.now c.run_lines.new.shelf) c.args.now c.requires.moment c.args.shelf.now old (lines_of script) (g.met.H.Host.read_is_image old Left tells) (g.met.H.Host.read_is_image old Right tells) tells g.met.H.Host.counts_now mid new client (opened.phases tells) (opened.ends tells) (opened.text tells)
     lines lines_are (Err c.in-Err-run_lines.fault) (c.in-Err-run_lines.ensures.ran shelf_tells tells)
     (g.met.H.Host.read_is_image new Left tells) (g.met.H.Host.read_is_image new Right tells))
 
@@ -73,7 +76,7 @@ returns-in_default-clause-ran g c shelf_tells tells =
     let h = g.H.Host in
     let old = c.args.host.now in
     ran_unreached g.F.Shelf h (LinesAsked g.F.Shelf c.args.shelf.now c.args.shelf.now) c.args.now c.requires.moment c.args.shelf.now old (lines_of c.args.script.now) (g.met.H.Host.read_is_image old Left tells) (g.met.H.Host.read_is_image old Right tells)
-    (none_asked g.F.Shelf c.args.shelf.now) OutOfMemory (λ l r u met. g.met.H.Host.only_now old l r u tells met) (inr (inr (inr refl))) (λ is. absurd cc)
+    tells g.met.H.Host.counts_now (none_asked g.F.Shelf c.args.shelf.now) OutOfMemory refl (started h.moment h.might old (NowOf h old) (λ l r u met. g.met.H.Host.only_now old l r u tells met))
 
 pub returns-in_default-clause-found : goal.returns-in_default-clause-found
 returns-in_default-clause-found g c tells =
@@ -93,12 +96,10 @@ returns-clause-ran g c shelf_tells tells =
     let new = c.open.new.host in
     let script = c.args.script.now in
     let fault = c.in-Err.fault in
-    let opening = c.open.ensures in
     subst (Ran h (LinesAsked g.F.Shelf c.args.shelf.now c.args.shelf.now) (opened_on g.F.Shelf h c.args.now c.args.shelf.now old (lines_of script)) old new) (sym c.into-in-Err.ensures)
-    (ran_unbegun g.F.Shelf h (LinesAsked g.F.Shelf c.args.shelf.now c.args.shelf.now) c.args.now c.requires.moment c.args.shelf.now old (lines_of script) (g.met.H.Host.read_is_image old Left tells) (g.met.H.Host.read_is_image old Right tells) new (of_store fault)
-    (unopened_in h old new fault (c.in-Err.ensures.phases tells)) (unopened_before (h.reads old Left) (h.reads old Right) fault (c.in-Err.ensures.ends tells).finds)
-    (none_asked g.F.Shelf c.args.shelf.now) (λ states all l r left right. (met_now h old new (IsLeftAmong (h.said old) states) (opening.left tells states all) (g.met.H.Host.counts_now new) tells l r left right).0)
-    (opening.text tells) (c.in-Err.ensures.ends tells).most (store_not_done fault))
+    (ran_unopened g.F.Shelf h (LinesAsked g.F.Shelf c.args.shelf.now c.args.shelf.now) c.args.now c.requires.moment c.args.shelf.now old (lines_of script) (g.met.H.Host.read_is_image old Left tells) (g.met.H.Host.read_is_image old Right tells)
+    tells g.met.H.Host.counts_now new fault (c.in-Err.ensures.phases tells) (c.in-Err.ensures.ends tells).finds (c.open.ensures.text tells)
+    (started h.moment h.might new (NowOf h new) (λ l r u met. g.met.H.Host.only_now new l r u tells met)) (none_asked g.F.Shelf c.args.shelf.now) (c.in-Err.ensures.ends tells).most)
 
 pub returns-in-Ok-run_lines-clause-state : goal.returns-in-Ok-run_lines-clause-state
 returns-in-Ok-run_lines-clause-state g c shelf_tells tells s stands =
@@ -257,7 +258,12 @@ returns-in-Ok-open-clause-not_done g c is =
 pub returns-in-Ok-run_lines-clause-host_causes : goal.returns-in-Ok-run_lines-clause-host_causes
 returns-in-Ok-run_lines-clause-host_causes g c =
     let causes = c.in-Ok-run_lines.ensures.host_causes in
-    done_causes g.H.Host c.args.host.now c.run_lines.new.host (omega (arith, c.open.ensures.disk_faults, causes.disk_later)) (causes.say_quiet (λ is. absurd cc) ∙ c.open.ensures.say_faults)
+    done_causes g.H.Host c.args.host.now c.run_lines.new.host (causes.disk_quiet (λ is. absurd cc) ∙ c.in-Ok-open.ensures.disk_quiet (λ is. absurd cc)) (causes.say_quiet (λ is. absurd cc) ∙ c.open.ensures.say_faults)
+
+pub returns-in-Ok-run_lines-clause-shelf_causes : goal.returns-in-Ok-run_lines-clause-shelf_causes
+returns-in-Ok-run_lines-clause-shelf_causes g c =
+    let causes = c.in-Ok-run_lines.ensures.shelf_causes in
+    unfailed_causes g.F.Shelf (IsStatusOf Done) c.args.shelf.now c.run_lines.new.shelf (λ is. absurd cc) (causes.quiet (λ is. absurd cc)) causes.files
 
 pub returns-in-Ok-open-clause-shelf_causes : goal.returns-in-Ok-open-clause-shelf_causes
 returns-in-Ok-open-clause-shelf_causes g c =
@@ -267,7 +273,7 @@ returns-in-Ok-open-clause-shelf_causes g c =
 pub returns-in-Ok-open-clause-host_causes : goal.returns-in-Ok-open-clause-host_causes
 returns-in-Ok-open-clause-host_causes g c =
     subst (λ (status : RunStatus). HasHostCauses g.H.Host (IsStatusOf status) c.args.host.now c.run_lines.new.host) (sym c.into.ensures)
-    (host_causes_of g.H.Host c.args.host.now c.open.new.host c.run_lines.new.host c.open.ensures.disk_faults c.open.ensures.say_faults c.in-Err-run_lines.fault c.in-Err-run_lines.ensures.host_causes)
+    (host_causes_of g.H.Host c.args.host.now c.open.new.host c.run_lines.new.host (c.in-Ok-open.ensures.disk_quiet (λ is. absurd cc)) c.open.ensures.say_faults c.in-Err-run_lines.fault c.in-Err-run_lines.ensures.host_causes)
 
 pub returns-clause-shelf_causes : goal.returns-clause-shelf_causes
 returns-clause-shelf_causes g c =
@@ -276,4 +282,5 @@ returns-clause-shelf_causes g c =
 pub returns-clause-host_causes : goal.returns-clause-host_causes
 returns-clause-host_causes g c =
     subst (λ (status : RunStatus). HasHostCauses g.H.Host (IsStatusOf status) c.args.host.now c.open.new.host) (sym c.into-in-Err.ensures)
-    (opening_causes g.H.Host c.args.host.now c.open.new.host c.open.ensures.disk_faults c.open.ensures.say_faults c.in-Err.fault (λ is. c.in-Err.ensures.cause (ap Err is)))
+    (opening_causes g.H.Host c.args.host.now c.open.new.host c.open.ensures.disk_faults c.open.ensures.say_faults c.in-Err.fault (λ is. c.in-Err.ensures.cause (ap Err is))
+    (λ other. c.in-Err.ensures.disk_quiet (λ is. other (store_fault_is c.in-Err.fault opening.DiskFault is))))

@@ -1,5 +1,5 @@
 -- What was taken where it is too much.
-use Rattle.std.proofs.Common.{List, ℕ, ◌++◌, length, length-append, length-take, length-drop, append_assoc, sym, ◌∙◌, ap, arith}
+use Rattle.std.proofs.Common.{List, ℕ, ◌++◌, length-append, length-take, length-drop, append_assoc, sym, ◌∙◌, ap, arith}
 use Rattle.session_run.proofs.script.read_script.Goals as goal
 
 pub returns-then-bytes-room-clause-taken : goal.returns-then-bytes-room-clause-taken

@@ -36,6 +36,9 @@ returns-in-Ok-clause-phases g c tells = phases_in g.H.Host c.args.host.now c.ope
 pub returns-in-Ok-clause-left : goal.returns-in-Ok-clause-left
 returns-in-Ok-clause-left g c tells sound = c.in-Ok.ensures.left tells (λ is. absurd cc)
 
+pub returns-in-Ok-clause-disk_quiet : goal.returns-in-Ok-clause-disk_quiet
+returns-in-Ok-clause-disk_quiet g c sound = c.in-Ok.ensures.disk_quiet (λ is. absurd cc)
+
 pub returns-in-Err-clause-bad_store : goal.returns-in-Err-clause-bad_store
 returns-in-Err-clause-bad_store g c tells is =
     let bad = c.in-Err.ensures.bad_store tells (ap Err (bad_fault c.in-Err.fault _ c.from.ensures is)) in
@@ -49,3 +52,6 @@ returns-in-Err-clause-phases g c tells = phases_out g.H.Host c.args.host.now c.o
 
 pub returns-in-Err-clause-left : goal.returns-in-Err-clause-left
 returns-in-Err-clause-left g c tells sound = c.in-Err.ensures.left tells (λ is. sound (left_out c.in-Err.fault _ c.from.ensures is))
+
+pub returns-in-Err-clause-disk_quiet : goal.returns-in-Err-clause-disk_quiet
+returns-in-Err-clause-disk_quiet g c sound = c.in-Err.ensures.disk_quiet (λ is. sound (left_out c.in-Err.fault _ c.from.ensures is))

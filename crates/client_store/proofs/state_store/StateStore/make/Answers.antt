@@ -1,11 +1,11 @@
 -- A store is made where there is none.
-use Rattle.std.proofs.Common.{Err, ap, refl, subst, inl}
+use Rattle.std.proofs.Common.{Err, ap, refl, subst, inl, ℕ, List, length, ◌+◌, ◌∙◌}
 use Rattle.host_model.specs.declared.side.Side.TheVariants.{Left, Right}
 use Rattle.host_model.specs.Hosts.{NowOf}
 use Rattle.host_model.proofs.Meeting.{started}
 use Rattle.pair_store.specs.Moments.{StaysBelow}
 use Rattle.pair_store.proofs.Below.{now_below}
-use Rattle.row_store.specs.Rows.{HasRows}
+use Rattle.row_store.specs.Rows.{HasRows, HasPlace}
 use Rattle.client_store.specs.declared.faults.MakeFault.TheVariants.{BadStore}
 use Rattle.client_store.specs.NewStates.{fresh}
 use Rattle.client_store.proofs.Judging.{already_store_where, bad_making_where}
@@ -158,6 +158,12 @@ returns-in-Err-NoStore-clause-spelled g c tells =
     let kept = (c.in_ok-make-in-Err-NoStore.ensures.made tells).each (h.reads new Left) (h.reads new Right) (g.met.H.Host.read_is_image new Left tells) (g.met.H.Host.read_is_image new Right tells) in
     subst (HasRows (h.reads new Left) (h.reads new Right)) c.in_ok-first.ensures.gives (kept.0, (kept.1.0, kept.1.1), kept.2)
 
+pub returns-in-Err-NoStore-clause-place : goal.returns-in-Err-NoStore-clause-place
+returns-in-Err-NoStore-clause-place g c tells =
+    let h = g.H.Host in
+    let new = c.make.new.host in
+    subst (λ (text : List ℕ). HasPlace (h.reads new Left) (h.reads new Right) (length text + 14)) c.in_ok-first.ensures.text (c.in_ok-make-in-Err-NoStore.ensures.place tells)
+
 pub returns-in-Ok-clause-bad_store_where : goal.returns-in-Ok-clause-bad_store_where
 returns-in-Ok-clause-bad_store_where g c tells bad = bad_making_where (g.H.Host.reads c.args.host.now Left) (g.H.Host.reads c.args.host.now Right) _ (returns-in-Ok-clause-finds g c tells) bad
 
@@ -209,3 +215,18 @@ returns-in_err-make-in-Err-NoStore-clause-only_read g c tells there none = absur
 
 pub returns-in-Err-NoStore-clause-only_read : goal.returns-in-Err-NoStore-clause-only_read
 returns-in-Err-NoStore-clause-only_read g c tells there none = absurd (there (c.in-Err-NoStore.ensures.no_store tells (ap Err c.in-Err-NoStore.field-0-is)))
+
+-- ---- the disk has not failed
+
+pub returns-in-Ok-clause-disk_quiet : goal.returns-in-Ok-clause-disk_quiet
+returns-in-Ok-clause-disk_quiet g c sound = c.in-Ok.ensures.disk_quiet (λ is. absurd cc)
+
+pub returns-in-Err-NoStore-clause-disk_quiet : goal.returns-in-Err-NoStore-clause-disk_quiet
+returns-in-Err-NoStore-clause-disk_quiet g c sound =
+    c.in_ok-make-in-Err-NoStore.ensures.disk_quiet (λ is. absurd cc) ∙ c.in-Err-NoStore.ensures.disk_quiet (λ is. let other = c.in-Err-NoStore.field-0-is in absurd cc)
+
+pub returns-in-Err-BadStore-clause-disk_quiet : goal.returns-in-Err-BadStore-clause-disk_quiet
+returns-in-Err-BadStore-clause-disk_quiet g c sound = c.in-Err-BadStore.ensures.disk_quiet (λ is. let other = c.in-Err-BadStore.field-0-is in absurd cc)
+
+pub returns-clause-disk_quiet : goal.returns-clause-disk_quiet
+returns-clause-disk_quiet g c sound = c.in-Err-OutOfMemory.ensures.disk_quiet (λ is. let other = c.in-Err-OutOfMemory.field-0-is in absurd cc)

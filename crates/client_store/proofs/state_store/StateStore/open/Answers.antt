@@ -1,9 +1,9 @@
 -- A store is opened: what stands at its end and at each moment.
-use Rattle.std.proofs.Common.{Err, refl, ap}
+use Rattle.std.proofs.Common.{Err, refl, ap, ◌∙◌}
 use Rattle.host_model.specs.declared.side.Side.TheVariants.{Left, Right}
 use Rattle.host_model.specs.Hosts.{NowOf}
 use Rattle.host_model.proofs.Meeting.{started}
-use Rattle.client_store.proofs.Judging.{opened_judges, unopened_judges, open_finds}
+use Rattle.client_store.proofs.Judging.{opened_judges, unopened_judges, open_finds, fault_is}
 use Rattle.client_store.proofs.NewStores.{below_twice}
 use Rattle.client_store.proofs.Openings.{phases, phases_left, left_still, reading_phases, opened, unopened, unmigrated}
 use Rattle.client_store.proofs.state_store.StateStore.open.Goals as goal
@@ -67,6 +67,9 @@ returns-in-Ok-migrated-clause-text g c tells =
 pub returns-in-Ok-migrated-clause-only_read : goal.returns-in-Ok-migrated-clause-only_read
 returns-in-Ok-migrated-clause-only_read g c tells none = let rows = c.in-Ok.ensures.rows tells in absurd (none rows.0 rows.1)
 
+pub returns-in-Ok-migrated-clause-disk_quiet : goal.returns-in-Ok-migrated-clause-disk_quiet
+returns-in-Ok-migrated-clause-disk_quiet g c sound = c.in-Ok-migrated.ensures.disk_quiet (λ is. absurd cc) ∙ c.in-Ok.ensures.disk_quiet (λ is. absurd cc)
+
 -- ---- it is not migrated
 
 pub returns-in-Err-migrated-clause-below : goal.returns-in-Err-migrated-clause-below
@@ -126,6 +129,9 @@ returns-in-Err-migrated-clause-text g c tells =
 pub returns-in-Err-migrated-clause-only_read : goal.returns-in-Err-migrated-clause-only_read
 returns-in-Err-migrated-clause-only_read g c tells none = let rows = c.in-Ok.ensures.rows tells in absurd (none rows.0 rows.1)
 
+pub returns-in-Err-migrated-clause-disk_quiet : goal.returns-in-Err-migrated-clause-disk_quiet
+returns-in-Err-migrated-clause-disk_quiet g c sound = c.in-Err-migrated.ensures.disk_quiet (λ is. sound (ap Err (fault_is c.in-Err-migrated.fault _ is))) ∙ c.in-Ok.ensures.disk_quiet (λ is. absurd cc)
+
 -- ---- nothing is found
 
 pub returns-in-Err-clause-phases : goal.returns-in-Err-clause-phases
@@ -172,3 +178,6 @@ returns-in-Err-clause-text g c tells =
     let r = h.reads new Right in
     let run = returns-in-Err-clause-below g c tells in
     (run.each l r (h.said new) (g.met.H.Host.counts_now new (h.moment start) l r (h.said new) tells run.later (g.met.H.Host.read_is_image new Left tells, g.met.H.Host.read_is_image new Right tells, refl))).1
+
+pub returns-in-Err-clause-disk_quiet : goal.returns-in-Err-clause-disk_quiet
+returns-in-Err-clause-disk_quiet g c sound = c.in-Err.ensures.disk_quiet (λ is. sound (ap Err (fault_is c.in-Err.fault _ is)))

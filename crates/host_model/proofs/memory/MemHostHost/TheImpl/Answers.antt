@@ -42,6 +42,7 @@ write_at-tells c =
       cost_least = λ tells. call.after_either c.result new past fault (λ (h : MemHost). bytes_written old.log.past ≤ bytes_written h.log.past) ok err (omega (arith, call.write_cost old.log side at bytes)) (omega arith);
       cost_most = λ tells. call.after_either c.result new past fault (λ (h : MemHost). bytes_written h.log.past ≤ bytes_written old.log.past + length bytes) ok err (omega (arith, call.write_cost old.log side at bytes)) (omega arith);
       cause = record { later = c.ensures.later; failed = call.after_err c.result new fault (λ (h : MemHost). Rose old.disk_faults h.disk_faults) err (omega arith) };
+      quiet = call.after_ok c.result new past (λ (h : MemHost). h.disk_faults ≡ old.disk_faults) ok refl;
       fits = c.ensures.fits;
       say_faults = call.after_either c.result new past fault (λ (h : MemHost). h.say_faults ≡ old.say_faults) ok err refl refl;
     }
@@ -69,6 +70,7 @@ sync-tells c =
           (call.sync_time old.log side) (call.still_time old.log _);
       cost = λ tells. call.after_either c.result new past fault (λ (h : MemHost). bytes_written h.log.past ≡ bytes_written old.log.past) ok err (call.sync_cost old.log side) refl;
       cause = record { later = c.ensures.later; failed = call.after_err c.result new fault (λ (h : MemHost). Rose old.disk_faults h.disk_faults) err (omega arith) };
+      quiet = call.after_ok c.result new past (λ (h : MemHost). h.disk_faults ≡ old.disk_faults) ok refl;
       fits = c.ensures.fits;
       say_faults = call.after_either c.result new past fault (λ (h : MemHost). h.say_faults ≡ old.say_faults) ok err refl refl;
     }

@@ -1,7 +1,22 @@
+use Rattle.std.proofs.Common.{rules, ◌≡◌, ◌∙◌, length, sym, ap, arith}
+use Rattle.row_batches.specs.Batch.{puts_text}
+use Rattle.pref_bindings.specs.declared.preference.Preference.{Preference}
+use Rattle.pref_bindings.specs.Changes.{without_name}
+use Rattle.pref_bindings.specs.Rows.{rows_of}
+use Rattle.pref_bindings.proofs.RowSizes.{with_rows}
 use Rattle.pref_bindings.proofs.Sound.{with_given}
 use Rattle.pref_bindings.proofs.prefs.Prefs.with_value.Goals as goal
 
-pub of_list-requires : goal.of_list-requires
-of_list-requires c =
-    with_given c.args.name.now c.args.value.now c.in_ok-preference.preference c.self.inside.preferences c.in_ok-with_preference.field-0 c.in_ok-preference.ensures c.requires.name c.requires.value
-    c.self.invariant.sound c.in_ok-with_preference.ensures
+pub invariant_of-result : goal.invariant_of-result
+invariant_of-result c =
+    let ps = c.self.inside.preferences in
+    let q = c.in_ok-preference.preference in
+    let seen : c.args.self ≡ ps = search rules in
+    let key : q.name ≡ c.args.name.now = ap (λ (p : Preference). p.name) c.in_ok-preference.ensures in
+    let others : c.size_of_others-others.result ≡ length (puts_text (rows_of (without_name q.name ps))) =
+    c.size_of_others-others.ensures.size ∙ ap (λ t. length (puts_text (rows_of (without_name t c.args.self)))) (c.as_str.ensures.text ∙ sym key) ∙ ap (λ qs. length (puts_text (rows_of (without_name q.name qs)))) seen in
+    record {
+      sound = with_given c.args.name.now c.args.value.now q ps c.in_ok-preferences.preferences c.in_ok-preference.ensures c.requires.name c.requires.value c.self.invariant.sound c.in_ok-preferences.ensures;
+      size = omega (arith, c.in-Some.ensures.some, others, with_rows q ps, ap (λ qs. length (puts_text (rows_of qs))) c.in_ok-preferences.ensures);
+      bound = c.in-Some.ensures.within;
+    }

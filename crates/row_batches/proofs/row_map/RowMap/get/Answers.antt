@@ -1,21 +1,23 @@
-use Rattle.std.proofs.Common.{◌≡◌, List, Some, sym, ap, ◌∙◌, subst}
+use Rattle.std.proofs.Common.{sym, ap, ◌∙◌, subst}
 use Rattle.row_batches.specs.RowRoom.{RowsInRoom}
 use Rattle.row_batches.specs.Rows.{AreRows, value_of}
-use Rattle.row_batches.specs.declared.store_row.StoreRow.{StoreRow}
-use Rattle.row_batches.proofs.Found.{value_there, value_nowhere}
+use Rattle.row_batches.specs.Trees.{rows_in}
+use Rattle.row_batches.proofs.Sides.{rise_front, none_listed, some_listed, value_standing, value_listed}
 use Rattle.row_batches.proofs.row_map.RowMap.get.Goals as goal
 
-pub returns-in-Ok : goal.returns-in-Ok
-returns-in-Ok c =
+pub returns-then-is_empty : goal.returns-then-is_empty
+returns-then-is_empty c =
+    let listed = c.self.inside.listed in
     let key = c.args.key.now in
-    let rows : List StoreRow = c.as_slice-rows.result.now in
-    let whole : rows ≡ c.args.self.now.rows = c.as_slice-rows.ensures.value ∙ ap (λ (m : RowsInRoom). m.rows) c.self.view_is in
-    let rise : AreRows rows = subst AreRows (sym c.as_slice-rows.ensures.value) c.self.invariant.sound.rise in
-    ap Some c.as_slice.ensures ∙ sym (value_there key rows c.in-Ok.place c.index-rows-place.result rise c.in-Ok.ensures.found) ∙ ap (value_of key) whole
+    let none = none_listed listed.items listed.len listed.ok.0 (sym c.is_empty.ensures ∙ c.if-is_empty.true) in
+    c.value_in.ensures ∙ value_standing key listed.items (rows_in c.self.inside.tree) none ∙ ap (λ (m : RowsInRoom). value_of key m.rows) c.self.view_is
 
-pub returns-in-Err : goal.returns-in-Err
-returns-in-Err c =
+pub value_listed-requires : goal.value_listed-requires
+value_listed-requires c = subst AreRows (sym c.as_slice-rows.ensures.value) (rise_front c.self.inside.listed.items (rows_in c.self.inside.tree) c.self.invariant.sound.rise)
+
+pub returns : goal.returns
+returns c =
+    let listed = c.self.inside.listed in
     let key = c.args.key.now in
-    let rows : List StoreRow = c.as_slice-rows.result.now in
-    let whole : rows ≡ c.args.self.now.rows = c.as_slice-rows.ensures.value ∙ ap (λ (m : RowsInRoom). m.rows) c.self.view_is in
-    sym (value_nowhere key rows c.in-Err.field-0 c.in-Err.ensures.missed) ∙ ap (value_of key) whole
+    let some = some_listed listed.items listed.len listed.ok.0 (sym c.is_empty.ensures ∙ c.if-is_empty.false) in
+    c.value_listed.ensures ∙ ap (value_of key) c.as_slice-rows.ensures.value ∙ value_listed key listed.items (rows_in c.self.inside.tree) c.self.invariant.alone some ∙ ap (λ (m : RowsInRoom). value_of key m.rows) c.self.view_is

@@ -61,6 +61,15 @@ returns-in-Err-rows_of-clause-left g c tells healthy = c.in-Ok.ensures.left tell
 pub returns-in-Err-clause-left : goal.returns-in-Err-clause-left
 returns-in-Err-clause-left g c tells healthy = c.in-Err.ensures.left tells (λ other. healthy (ap Err (fault_is c.in-Err.fault DiskFault other)))
 
+pub returns-in-Ok-rows_of-clause-disk_quiet : goal.returns-in-Ok-rows_of-clause-disk_quiet
+returns-in-Ok-rows_of-clause-disk_quiet g c healthy = c.in-Ok.ensures.disk_quiet (λ other. cc)
+
+pub returns-in-Err-rows_of-clause-disk_quiet : goal.returns-in-Err-rows_of-clause-disk_quiet
+returns-in-Err-rows_of-clause-disk_quiet g c healthy = c.in-Ok.ensures.disk_quiet (λ other. cc)
+
+pub returns-in-Err-clause-disk_quiet : goal.returns-in-Err-clause-disk_quiet
+returns-in-Err-clause-disk_quiet g c healthy = c.in-Err.ensures.disk_quiet (λ other. healthy (ap Err (fault_is c.in-Err.fault DiskFault other)))
+
 pub returns-in-Err-rows_of-clause-none_written : goal.returns-in-Err-rows_of-clause-none_written
 returns-in-Err-rows_of-clause-none_written g c tells is = absurd (c.in-Err-rows_of.ensures.no_other.0 (ap Err (fault_is c.in-Err-rows_of.fault NoStore is)))
 

@@ -1,0 +1,199 @@
+// Changes of the rows in a tree.
+ghost use Rattle.std.specs.Prelude.{◌≡◌, ◌≤◌, ◌<◌, ◌+◌, ◌++◌, ◌∷◌, [], length, vec_capacity};
+ghost use Rattle.row_batches.specs.Rows.{AreRows, with_row, without_key, after_change, after_changes};
+ghost use Rattle.row_batches.specs.Trees.{rows_in, rows_at};
+
+use crate::change::RowChange;
+use crate::store_row::StoreRow;
+use crate::tree::{Fork, Tree, balanced, closed};
+use sequences::Sequence;
+use std::alloc::Global;
+use std::cmp::Ordering;
+use std::mem;
+
+/// Takes the changes, one after the other. Each is a search from the top of the tree on.
+pub(crate) fn take_changes(
+    alloc: Global,
+    tree: Tree,
+    spare: &mut Vec<Box<Fork>>,
+    changes: Sequence<RowChange>,
+) -> Tree
+    requires rise { AreRows (rows_in tree) }
+    requires enough { length changes ≤ length spare.old.items }
+    requires room { length (rows_in tree) + length spare.old.items ≤ vec_capacity spare.old }
+    ensures rows { rows_in result ≡ after_changes changes (rows_in tree) }
+    ensures count { length (rows_in result) + length spare.new.items ≡ length (rows_in tree) + length spare.old.items }
+    ensures same_room { vec_capacity spare.new ≡ vec_capacity spare.old }
+{
+    let mut tree = tree;
+    for change in changes.into_vec() {
+        tree = take_change(alloc, tree, spare, change);
+    }
+    tree
+}
+
+// Takes one change.
+fn take_change(alloc: Global, tree: Tree, spare: &mut Vec<Box<Fork>>, change: RowChange) -> Tree
+    requires rise { AreRows (rows_in tree) }
+    requires enough { 0 < length spare.old.items }
+    requires room { length (rows_in tree) + length spare.old.items ≤ vec_capacity spare.old }
+    ensures rows { rows_in result ≡ after_change change (rows_in tree) }
+    ensures count { length (rows_in result) + length spare.new.items ≡ length (rows_in tree) + length spare.old.items }
+    ensures most { length spare.old.items ≤ length spare.new.items + 1 }
+    ensures same_room { vec_capacity spare.new ≡ vec_capacity spare.old }
+{
+    match change {
+        RowChange::Put(row) => put_row(tree, spare, row),
+        RowChange::Delete(key) => delete_row(alloc, tree, spare, key.as_slice()),
+    }
+}
+
+// Puts a row in its place.
+fn put_row(tree: Tree, spare: &mut Vec<Box<Fork>>, row: StoreRow) -> Tree
+    requires rise { AreRows (rows_in tree) }
+    requires enough { 0 < length spare.old.items }
+    ensures rows { rows_in result ≡ with_row row (rows_in tree) }
+    ensures count { length (rows_in result) + length spare.new.items ≡ length (rows_in tree) + length spare.old.items }
+    ensures most { length spare.old.items ≤ length spare.new.items + 1 }
+    ensures same_room { vec_capacity spare.new ≡ vec_capacity spare.old }
+{
+    match tree {
+        Tree::Leaf => lone_row(spare, row),
+        Tree::Fork(mut fork) => match row.key.as_slice().cmp(fork.row.key.as_slice()) {
+            Ordering::Less => {
+                let below = mem::replace(&mut fork.below, Tree::Leaf);
+                fork.below = put_row(below, spare, row);
+                balanced(fork)
+            }
+            Ordering::Equal => {
+                fork.row = row;
+                Tree::Fork(fork)
+            }
+            Ordering::Greater => {
+                let above = mem::replace(&mut fork.above, Tree::Leaf);
+                fork.above = put_row(above, spare, row);
+                balanced(fork)
+            }
+        },
+    }
+}
+
+// The tree of one row, in a spare fork.
+fn lone_row(spare: &mut Vec<Box<Fork>>, row: StoreRow) -> Tree
+    requires { 0 < length spare.old.items }
+    ensures rows { rows_in result ≡ row ∷ [] }
+    ensures count { length spare.old.items ≡ length spare.new.items + 1 }
+    ensures same_room { vec_capacity spare.new ≡ vec_capacity spare.old }
+{
+    fork_of(spare, Tree::Leaf, row, Tree::Leaf)
+}
+
+/// A row with those below it and those above, in a spare fork.
+pub(crate) fn fork_of(spare: &mut Vec<Box<Fork>>, below: Tree, row: StoreRow, above: Tree) -> Tree
+    requires { 0 < length spare.old.items }
+    ensures rows { rows_in result ≡ rows_in below ++ row ∷ rows_in above }
+    ensures count { length spare.old.items ≡ length spare.new.items + 1 }
+    ensures same_room { vec_capacity spare.new ≡ vec_capacity spare.old }
+{
+    let mut fork = take_fork(spare);
+    fork.below = below;
+    fork.row = row;
+    fork.above = above;
+    closed(fork)
+}
+
+// Takes a spare fork.
+fn take_fork(spare: &mut Vec<Box<Fork>>) -> Box<Fork>
+    requires { 0 < length spare.old.items }
+    ensures count { length spare.old.items ≡ length spare.new.items + 1 }
+    ensures same_room { vec_capacity spare.new ≡ vec_capacity spare.old }
+{
+    match spare.pop() {
+        Some(fork) => fork,
+        None => unreachable!(),
+    }
+}
+
+// Deletes the row of a key, where there is one.
+fn delete_row(alloc: Global, tree: Tree, spare: &mut Vec<Box<Fork>>, key: &[u8]) -> Tree
+    requires rise { AreRows (rows_in tree) }
+    requires room { length (rows_in tree) + length spare.old.items ≤ vec_capacity spare.old }
+    ensures rows { rows_in result ≡ without_key key.now (rows_in tree) }
+    ensures count { length (rows_in result) + length spare.new.items ≡ length (rows_in tree) + length spare.old.items }
+    ensures most { length spare.old.items ≤ length spare.new.items }
+    ensures same_room { vec_capacity spare.new ≡ vec_capacity spare.old }
+{
+    match tree {
+        Tree::Leaf => Tree::Leaf,
+        Tree::Fork(mut fork) => match key.cmp(fork.row.key.as_slice()) {
+            Ordering::Less => {
+                let below = mem::replace(&mut fork.below, Tree::Leaf);
+                fork.below = delete_row(alloc, below, spare, key);
+                balanced(fork)
+            }
+            Ordering::Equal => {
+                let below = mem::replace(&mut fork.below, Tree::Leaf);
+                let above = mem::replace(&mut fork.above, Tree::Leaf);
+                drop(put_fork(alloc, spare, fork));
+                joined(below, above)
+            }
+            Ordering::Greater => {
+                let above = mem::replace(&mut fork.above, Tree::Leaf);
+                fork.above = delete_row(alloc, above, spare, key);
+                balanced(fork)
+            }
+        },
+    }
+}
+
+/// Takes the row out of a fork, which is spare then.
+pub(crate) fn put_fork(alloc: Global, spare: &mut Vec<Box<Fork>>, mut fork: Box<Fork>) -> StoreRow
+    requires { length spare.old.items < vec_capacity spare.old }
+    ensures row { result ≡ fork.value.row }
+    ensures count { length spare.new.items ≡ length spare.old.items + 1 }
+    ensures same_room { vec_capacity spare.new ≡ vec_capacity spare.old }
+{
+    let row = mem::replace(&mut fork.row, no_row(alloc));
+    spare.push_reserved(fork);
+    row
+}
+
+/// A row without a byte, which takes no memory.
+pub(crate) fn no_row(alloc: Global) -> StoreRow {
+    StoreRow {
+        key: Sequence::new(alloc),
+        value: Sequence::new(alloc),
+    }
+}
+
+// The rows of two trees, of about one height.
+fn joined(below: Tree, above: Tree) -> Tree
+    ensures { rows_in result ≡ rows_in below ++ rows_in above }
+{
+    match above {
+        Tree::Leaf => below,
+        Tree::Fork(fork) => {
+            let (mut first, rest) = first_out(fork);
+            first.below = below;
+            first.above = rest;
+            balanced(first)
+        }
+    }
+}
+
+// Takes the fork of the first row out.
+fn first_out(mut fork: Box<Fork>) -> (Box<Fork>, Tree)
+    ensures { result.0.value.row ∷ rows_in result.1 ≡ rows_at fork.value }
+{
+    match mem::replace(&mut fork.below, Tree::Leaf) {
+        Tree::Leaf => {
+            let rest = mem::replace(&mut fork.above, Tree::Leaf);
+            (fork, rest)
+        }
+        Tree::Fork(below) => {
+            let (first, rest) = first_out(below);
+            fork.below = rest;
+            (first, balanced(fork))
+        }
+    }
+}
