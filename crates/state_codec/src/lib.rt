@@ -21,7 +21,7 @@ pub use changes::{change_between, first_changes, later_changes, whole_batch, wri
 pub use laws::{one_spelling, one_state};
 pub use old_form::{migration, needs_migration};
 pub use reading::read_state;
-pub use recipe_lists::RecipeLists;
+pub use recipe_lists::{ListPart, RecipeLists};
 pub use row_batches::StoreRow;
 pub use row_reading::{state_of, state_of_parts};
 pub use rows::{first_rows_of, later_rows_of, rows_of};
