@@ -10,4 +10,4 @@ pub mod Steps
 pub mod Counts
 pub mod Whole
 pub mod OrThenAnd
-pub mod Drafts
+pub mod Fits

@@ -8,7 +8,7 @@ use Rattle.jexl_parser.specs.Seen.{Seen}
 use Rattle.jexl_parser.specs.View.{view, views, view_pairs}
 
 abbrev pub see : Part → Seen
-see p = record { tree = option_map view p.tree; relative = p.relative }
+see p = record { tree = option_map (λ b. view b.value) p.tree; relative = p.relative }
 
 abbrev pub see_list : Parts → Seen
 see_list p = record { tree = option_map (λ v. Items (views v.items)) p.trees; relative = p.relative }

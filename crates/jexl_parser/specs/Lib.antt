@@ -10,8 +10,8 @@ pub mod Seen
 pub mod Gives
 pub mod Parses
 pub mod Kept
-pub mod Drafts
 pub mod Heights
 pub mod Kinds
 pub mod Depth
 pub mod Counting
+pub mod Turns

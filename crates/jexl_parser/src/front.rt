@@ -4,6 +4,7 @@ ghost use Rattle.jexl_parser.specs.Words.{word_of};
 ghost use Rattle.jexl_parser.specs.Tokens.{is_sign};
 ghost use Rattle.jexl_parser.specs.Grammar.{operator_of, level_of};
 ghost use Rattle.jexl_parser.specs.Reading.{after, name_at, plain_at, number_at, key_at, operator_at, suffix_of, opening_of};
+ghost use Rattle.jexl_parser.specs.Turns.{suffix_at};
 ghost use Rattle.jexl_parser.specs.Kinds.{kinds_of};
 
 use crate::node::BinarySign;
@@ -240,7 +241,7 @@ pub fn operator(tokens: &[Token], lowest: u8) -> Option<(BinarySign, &[Token])>
 }
 
 /// What the token begins where it stands after a postfix.
-pub fn suffix_at(kind: &TokenKind) -> Suffix
+fn suffix_of(kind: &TokenKind) -> Suffix
     ensures { result ≡ suffix_of kind.now }
 {
     match kind {
@@ -248,6 +249,22 @@ pub fn suffix_at(kind: &TokenKind) -> Suffix
         TokenKind::Sign(Sign::LeftSquare) => Suffix::Bracket,
         TokenKind::Sign(Sign::Bar) => Suffix::Transform,
         _ => Suffix::None,
+    }
+}
+
+/// The suffix that begins at the front, and the tokens after its sign.
+pub fn suffix_at(tokens: &[Token]) -> Option<(Suffix, &[Token])>
+    ensures found { option_map (λ x. (x.0, kinds_of x.1.now)) result ≡ suffix_at (kinds_of tokens.now) }
+    ensures short { IfSome result (λ x. length x.1.now < length tokens.now) }
+{
+    match first_of(tokens) {
+        None => None,
+        Some((first, rest)) => match suffix_of(first) {
+            Suffix::None => None,
+            Suffix::Member => Some((Suffix::Member, rest)),
+            Suffix::Bracket => Some((Suffix::Bracket, rest)),
+            Suffix::Transform => Some((Suffix::Transform, rest)),
+        },
     }
 }
 

@@ -6,16 +6,17 @@
 
 mod build;
 mod depth;
-mod draft;
 mod expression;
 mod fault;
 mod front;
 mod laws;
+mod lists;
 mod negation;
 mod node;
 mod parser;
 mod parsing;
 mod part;
+mod primaries;
 
 pub use depth::MAX_DEPTH;
 pub use expression::Expr;

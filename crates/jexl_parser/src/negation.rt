@@ -6,8 +6,7 @@ ghost use Rattle.jexl_parser.specs.Kinds.{kinds_of};
 ghost use Rattle.jexl_parser.specs.Negations.{nots, read_with_nots};
 ghost use Rattle.jexl_parser.specs.Reading.{read_of, AUnary, APostfix};
 
-use crate::build::build_node;
-use crate::draft::Draft;
+use crate::build::negated;
 use crate::front::after_sign;
 use crate::part::Part;
 use jexl_lexer::{Sign, Token};
@@ -36,7 +35,7 @@ pub fn negated_times(alloc: Global, inside: Part, count: usize) -> Result<Part, 
     let mut part = inside;
     let mut left = count;
     while left > 0 {
-        part = build_node(alloc, Draft::Not(part))?;
+        part = negated(alloc, part)?;
         left -= 1;
     }
     Ok(part)

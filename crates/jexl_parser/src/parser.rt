@@ -1,27 +1,27 @@
 // Trees from tokens, by climbing precedences.
 ghost use Rattle.std.specs.Prelude.{◌≤◌, ◌<◌, length, IfOk};
+ghost use Rattle.jexl_lexer.specs.declared.token.Sign.TheVariants.{RightSquare as RightSquareSign};
 ghost use Rattle.jexl_parser.specs.declared.node.TheConstants.{MAX_HEIGHT};
+ghost use Rattle.jexl_parser.specs.declared.front.Opening.TheVariants as openings;
 ghost use Rattle.jexl_parser.specs.Tree.{Members, no_pair};
 ghost use Rattle.jexl_parser.specs.Seen.{cap};
-ghost use Rattle.jexl_parser.specs.Reading.{read_of, AnExpr, Climb, AUnary, APostfix, APrimary, UpTo, SomeExprs, ToBrace, APair, MorePairs};
+ghost use Rattle.jexl_parser.specs.Reading.{read_of, opening_part, AnExpr, Climb, AUnary, APostfix, Suffixes, APrimary, UpTo, SomeExprs, ToBrace, APair, MorePairs};
+ghost use Rattle.jexl_parser.specs.Turns.{choice_of, suffix_read, bracket_of, transform_of, arguments_of, opened_by};
 ghost use Rattle.jexl_parser.specs.Gives.{Gives, Goes};
 ghost use Rattle.jexl_parser.specs.Kept.{see, see_list, see_members};
 ghost use Rattle.jexl_parser.specs.Kinds.{kinds_of};
 
-use crate::build::{
-    build_node, leaf, list, no_items, no_pairs, object, relative_name, with_item, with_pair,
-};
-use crate::draft::Draft;
+use crate::build::{binary, bracket, choose, list, object, or_else, transform};
 use crate::fault::ParseFault;
 use crate::front::{
-    Opening, Suffix, Word, after_sign, first_of, key, level, name, number, opening_at, operator,
-    plain_name, suffix_at, word_at,
+    Opening, Suffix, after_sign, first_of, key, level, opening_at, operator, plain_name, suffix_at,
 };
+use crate::lists::{no_items, no_pairs, with_item, with_pair};
 use crate::negation::{bangs_at, negated_times};
-use crate::node::{Literal, Node};
+use crate::node::Literal;
 use crate::part::{PairParts, Part, Parts};
+use crate::primaries::{literal, negative, quoted, relative, with_member, word};
 use jexl_lexer::{Sign, Token, TokenKind};
-use sequences::Text;
 use std::alloc::Global;
 
 /// A choice, or an operation.
@@ -34,23 +34,31 @@ pub fn expr(alloc: Global, tokens: &[Token]) -> Result<(Part, &[Token]), ParseFa
     let (first, rest) = climb(alloc, tokens, 1)?;
     match after_sign(rest, Sign::Question) {
         None => Ok((first, rest)),
-        Some(rest) => match after_sign(rest, Sign::Colon) {
-            Some(rest) => {
-                let (third, rest) = expr(alloc, rest)?;
-                Ok((build_node(alloc, Draft::OrElse(first, third))?, rest))
-            }
-            None => {
-                let (second, rest) = expr(alloc, rest)?;
-                match after_sign(rest, Sign::Colon) {
-                    None => Err(ParseFault::Unexpected),
-                    Some(rest) => {
-                        let (third, rest) = expr(alloc, rest)?;
-                        let choice = Draft::Choose(first, second, third);
-                        Ok((build_node(alloc, choice)?, rest))
-                    }
+        Some(rest) => choice(alloc, first, rest),
+    }
+}
+
+/// A choice behind its condition and the `?`.
+#[cycle(parser)]
+fn choice(alloc: Global, condition: Part, tokens: &[Token]) -> Result<(Part, &[Token]), ParseFault>
+    ensures read { Gives (λ x. (see x.0, kinds_of x.1.now)) result (choice_of (see condition) (kinds_of tokens.now)) }
+    ensures short { IfOk result (λ x. length x.1.now ≤ length tokens.now) }
+{
+    match after_sign(tokens, Sign::Colon) {
+        Some(rest) => {
+            let (third, rest) = expr(alloc, rest)?;
+            Ok((or_else(alloc, condition, third)?, rest))
+        }
+        None => {
+            let (second, rest) = expr(alloc, tokens)?;
+            match after_sign(rest, Sign::Colon) {
+                None => Err(ParseFault::Unexpected),
+                Some(rest) => {
+                    let (third, rest) = expr(alloc, rest)?;
+                    Ok((choose(alloc, condition, second, third)?, rest))
                 }
             }
-        },
+        }
     }
 }
 
@@ -64,7 +72,7 @@ fn climb(alloc: Global, tokens: &[Token], lowest: u8) -> Result<(Part, &[Token])
     let (mut left, mut rest) = unary(alloc, tokens)?;
     while let Some((sign, next)) = operator(rest, lowest) {
         let (right, after) = climb(alloc, next, level(sign) + 1)?;
-        left = build_node(alloc, Draft::Binary(sign, left, right))?;
+        left = binary(alloc, sign, left, right)?;
         rest = after;
     }
     Ok((left, rest))
@@ -90,47 +98,80 @@ fn postfix(alloc: Global, tokens: &[Token]) -> Result<(Part, &[Token]), ParseFau
     ensures short { IfOk result (λ x. length x.1.now ≤ length tokens.now) }
 {
     let (mut subject, mut rest) = primary(alloc, tokens)?;
-    while let Some((first, after)) = first_of(rest) {
-        match suffix_at(first) {
-            Suffix::None => break,
-            Suffix::Member => match name(after) {
-                None => return Err(ParseFault::Unexpected),
-                Some((name, after)) => {
-                    let name = Text::new(alloc, name)?;
-                    subject = build_node(alloc, Draft::Member(subject, name))?;
-                    rest = after;
-                }
-            },
-            Suffix::Bracket => {
-                let (inside, after) = expr(alloc, after)?;
-                match after_sign(after, Sign::RightSquare) {
-                    None => return Err(ParseFault::Unexpected),
-                    Some(after) => {
-                        subject = build_node(alloc, Draft::Bracket(subject, inside))?;
-                        rest = after;
-                    }
-                }
-            }
-            Suffix::Transform => match plain_name(after) {
-                None => return Err(ParseFault::Unexpected),
-                Some((name, after)) => match after_sign(after, Sign::LeftRound) {
-                    None => {
-                        let name = Text::new(alloc, name)?;
-                        let args = no_items(alloc);
-                        subject = build_node(alloc, Draft::Transform(subject, name, args))?;
-                        rest = after;
-                    }
-                    Some(after) => {
-                        let (args, after) = up_to(alloc, after, Sign::RightRound)?;
-                        let name = Text::new(alloc, name)?;
-                        subject = build_node(alloc, Draft::Transform(subject, name, args))?;
-                        rest = after;
-                    }
-                },
-            },
-        }
+    while let Some((suffix, after)) = suffix_at(rest) {
+        let (longer, next) = with_suffix(alloc, subject, suffix, after)?;
+        subject = longer;
+        rest = next;
     }
     Ok((subject, rest))
+}
+
+/// A tree with one more suffix, behind its sign.
+#[cycle(parser)]
+fn with_suffix(
+    alloc: Global,
+    subject: Part,
+    suffix: Suffix,
+    tokens: &[Token],
+) -> Result<(Part, &[Token]), ParseFault>
+    ensures read { Goes (λ x. read_of MAX_HEIGHT (Suffixes (see x.0)) (kinds_of x.1.now)) result (suffix_read (see subject) suffix (kinds_of tokens.now)) }
+    ensures short { IfOk result (λ x. length x.1.now ≤ length tokens.now) }
+{
+    match suffix {
+        Suffix::Member => with_member(alloc, subject, tokens),
+        Suffix::Bracket => with_bracket(alloc, subject, tokens),
+        Suffix::Transform => with_transform(alloc, subject, tokens),
+        Suffix::None => Err(ParseFault::Unexpected),
+    }
+}
+
+/// An index or a filter, behind its `[`.
+#[cycle(parser)]
+fn with_bracket(
+    alloc: Global,
+    subject: Part,
+    tokens: &[Token],
+) -> Result<(Part, &[Token]), ParseFault>
+    ensures read { Goes (λ x. read_of MAX_HEIGHT (Suffixes (see x.0)) (kinds_of x.1.now)) result (bracket_of (see subject) (kinds_of tokens.now)) }
+    ensures short { IfOk result (λ x. length x.1.now ≤ length tokens.now) }
+{
+    let (inside, rest) = expr(alloc, tokens)?;
+    match after_sign(rest, Sign::RightSquare) {
+        None => Err(ParseFault::Unexpected),
+        Some(rest) => Ok((bracket(alloc, subject, inside)?, rest)),
+    }
+}
+
+/// A transform, behind its `|`.
+#[cycle(parser)]
+#[tactic(auto, using(crate::proofs::Steps::named_transform))]
+fn with_transform(
+    alloc: Global,
+    subject: Part,
+    tokens: &[Token],
+) -> Result<(Part, &[Token]), ParseFault>
+    ensures read { Goes (λ x. read_of MAX_HEIGHT (Suffixes (see x.0)) (kinds_of x.1.now)) result (transform_of (see subject) (kinds_of tokens.now)) }
+    ensures short { IfOk result (λ x. length x.1.now ≤ length tokens.now) }
+{
+    match plain_name(tokens) {
+        None => Err(ParseFault::Unexpected),
+        Some((name, rest)) => {
+            let (args, rest) = arguments(alloc, rest)?;
+            Ok((transform(alloc, subject, name, args)?, rest))
+        }
+    }
+}
+
+/// The arguments of a transform in parentheses, or none.
+#[cycle(parser)]
+fn arguments(alloc: Global, tokens: &[Token]) -> Result<(Parts, &[Token]), ParseFault>
+    ensures read { Gives (λ x. (see_list x.0, kinds_of x.1.now)) result (arguments_of (kinds_of tokens.now)) }
+    ensures short { IfOk result (λ x. length x.1.now ≤ length tokens.now) }
+{
+    match after_sign(tokens, Sign::LeftRound) {
+        None => Ok((no_items(alloc), tokens)),
+        Some(rest) => up_to(alloc, rest, Sign::RightRound),
+    }
 }
 
 /// A constant, a name, or what stands in brackets.
@@ -143,53 +184,61 @@ fn primary(alloc: Global, tokens: &[Token]) -> Result<(Part, &[Token]), ParseFau
     match first_of(tokens) {
         None => Err(ParseFault::Unexpected),
         Some((first, rest)) => match first {
-            TokenKind::Number(number) => {
-                Ok((leaf(Node::Literal(Literal::Whole(*number))), rest))
-            }
-            TokenKind::Quoted(quoted) => {
-                let text = Text::new(alloc, quoted.as_str())?;
-                Ok((leaf(Node::Literal(Literal::Text(text))), rest))
-            }
-            TokenKind::Name(name) => match word_at(name.as_str()) {
-                Word::Plain => {
-                    let text = Text::new(alloc, name.as_str())?;
-                    Ok((leaf(Node::Name(text)), rest))
-                }
-                Word::In => Err(ParseFault::Unexpected),
-                Word::True => Ok((leaf(Node::Literal(Literal::Truth(true))), rest)),
-                Word::False => Ok((leaf(Node::Literal(Literal::Truth(false))), rest)),
-                Word::Null => Ok((leaf(Node::Literal(Literal::Null)), rest)),
-            },
-            TokenKind::Sign(sign) => match opening_at(*sign) {
-                Opening::None => Err(ParseFault::Unexpected),
-                Opening::Minus => match number(rest) {
-                    None => Err(ParseFault::Unexpected),
-                    Some((number, rest)) => {
-                        Ok((leaf(Node::Literal(Literal::Whole(-number))), rest))
-                    }
-                },
-                Opening::Dot => match name(rest) {
-                    None => Err(ParseFault::Unexpected),
-                    Some((name, rest)) => Ok((relative_name(alloc, name)?, rest)),
-                },
-                Opening::Round => {
-                    let (inside, rest) = expr(alloc, rest)?;
-                    match after_sign(rest, Sign::RightRound) {
-                        None => Err(ParseFault::Unexpected),
-                        Some(rest) => Ok((inside, rest)),
-                    }
-                }
-                Opening::Square => {
-                    let (items, rest) = up_to(alloc, rest, Sign::RightSquare)?;
-                    Ok((list(items), rest))
-                }
-                Opening::Brace => {
-                    let (members, rest) = to_brace(alloc, rest)?;
-                    Ok((object(members), rest))
-                }
-            },
+            TokenKind::Number(number) => Ok((literal(alloc, Literal::Whole(*number))?, rest)),
+            TokenKind::Quoted(text) => Ok((quoted(alloc, text.as_str())?, rest)),
+            TokenKind::Name(name) => word(alloc, name.as_str(), rest),
+            TokenKind::Sign(sign) => opened(alloc, *sign, rest),
         },
     }
+}
+
+/// A primary behind its first sign.
+#[cycle(parser)]
+fn opened(alloc: Global, sign: Sign, tokens: &[Token]) -> Result<(Part, &[Token]), ParseFault>
+    ensures read { Gives (λ x. (see x.0, kinds_of x.1.now)) result (opened_by sign (kinds_of tokens.now)) }
+    ensures short { IfOk result (λ x. length x.1.now ≤ length tokens.now) }
+{
+    match opening_at(sign) {
+        Opening::Minus => negative(alloc, tokens),
+        Opening::Dot => relative(alloc, tokens),
+        Opening::Round => group(alloc, tokens),
+        Opening::Square => array(alloc, tokens),
+        Opening::Brace => braces(alloc, tokens),
+        Opening::None => Err(ParseFault::Unexpected),
+    }
+}
+
+/// What stands in parentheses, behind the first one.
+#[cycle(parser)]
+fn group(alloc: Global, tokens: &[Token]) -> Result<(Part, &[Token]), ParseFault>
+    ensures read { Gives (λ x. (see x.0, kinds_of x.1.now)) result (opening_part MAX_HEIGHT (read_of MAX_HEIGHT) (kinds_of tokens.now) openings.Round) }
+    ensures short { IfOk result (λ x. length x.1.now ≤ length tokens.now) }
+{
+    let (inside, rest) = expr(alloc, tokens)?;
+    match after_sign(rest, Sign::RightRound) {
+        None => Err(ParseFault::Unexpected),
+        Some(rest) => Ok((inside, rest)),
+    }
+}
+
+/// A list, behind its `[`.
+#[cycle(parser)]
+fn array(alloc: Global, tokens: &[Token]) -> Result<(Part, &[Token]), ParseFault>
+    ensures read { Gives (λ x. (see x.0, kinds_of x.1.now)) result (read_of MAX_HEIGHT (UpTo RightSquareSign) (kinds_of tokens.now)) }
+    ensures short { IfOk result (λ x. length x.1.now ≤ length tokens.now) }
+{
+    let (items, rest) = up_to(alloc, tokens, Sign::RightSquare)?;
+    Ok((list(alloc, items)?, rest))
+}
+
+/// Members, behind their `{`.
+#[cycle(parser)]
+fn braces(alloc: Global, tokens: &[Token]) -> Result<(Part, &[Token]), ParseFault>
+    ensures read { Gives (λ x. (see x.0, kinds_of x.1.now)) result (read_of MAX_HEIGHT ToBrace (kinds_of tokens.now)) }
+    ensures short { IfOk result (λ x. length x.1.now ≤ length tokens.now) }
+{
+    let (members, rest) = to_brace(alloc, tokens)?;
+    Ok((object(alloc, members)?, rest))
 }
 
 /// Expressions with commas between them, or none, and the sign that closes them.

@@ -44,6 +44,8 @@ fn whole(part: Part) -> Result<Expr, ParseFault>
     let tree = part.tree;
     match tree {
         None => Err(ParseFault::TooTall),
-        Some(root) => Ok(Expr { root }),
+        Some(root) => Ok(Expr {
+            root: Box::into_inner(root),
+        }),
     }
 }

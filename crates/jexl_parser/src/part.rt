@@ -8,13 +8,14 @@ ghost use Rattle.jexl_parser.specs.Heights.{height_of, list_height_of, members_h
 use crate::node::Node;
 use sequences::Text;
 
-/// A tree with its height, if it fits, and whether a relative name stands outside its brackets.
+/// A tree in the box in which it stays, with its height, if it fits, and whether a relative name stands
+/// outside its brackets.
 #[derive(Drop)]
 pub struct Part {
-    pub tree: Option<Node>,
+    pub tree: Option<Box<Node>>,
     pub height: u16,
     pub relative: bool,
-    ghost counted: { height ≡ height_of (option_map view tree) },
+    ghost counted: { height ≡ height_of (option_map (λ b. view b.value) tree) },
     ghost bounded: { height ≤ MAX_HEIGHT + 1 },
 }
 

@@ -8,34 +8,61 @@ use Rattle.jexl_parser.specs.Kinds.{kinds_of}
 use Rattle.jexl_parser.proofs.parser.+parser.Given as goal
 
 abbrev pub decreases-up_to : goal.decreases-up_to
-decreases-up_to l = 8 * length l.tokens.now + 7
+decreases-up_to l = 16 * length l.tokens.now + 7
 
 abbrev pub decreases-to_brace : goal.decreases-to_brace
-decreases-to_brace l = 8 * length l.tokens.now + 7
+decreases-to_brace l = 16 * length l.tokens.now + 7
 
 abbrev pub decreases-some_exprs : goal.decreases-some_exprs
-decreases-some_exprs l = 8 * length l.tokens.now + 6
+decreases-some_exprs l = 16 * length l.tokens.now + 6
 
 abbrev pub decreases-some_pairs : goal.decreases-some_pairs
-decreases-some_pairs l = 8 * length l.tokens.now + 6
+decreases-some_pairs l = 16 * length l.tokens.now + 6
 
 abbrev pub decreases-one_pair : goal.decreases-one_pair
-decreases-one_pair l = 8 * length l.tokens.now + 5
+decreases-one_pair l = 16 * length l.tokens.now + 5
 
 abbrev pub decreases-expr : goal.decreases-expr
-decreases-expr l = 8 * length l.tokens.now + 5
+decreases-expr l = 16 * length l.tokens.now + 5
+
+abbrev pub decreases-choice : goal.decreases-choice
+decreases-choice l = 16 * length l.tokens.now + 6
 
 abbrev pub decreases-climb : goal.decreases-climb
-decreases-climb l = 8 * length l.tokens.now + 4
+decreases-climb l = 16 * length l.tokens.now + 4
 
 abbrev pub decreases-unary : goal.decreases-unary
-decreases-unary l = 8 * length l.tokens.now + 3
+decreases-unary l = 16 * length l.tokens.now + 3
 
 abbrev pub decreases-postfix : goal.decreases-postfix
-decreases-postfix l = 8 * length l.tokens.now + 2
+decreases-postfix l = 16 * length l.tokens.now + 2
 
 abbrev pub decreases-primary : goal.decreases-primary
-decreases-primary l = 8 * length l.tokens.now + 1
+decreases-primary l = 16 * length l.tokens.now + 1
+
+abbrev pub decreases-with_suffix : goal.decreases-with_suffix
+decreases-with_suffix l = 16 * length l.tokens.now + 7
+
+abbrev pub decreases-with_bracket : goal.decreases-with_bracket
+decreases-with_bracket l = 16 * length l.tokens.now + 6
+
+abbrev pub decreases-with_transform : goal.decreases-with_transform
+decreases-with_transform l = 16 * length l.tokens.now + 6
+
+abbrev pub decreases-arguments : goal.decreases-arguments
+decreases-arguments l = 16 * length l.tokens.now
+
+abbrev pub decreases-opened : goal.decreases-opened
+decreases-opened l = 16 * length l.tokens.now + 9
+
+abbrev pub decreases-group : goal.decreases-group
+decreases-group l = 16 * length l.tokens.now + 8
+
+abbrev pub decreases-array : goal.decreases-array
+decreases-array l = 16 * length l.tokens.now + 8
+
+abbrev pub decreases-braces : goal.decreases-braces
+decreases-braces l = 16 * length l.tokens.now + 8
 
 abbrev pub invariant-climb-loop-sign : goal.invariant-climb-loop-sign
 invariant-climb-loop-sign l = record {
@@ -46,14 +73,14 @@ invariant-climb-loop-sign l = record {
 abbrev pub decreases-climb-loop-sign : goal.decreases-climb-loop-sign
 decreases-climb-loop-sign l = length l.rest
 
-abbrev pub invariant-postfix-loop-first : goal.invariant-postfix-loop-first
-invariant-postfix-loop-first l = record {
+abbrev pub invariant-postfix-loop-suffix : goal.invariant-postfix-loop-suffix
+invariant-postfix-loop-suffix l = record {
   same : read_of MAX_HEIGHT APostfix (kinds_of l.tokens) ≡ read_of MAX_HEIGHT (Suffixes (see l.subject)) (kinds_of l.rest);
   short : length l.rest ≤ length l.tokens;
 }
 
-abbrev pub decreases-postfix-loop-first : goal.decreases-postfix-loop-first
-decreases-postfix-loop-first l = length l.rest
+abbrev pub decreases-postfix-loop-suffix : goal.decreases-postfix-loop-suffix
+decreases-postfix-loop-suffix l = length l.rest
 
 abbrev pub invariant-some_exprs-loop-next : goal.invariant-some_exprs-loop-next
 invariant-some_exprs-loop-next l = record {
