@@ -1,7 +1,7 @@
 -- The tree of a file is sound.
 use Rattle.std.proofs.Common.{◌≡◌, ℕ, Bool, true, false, List, length, Option, Some, None, Result, Ok, Err, refl}
 use Rattle.std.specs.Prelude.{IfSome, IfOk, nat_lt, nat_le, if◌then◌else◌}
-use Rattle.json_reading.proofs.Reading.{values_read_are_sound}
+use Rattle.json_tree.proofs.SoundReading.{values_read_are_sound}
 use Rattle.json_tree.specs.Json.{Json, depth, IsSound}
 use Rattle.json_tree.specs.Bytes.{tree_of, max_depth}
 use Rattle.client_steps.specs.Fetching.{max_file, shallow_tree, file_tree}

@@ -2,7 +2,7 @@
 use Rattle.std.proofs.Common.{◌≡◌, ℕ, List, refl, Option, Some, None, IfOk}
 use Rattle.json_tree.specs.Json.{Json, null, truth, whole, odd, text, list, object, IsSound}
 use Rattle.json_tree.specs.Bytes.{tree_of}
-use Rattle.json_reading.proofs.Reading.{values_read_are_sound}
+use Rattle.json_tree.proofs.SoundReading.{values_read_are_sound}
 use Rattle.pref_bindings.specs.Preferences.{IsValue}
 use Rattle.client_words.specs.Commands.{preference_value, value_read, value_in}
 

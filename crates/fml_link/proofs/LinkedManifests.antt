@@ -2,7 +2,7 @@
 use Rattle.std.proofs.Common.{◌≡◌, ◌≤◌, ℕ, Bool, true, false, List, [], ◌∷◌, length, Option, Some, None, Result, Ok, Err, refl, ap, ◌∙◌, subst}
 use Rattle.std.specs.Prelude.{nat_le, nat_lt, if◌then◌else◌}
 use Rattle.std.proofs.lemmas.Bool.{leb-true}
-use Rattle.json_reading.proofs.Reading.{values_read_are_sound}
+use Rattle.json_tree.proofs.SoundReading.{values_read_are_sound}
 use Rattle.json_tree.specs.Bytes.{tree_of}
 use Rattle.json_tree.specs.Json.{Json, IsSound, depth}
 use Rattle.fml_types.specs.Named.{AreRising}

@@ -8,3 +8,8 @@ pub mod Pairs
 pub mod Pairwise
 pub mod Searching
 pub mod Tokens
+mod Contents
+mod Lexemes
+mod Grammar
+mod Values
+pub mod SoundReading

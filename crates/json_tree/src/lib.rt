@@ -9,7 +9,7 @@ mod rereading;
 mod tree;
 mod writing;
 
-pub use laws::{equal_values_are_one, texts_read_back};
+pub use laws::{equal_values_are_one, texts_read_back, values_read_are_sound};
 pub use reading::{TreeFault, read};
 pub use rereading::reread;
 pub use sequences::Text;

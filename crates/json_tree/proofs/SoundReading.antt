@@ -9,10 +9,10 @@ use Rattle.serde_json.specs.Data.{Data}
 use Rattle.serde_json.specs.Read.{of_json, read, max_depth}
 use Rattle.json_tree.specs.Json.{Json, IsSound}
 use Rattle.json_tree.specs.Bytes.{of_data}
-use Rattle.json_reading.specs.Laws.{ValuesReadAreSound}
-use Rattle.json_reading.proofs.Grammar.{HasTexts, read-texts}
-use Rattle.json_reading.proofs.Lexemes.{tokens-texts}
-use Rattle.json_reading.proofs.Values.{of_json-sound}
+use Rattle.json_tree.specs.Laws.{ValuesReadAreSound}
+use Rattle.json_tree.proofs.Grammar.{HasTexts, read-texts}
+use Rattle.json_tree.proofs.Lexemes.{tokens-texts}
+use Rattle.json_tree.proofs.Values.{of_json-sound}
 
 read_sound : (found : Option json.Json) → IfSome found HasTexts → IfSome (option_and_then of_json found) (λ d. IsSound (of_data d))
 read_sound None h = tt

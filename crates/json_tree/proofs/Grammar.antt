@@ -4,7 +4,7 @@ use Rattle.std.specs.Prelude.{⊤, IfSome, option_and_then}
 use Rattle.json.specs.Token as token
 use Rattle.json.specs.Token.{Token}
 use Rattle.json.specs.Json.{Json, null, boolean, number, string, array, object, Items, no_items, item, Members, no_members, member, Parse, parse_map, after_end_array, read_key, items_step, members_step, items, members, value_with, value, if_last}
-use Rattle.json_reading.proofs.Lexemes.{HaveTexts}
+use Rattle.json_tree.proofs.Lexemes.{HaveTexts}
 
 abbrev mutual
   pub HasTexts : Json → Type 0

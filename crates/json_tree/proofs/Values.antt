@@ -14,7 +14,7 @@ use Rattle.serde_json.specs.Find.{as_i64}
 use Rattle.serde_json.specs.Read.{is_integer, float_of, number_from, number_of, of_json, of_items as of_json_items, of_members as of_json_members}
 use Rattle.json_tree.specs.Json.{IsBelow, IsSound, AreSoundItems, AreSoundMembers}
 use Rattle.json_tree.specs.Bytes.{of_whole, of_data, of_items, of_members}
-use Rattle.json_reading.proofs.Grammar.{HasTexts, ItemsHaveTexts, MembersHaveTexts}
+use Rattle.json_tree.proofs.Grammar.{HasTexts, ItemsHaveTexts, MembersHaveTexts}
 
 -- ---- numbers
 

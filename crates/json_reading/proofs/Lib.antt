@@ -1,5 +1,0 @@
-mod Contents
-mod Lexemes
-mod Grammar
-mod Values
-pub mod Reading
