@@ -1,11 +1,15 @@
 -- How long texts are, part by part.
-use Rattle.std.proofs.Common.{true, ◌≡◌, ◌+◌, ◌<◌, ◌≤◌, ℕ, suc, List, [], ◌∷◌, ◌++◌, map, length, get_or, take, refl, sym, ap, ◌∙◌, arith, length-append}
+use Rattle.std.proofs.Common.{Bool, true, ◌&&◌, ◌==◌, ◌≡◌, ◌+◌, ◌<◌, ◌≤◌, ℕ, suc, List, [], ◌∷◌, ◌++◌, map, length, get_or, take, refl, sym, ap, ◌∙◌, arith, length-append}
 use Rattle.std.specs.Fmt.{digits}
 use Rattle.std.specs.List.{sum_by}
 use Rattle.std.proofs.lemmas.List.{take_more}
 use Rattle.std.proofs.lemmas.List.Concat.{flat_map-append}
 use Rattle.std.proofs.lemmas.List.Sums.{sum_by-cons, sum_by_more, sum_by-take-le}
+use Rattle.std.proofs.lemmas.Bool.{or_parts, not-true, and_parts, OnTrue_at, OnTrue_from, eqb-false, ltb-false}
+use Rattle.std.specs.Bool.{OnTrue}
 use Rattle.json.specs.Print.{escape, escape_byte, quoted}
+use Rattle.json.specs.Run.{is_stop, is_plain}
+use Rattle.json.proofs.Printed.Strings.{escape_byte_plain}
 use Rattle.serde_json.specs.Written.{items_text, members_text}
 use Rattle.json_tree.specs.Json.{Json, odd, text, list, object, items_of, members_of}
 use Rattle.json_tree.specs.Tree.{json_of, member_of}
@@ -23,6 +27,20 @@ escape_more s i d within =
     let last : length (escape (x ∷ [])) ≡ length (escape_byte x) = omega (arith, length-append (escape_byte x) []) in
     let both = length-append (escape (take i s)) (escape (x ∷ [])) in
     ap (λ l. length (escape l)) (take_more s i d within) ∙ ap length (flat_map-append escape_byte (take i s) (x ∷ [])) ∙ omega (arith, both, last)
+
+pub plain_one : (x : ℕ) → is_plain x ≡ true → length (escape_byte x) ≡ 1
+plain_one x plain =
+    let none = or_parts _ _ (not-true (is_stop x) plain) in
+    let tests = or_parts (x == 34) _ none.0 in
+    ap length (escape_byte_plain x (eqb-false x 34 tests.0) (eqb-false x 92 tests.1) (ltb-false x 32 none.1))
+
+-- one more plain byte
+pub plain_more : (before here : Bool) (s : List ℕ) (i : ℕ) → i < length s → here ≡ is_plain (get_or s i 0)
+    → OnTrue before (length (escape (take i s)) ≡ i) → OnTrue (before && here) (length (escape (take (i + 1) s)) ≡ i + 1)
+plain_more before here s i within is plain = OnTrue_from (before && here) _ (λ both.
+    let parts = and_parts before here both in
+    let one = plain_one (get_or s i 0) (sym is ∙ parts.1) in
+    omega (arith, one, OnTrue_at parts.0 plain, escape_more s i 0 within))
 
 -- ---- lists and objects
 
