@@ -60,6 +60,9 @@ pub fn read_command(alloc: Global, line: &[u8]) -> Result<Command, LineFault>
     if line.len() > LINE_LIMIT {
         return Err(LineFault::LineTooLong);
     }
+    if line.is_empty() {
+        return Err(LineFault::Blank);
+    }
     let spans = words(alloc, line)?;
     command_at(alloc, line, spans.as_slice())
 }

@@ -1,9 +1,10 @@
 -- The spans of the words lie within the line, and the command is as it is kept.
-use Rattle.std.proofs.Common.{◌≡◌, ◌≤◌, All, IfOk, Result, length, map, ◌∙◌, ap, sym, subst, inl, inr, ⊎_elim, List, ℕ, refl, arith}
-use Rattle.std.proofs.lemmas.Bool.{le-ltb}
+use Rattle.std.proofs.Common.{◌≡◌, ◌≤◌, ◌==◌, All, IfOk, Result, Err, true, length, map, ◌∙◌, ap, sym, subst, inl, inr, ⊎_elim, List, [], ◌∷◌, ℕ, refl, arith}
+use Rattle.std.proofs.lemmas.Bool.{eqb-true, le-ltb}
 use Rattle.plain_text.specs.Spans.{words}
 use Rattle.client_words.specs.declared.command.Command.{Command}
 use Rattle.client_words.specs.declared.line.LineFault.{LineFault}
+use Rattle.client_words.specs.declared.line.LineFault.TheVariants.{Blank}
 use Rattle.client_words.specs.Commands.{IsCommand, IsWithin, command_of, command_of_words, words_of, bytes_at}
 use Rattle.client_words.proofs.Kept.{line-kept}
 use Rattle.client_words.proofs.Within.{words-within}
@@ -13,6 +14,15 @@ use Rattle.client_words.proofs.line.read_command.Goals as goal
 command_of-short : (line : List ℕ) → length line ≤ 4096 → command_of_words (map (bytes_at line) (words line)) ≡ command_of line
 unfolding command_of words_of
 command_of-short line short = rw (le-ltb 4096 (length line) short) refl
+
+-- a line with no bytes has no words
+command_of-empty : (line : List ℕ) → (length line == 0) ≡ true → Err Blank ≡ command_of line
+unfolding command_of words_of
+command_of-empty [] is = refl
+command_of-empty (x ∷ line) is = absurd (omega (arith, eqb-true (length (x ∷ line)) 0 is))
+
+pub returns-then-is_empty-clause-value : goal.returns-then-is_empty-clause-value
+returns-then-is_empty-clause-value c = inl (command_of-empty c.args.line.now (sym c.is_empty.ensures ∙ c.if-is_empty.true))
 
 pub command_at-requires : goal.command_at-requires
 command_at-requires c = subst (λ (spans : List (ℕ × ℕ)). All (IsWithin (length c.args.line.now)) spans) (sym (c.as_slice.ensures ∙ c.in_ok-spans.ensures)) (words-within c.args.line.now)
