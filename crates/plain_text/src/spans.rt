@@ -26,7 +26,10 @@ pub fn lines(alloc: Global, bytes: &[u8]) -> Result<Sequence<(usize, usize)>, Al
 fn line_end(bytes: &[u8]) -> Option<usize>
     ensures { result ≡ position spec.is_line_end bytes.now }
 {
-    memchr(b'\n', bytes)
+    match bytes {
+        [b'\n', ..] => Some(0),
+        _ => memchr(b'\n', bytes),
+    }
 }
 
 /// The length without one byte 13 at the end.
