@@ -6,4 +6,7 @@ pub mod Faulting
 pub mod Lists
 pub mod Arms
 pub mod Exits
+pub mod Steps
+pub mod Stepping
+pub mod Parts
 pub mod Readable

@@ -5,4 +5,6 @@ pub mod Operations
 pub mod Meaning
 pub mod Gives
 pub mod Seen
+pub mod Steps
+pub mod Parts
 pub mod Expressions

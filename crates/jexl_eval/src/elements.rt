@@ -32,13 +32,17 @@ pub(crate) fn member_of<'a>(value: &'a Value, name: &str) -> Found<'a>
     }
 }
 
-/// The member of what was found, which is copied where it was built.
+/// The member of what was found, which is copied unless it is borrowed.
 pub(crate) fn member<'a>(found: Found<'a>, name: &str) -> Result<Found<'a>, EvalFault>
     ensures { Gives found_as_json result (Ok (member name.now (found_as_json found.entry))) }
 {
     match found {
         Found::Borrowed(value) => Ok(member_of(value, name)),
         Found::Owned(value) => Ok(Found::Owned(member_of(&value, name).into_value()?)),
+        Found::Shared(value) => {
+            let member = member_of(value.as_ref(), name);
+            Ok(Found::Owned(member.into_value()?))
+        }
     }
 }
 
@@ -53,13 +57,17 @@ fn part_at<'a>(value: &'a Value, key: &Value) -> Found<'a>
     }
 }
 
-/// The part of what was found at a key, which is copied where it was built.
+/// The part of what was found at a key, which is copied unless it is borrowed.
 pub(crate) fn index<'a>(found: Found<'a>, key: &Value) -> Result<Found<'a>, EvalFault>
     ensures { Gives found_as_json result (Ok (index (found_as_json found.entry) (as_json key.now))) }
 {
     match found {
         Found::Borrowed(value) => Ok(part_at(value, key)),
         Found::Owned(value) => Ok(Found::Owned(part_at(&value, key).into_value()?)),
+        Found::Shared(value) => {
+            let part = part_at(value.as_ref(), key);
+            Ok(Found::Owned(part.into_value()?))
+        }
     }
 }
 

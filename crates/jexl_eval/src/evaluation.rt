@@ -1,4 +1,9 @@
 // The value of a tree.
+//
+// A filter's condition is evaluated for each item. A part of it that has one value for all of them, as
+// `preparing.rt` says which, is evaluated where the first item asks for it, and is known from then on
+// until the whole expression was evaluated. So filters within conditions don't multiply, unless their
+// subjects depend on the item.
 ghost use Rattle.std.specs.Prelude.{◌≡◌, [], ◌∷◌, ◌++◌, Ok, OnOk, if◌then◌else◌};
 ghost use Rattle.json_tree.specs.Json.{null, members_of};
 ghost use Rattle.jexl_parser.specs.View.{view, constant as literal_of};
@@ -8,14 +13,20 @@ ghost use Rattle.jexl_value.specs.Value.{as_json};
 ghost use Rattle.jexl_transforms.specs.Table.{has_transform};
 ghost use Rattle.jexl_eval.specs.Gives.{Gives};
 ghost use Rattle.jexl_eval.specs.Seen.{found_as_json};
+ghost use Rattle.jexl_eval.specs.Steps.{tree_of, trees_of, Fits};
+ghost use Rattle.jexl_eval.specs.Parts.{values_of, AreKnown};
 ghost use Rattle.jexl_eval.specs.Meaning.{meaning, constant, truth_of, truth_meant};
 
 use crate::elements::{index, member, member_of, value_or_null};
 use crate::fault::EvalFault;
 use crate::found::{Found, truth};
+use crate::known::Known;
 use crate::operations::{decided, filter_items, operate};
+use crate::preparing::prepare;
+use crate::scene::Scene;
+use crate::step::Step;
 use crate::transforms::transformed;
-use jexl_parser::{Expr, Literal, Node};
+use jexl_parser::{Expr, Literal};
 use jexl_transforms::TransformTable;
 use jexl_value::{Attributes, NamedValues, Text, Value, Values, truthy};
 use std::alloc::{AllocError, Global};
@@ -38,7 +49,7 @@ pub fn eval(
     ensures { Gives as_json result (meaning (has_transform table.now) (members_of attributes.now.pairs) null (view expr.now.root)) }
 {
     let nothing = Value::Null;
-    match evaluate(alloc, &expr.root, attributes, table, &nothing) {
+    match found(alloc, expr, attributes, table, &nothing) {
         Ok(found) => Ok(found.into_value()?),
         Err(fault) => Err(fault),
     }
@@ -60,7 +71,7 @@ pub fn eval_truth(
     ensures { Gives (λ t. t) result (truth_meant (meaning (has_transform table.now) (members_of attributes.now.pairs) null (view expr.now.root))) }
 {
     let nothing = Value::Null;
-    match evaluate(alloc, &expr.root, attributes, table, &nothing) {
+    match found(alloc, expr, attributes, table, &nothing) {
         Ok(found) => Ok(truth_of(found.value())),
         Err(fault) => Err(fault),
     }
@@ -75,102 +86,133 @@ fn truth_of(value: &Value) -> Option<bool>
     }
 }
 
-// The value of a node, borrowed where it lies in the attributes or in `current`, the item that relative
-// names speak of. It is one function, since its loops go over nodes of the tree, and what each operation
-// does stands in functions over values.
-fn evaluate<'a>(
+// The value of an expression, borrowed where it lies in the attributes.
+fn found<'a>(
     alloc: Global,
-    node: &Node,
+    expr: &Expr,
     attributes: &'a Attributes,
     table: &TransformTable,
-    current: &'a Value,
+    nothing: &'a Value,
 ) -> Result<Found<'a>, EvalFault>
-    ensures { Gives found_as_json result (meaning (has_transform table.now) (members_of attributes.now.pairs) (as_json current.now) (view node.now)) }
+    ensures { Gives found_as_json result (meaning (has_transform table.now) (members_of attributes.now.pairs) (as_json nothing.now) (view expr.now.root)) }
 {
-    match node {
-        Node::Literal(literal) => constant(literal),
-        Node::Name(name) => Ok(value_or_null(attributes.get(name.as_str()))),
-        Node::Relative(name) => Ok(member_of(current, name.as_str())),
-        Node::List(nodes) => {
-            let nodes = nodes.as_slice();
-            let mut values = Values::new(alloc);
-            for node in nodes {
-                let value = evaluate(alloc, node, attributes, table, current)?;
+    let mut parts = Vec::new(alloc);
+    let step = prepare(alloc, &expr.root, false, &mut parts)?;
+    let mut known = Known::new(alloc, parts.len())?;
+    let scene = Scene {
+        alloc,
+        attributes,
+        table,
+        parts: parts.as_slice(),
+    };
+    evaluate(&step, &scene, nothing, &mut known)
+}
+
+// The value of a tree, borrowed where it lies in the attributes or in `current`, the item that relative
+// names speak of. It is one function, since its loops go over steps of the tree, and what each operation
+// does stands in functions over values.
+fn evaluate<'a>(
+    step: &Step,
+    scene: &Scene<'a, '_>,
+    current: &'a Value,
+    known: &mut Known,
+) -> Result<Found<'a>, EvalFault>
+    requires fits { Fits (trees_of scene.now.parts.now) step.now }
+    requires known { AreKnown (has_transform scene.now.table.now) (members_of scene.now.attributes.now.pairs) (trees_of scene.now.parts.now) (values_of known.old) }
+    ensures value { Gives found_as_json result (meaning (has_transform scene.now.table.now) (members_of scene.now.attributes.now.pairs) (as_json current.now) (tree_of step.now)) }
+    ensures known { OnOk result (AreKnown (has_transform scene.now.table.now) (members_of scene.now.attributes.now.pairs) (trees_of scene.now.parts.now) (values_of known.new)) }
+{
+    match step {
+        Step::Literal(literal) => constant(literal),
+        Step::Name(name) => Ok(value_or_null(scene.attributes.get(name.as_str()))),
+        Step::Relative(name) => Ok(member_of(current, name.as_str())),
+        Step::List(steps) => {
+            let steps = steps.as_slice();
+            let mut values = Values::new(scene.alloc);
+            for step in steps {
+                let value = evaluate(step, scene, current, known)?;
                 push(&mut values, value)?;
             }
             Ok(Found::Owned(Value::List(values)))
         }
-        Node::Members(pairs) => {
+        Step::Members(pairs) => {
             let pairs = pairs.as_slice();
-            let mut members = NamedValues::new(alloc);
-            for (name, node) in pairs {
-                let member = evaluate(alloc, node, attributes, table, current)?;
+            let mut members = NamedValues::new(scene.alloc);
+            for (name, step) in pairs {
+                let member = evaluate(step, scene, current, known)?;
                 put(&mut members, name, member)?;
             }
             Ok(Found::Owned(Value::Object(members)))
         }
-        Node::Member(subject, name) => {
-            let subject = evaluate(alloc, subject, attributes, table, current)?;
+        Step::Member(subject, name) => {
+            let subject = evaluate(subject, scene, current, known)?;
             member(subject, name.as_str())
         }
-        Node::Index(subject, key) => {
-            let subject = evaluate(alloc, subject, attributes, table, current)?;
-            let key = evaluate(alloc, key, attributes, table, current)?;
+        Step::Index(subject, key) => {
+            let subject = evaluate(subject, scene, current, known)?;
+            let key = evaluate(key, scene, current, known)?;
             index(subject, key.value())
         }
-        Node::Filter(subject, condition) => {
-            let subject = evaluate(alloc, subject, attributes, table, current)?;
+        Step::Filter(subject, condition) => {
+            let subject = evaluate(subject, scene, current, known)?;
             let items = filter_items(subject.value())?;
-            let mut kept = Values::new(alloc);
+            let mut kept = Values::new(scene.alloc);
             for item in items {
-                let verdict = evaluate(alloc, condition, attributes, table, item)?;
+                let verdict = evaluate(condition, scene, item, known)?;
                 keep_if(&mut kept, verdict.value(), item)?;
             }
             Ok(Found::Owned(Value::List(kept)))
         }
-        Node::Transform(subject, name, arguments) => {
-            let subject = evaluate(alloc, subject, attributes, table, current)?;
+        Step::Transform(subject, name, arguments) => {
+            let subject = evaluate(subject, scene, current, known)?;
             let arguments = arguments.as_slice();
-            let mut values = Values::new(alloc);
+            let mut values = Values::new(scene.alloc);
             for argument in arguments {
-                let value = evaluate(alloc, argument, attributes, table, current)?;
+                let value = evaluate(argument, scene, current, known)?;
                 push(&mut values, value)?;
             }
             transformed(
-                table,
+                scene.table,
                 name.as_str(),
-                attributes,
+                scene.attributes,
                 subject.value(),
                 values.as_slice(),
             )
         }
-        Node::Not(inside) => {
-            let value = evaluate(alloc, inside, attributes, table, current)?;
+        Step::Not(inside) => {
+            let value = evaluate(inside, scene, current, known)?;
             Ok(truth(!truthy(value.value())))
         }
-        Node::Binary(sign, left, right) => {
-            let left = evaluate(alloc, left, attributes, table, current)?;
+        Step::Binary(sign, left, right) => {
+            let left = evaluate(left, scene, current, known)?;
             if let Some(decided) = decided(*sign, left.value()) {
                 return Ok(truth(decided));
             }
-            let right = evaluate(alloc, right, attributes, table, current)?;
-            operate(alloc, *sign, left, right.value())
+            let right = evaluate(right, scene, current, known)?;
+            operate(scene.alloc, *sign, left, right.value())
         }
-        Node::Choose(condition, first, second) => {
-            let condition = evaluate(alloc, condition, attributes, table, current)?;
+        Step::Choose(condition, first, second) => {
+            let condition = evaluate(condition, scene, current, known)?;
             if truthy(condition.value()) {
-                evaluate(alloc, first, attributes, table, current)
+                evaluate(first, scene, current, known)
             } else {
-                evaluate(alloc, second, attributes, table, current)
+                evaluate(second, scene, current, known)
             }
         }
-        Node::OrElse(first, second) => {
-            let first = evaluate(alloc, first, attributes, table, current)?;
+        Step::OrElse(first, second) => {
+            let first = evaluate(first, scene, current, known)?;
             if truthy(first.value()) {
                 Ok(first)
             } else {
-                evaluate(alloc, second, attributes, table, current)
+                evaluate(second, scene, current, known)
             }
+        }
+        Step::Kept(place, part) => {
+            if let Some(value) = known.at(*place) {
+                return Ok(Found::Shared(value.clone()?));
+            }
+            let value = evaluate(part, scene, current, known)?;
+            Ok(known.keep(scene.alloc, *place, value)?)
         }
     }
 }

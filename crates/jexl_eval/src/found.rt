@@ -1,17 +1,19 @@
-// A value that lies in the attributes or in an item, or one that was built.
+// A value that lies in the attributes or in an item, one that was built, or one that is kept.
 ghost use Rattle.std.specs.Prelude.{◌≡◌, IfOk};
 ghost use Rattle.json_tree.specs.Json as json;
 ghost use Rattle.jexl_value.specs.Value.{as_json};
 ghost use Rattle.jexl_eval.specs.Seen.{found_as_json};
 
 use jexl_value::Value;
-use std::alloc::AllocError;
+use std::alloc::{AllocError, Global};
+use std::rc::Rc;
 
-/// A value that lies in the attributes or in an item, or one that was built.
+/// A value that lies in the attributes or in an item, one that was built, or one that is kept.
 #[derive(Drop)]
 pub(crate) enum Found<'a> {
     Borrowed(&'a Value),
     Owned(Value),
+    Shared(Rc<Value>),
 }
 
 impl<'a> Found<'a> {
@@ -22,16 +24,29 @@ impl<'a> Found<'a> {
         match self {
             Found::Borrowed(value) => value,
             Found::Owned(value) => value,
+            Found::Shared(value) => value.as_ref(),
         }
     }
 
-    /// The value, which is copied where it is borrowed.
+    /// The value, which is copied where it is borrowed or kept.
     pub(crate) fn into_value(self) -> Result<Value, AllocError>
         ensures { IfOk result (λ v. as_json v ≡ found_as_json self.entry) }
     {
         match self {
             Found::Borrowed(value) => value.clone(),
             Found::Owned(value) => Ok(value),
+            Found::Shared(value) => value.as_ref().clone(),
+        }
+    }
+
+    /// The value to be kept, which is copied where it is borrowed.
+    pub(crate) fn into_shared(self, alloc: Global) -> Result<Rc<Value>, AllocError>
+        ensures { IfOk result (λ r. as_json r.value ≡ found_as_json self.entry) }
+    {
+        match self {
+            Found::Borrowed(value) => Ok(Rc::new(alloc, value.clone()?)?),
+            Found::Owned(value) => Ok(Rc::new(alloc, value)?),
+            Found::Shared(value) => Ok(value),
         }
     }
 }

@@ -9,7 +9,12 @@ mod elements;
 mod evaluation;
 mod fault;
 mod found;
+mod known;
 mod operations;
+mod preparing;
+mod relative;
+mod scene;
+mod step;
 mod transforms;
 
 pub use evaluation::{eval, eval_truth};

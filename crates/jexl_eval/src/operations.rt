@@ -80,6 +80,7 @@ fn plus<'a>(alloc: Global, left: Found<'a>, right: &Value) -> Result<Found<'a>, 
     match left {
         Found::Borrowed(left) => plus_borrowed(alloc, left, right),
         Found::Owned(left) => plus_owned(left, right),
+        Found::Shared(left) => plus_borrowed(alloc, left.as_ref(), right),
     }
 }
 
