@@ -20,6 +20,7 @@ use Rattle.fml_value.specs.Fits.{type_of_field}
 use Rattle.fml_value.specs.Kinds.{is_object}
 use Rattle.fml_value.specs.Takes.{takes}
 use Rattle.fml_value.specs.Typed.{TypedValue, truth, whole, list, present, object, no_entries, entries_of}
+pub use Rattle.fml_merge.specs.Layers.{depth_of}
 use Rattle.fml_merge.specs.Overlay.{fields_of, held, inside, laid, items_laid, item_type, members_laid, overlay_with, pairs_in, put, text_value, type_under, with_member}
 use Rattle.fml_merge.specs.Zero.{initial, with_default, zero_named, zero_within}
 use Rattle.fml_merge.specs.Merging.{field_laid, object_fields, zero_fields}
@@ -53,10 +54,6 @@ none_under k no_members below = refl
 none_under k (member l x ms) below =
     let other : bytes_eq l k ≡ false = other_way k l (texts_ties k l ∙ ap is_eq below.0) in
     ap (λ b. if b then Some x else get_member k ms) other ∙ none_under k ms below.1
-
-abbrev pub depth_of : Maybe Json → ℕ
-depth_of None = 0
-depth_of (Some x) = depth x
 
 pub depth_under : (k : Seq ℕ) (ms : Members) → depth_of (get_member k ms) ≤ members_depth ms
 depth_under k no_members = omega arith

@@ -1,15 +1,14 @@
 -- Layers laid over entries and over values, one after the other.
 use Rattle.std.proofs.Common.{◌≡◌, ℕ, zero, suc, ◌+◌, ◌<◌, ◌≤◌, true, false, List as Seq, [], ◌∷◌, ◌++◌, length, map as over, get_or, take, drop, fold, Option as Maybe, Some, None, refl, sym, ap, ap₂, ◌∙◌, subst, append_assoc, arith}
 use Rattle.std.proofs.lemmas.List.{take_more}
-use Rattle.std.specs.Prelude.{unwrap_or, if◌then◌else◌}
+use Rattle.std.specs.Prelude.{if◌then◌else◌}
 use Rattle.std.specs.List.{list_any}
-use Rattle.std.specs.Cmp.Lexicographic.{bytes_decides}
 use Rattle.json_tree.specs.Json as json
 use Rattle.json_tree.specs.Json.{Json, IsSound, depth, members_depth, members_of}
 use Rattle.json_tree.specs.Tree.{json_of}
 use Rattle.json_tree.specs.declared.tree.Tree.{Tree}
 use Rattle.json_tree.specs.declared.tree.Tree.TheVariants as trees
-use Rattle.fml_types.specs.Named.{AreRising, found}
+use Rattle.fml_types.specs.Named.{AreRising}
 use Rattle.fml_types.specs.Shape as shape
 use Rattle.fml_types.specs.Shape.{Shape}
 use Rattle.fml_types.specs.Shapes.{shape_of}
@@ -19,13 +18,11 @@ use Rattle.fml_types.specs.declared.manifest.TypeTable.{TypeTable}
 use Rattle.fml_value.specs.Kinds.{is_object}
 use Rattle.fml_value.specs.Takes.{takes}
 use Rattle.fml_value.specs.Typed.{TypedValue, present}
-use Rattle.fml_value.specs.TypedOf.{entry_of}
-use Rattle.fml_value.specs.declared.value.Value.{Value}
-use Rattle.fml_merge.specs.Overlay.{pairs_in, held, laid, members_laid, type_under, value_with, put, with_member, overlay_with}
-use Rattle.fml_merge.specs.Layers.{trees_laid, objects_laid, layers_laid, run_laid, run_length, AreClimbing, trees_depth, layers_depth}
+use Rattle.fml_merge.specs.Overlay.{pairs_in, held, laid, members_laid, type_under, value_with, overlay_with}
+use Rattle.fml_merge.specs.Layers.{trees_laid, objects_laid, layers_laid, run_laid, run_length, AreClimbing, trees_depth, layers_depth, objects_depth}
 use Rattle.fml_merge.specs.Merging.{lower, upper, named, unnamed}
 use Rattle.fml_merge.proofs.Fields.{replaces}
-use Rattle.fml_merge.proofs.Merge.{one_run, lower-map, upper-map, named-map, unnamed-map, map_join, put_at}
+use Rattle.fml_merge.proofs.Merge.{one_run}
 use Rattle.fml_merge.proofs.Pieces.{pairs_kept}
 use Rattle.fml_merge.proofs.Sorted.{run_named, first_run_past}
 use Rattle.fml_merge.proofs.Under.{laid_join, run_is}
@@ -52,47 +49,26 @@ module _ (zeros : Shape → TypedValue) (types : TypeTable) where
         ∙ ap (λ fs. members_laid zeros types type_of fs (members_of later)) (run_is zeros types type_of k run es (run_named k (p ∷ ps)) rising)
         ∙ one_run zeros types type_of k (λ t. list_any (takes types t) xs) (λ t w. trees_laid zeros types t w xs) es (members_of later) rising (first_run_past k p ps is climb)
 
-    pub run_turn : (k : Seq ℕ) (p : Seq ℕ × Json) (ps left later : Seq (Seq ℕ × Json)) (front grown rest after entry : Seq (Seq ℕ × Value)) (xs : Seq Json) (all : Seq (Seq ℕ × TypedValue)) → left ≡ p ∷ ps → k ≡ p.0 → AreClimbing left → AreRising (over entry_of rest)
+    pub run_turn : (k : Seq ℕ) (p : Seq ℕ × Json) (ps left later : Seq (Seq ℕ × Json)) (front grown es after : Seq (Seq ℕ × TypedValue)) (xs : Seq Json) (all : Seq (Seq ℕ × TypedValue)) → left ≡ p ∷ ps → k ≡ p.0 → AreClimbing left → AreRising es
         → xs ≡ over (λ q. q.1) (take (run_length k left) left) → later ≡ drop (run_length k left) left
-        → grown ≡ (front ++ lower k rest) ++ entry → after ≡ unnamed k (upper k rest) → over entry_of entry ≡ run_laid zeros types type_of k xs (over entry_of (named k (upper k rest)))
-        → over entry_of front ++ members_laid zeros types type_of (over entry_of rest) (members_of left) ≡ all
-        → over entry_of grown ++ members_laid zeros types type_of (over entry_of after) (members_of later) ≡ all
-    run_turn k p ps left later front grown rest after entry xs all here is climb rising run_is_xs later_is grows goes value so_far =
-        let es = over entry_of rest in
+        → grown ≡ (front ++ lower k es) ++ run_laid zeros types type_of k xs (named k (upper k es)) → after ≡ unnamed k (upper k es)
+        → front ++ members_laid zeros types type_of es (members_of left) ≡ all
+        → grown ++ members_laid zeros types type_of after (members_of later) ≡ all
+    run_turn k p ps left later front grown es after xs all here is climb rising run_is_xs later_is grows goes so_far =
         let n = run_length k (p ∷ ps) in
         let ys = over (λ (q : Seq ℕ × Json). q.1) (take n (p ∷ ps)) in
         let mid = run_laid zeros types type_of k ys (named k (upper k es)) in
         let next = unnamed k (upper k es) in
         let ms = members_of (drop n (p ∷ ps)) in
-        let entry_is : over entry_of entry ≡ mid =
-        value ∙ ap₂ (λ zs fs. run_laid zeros types type_of k zs fs) (run_is_xs ∙ ap (λ l. over (λ (q : Seq ℕ × Json). q.1) (take (run_length k l) l)) here) (named-map k (upper k rest) ∙ ap (named k) (upper-map k rest)) in
-        let after_is : over entry_of after ≡ next = ap (over entry_of) goes ∙ unnamed-map k (upper k rest) ∙ ap (unnamed k) (upper-map k rest) in
-        let grown_is : over entry_of grown ≡ over entry_of front ++ (lower k es ++ mid) =
-        ap (over entry_of) grows ∙ map_join (front ++ lower k rest) entry ∙ ap (λ l. l ++ over entry_of entry) (map_join front (lower k rest) ∙ ap (λ l. over entry_of front ++ l) (lower-map k rest))
-        ∙ ap (λ l. (over entry_of front ++ lower k es) ++ l) entry_is ∙ append_assoc (over entry_of front) (lower k es) mid in
+        let xs_is : xs ≡ ys = run_is_xs ∙ ap (λ l. over (λ (q : Seq ℕ × Json). q.1) (take (run_length k l) l)) here in
+        let grown_is : grown ≡ front ++ (lower k es ++ mid) =
+        grows ∙ ap (λ zs. (front ++ lower k es) ++ run_laid zeros types type_of k zs (named k (upper k es))) xs_is ∙ append_assoc front (lower k es) mid in
         let left_is : members_of later ≡ ms = ap members_of (later_is ∙ ap (λ l. drop (run_length k l) l) here) in
-        ap₂ (λ f l. f ++ members_laid zeros types type_of l (members_of later)) grown_is after_is
-        ∙ ap (λ m. (over entry_of front ++ (lower k es ++ mid)) ++ members_laid zeros types type_of next m) left_is
-        ∙ append_assoc (over entry_of front) (lower k es ++ mid) (members_laid zeros types type_of next ms)
-        ∙ ap (λ l. over entry_of front ++ l) (sym (run_parts k p ps es is (subst AreClimbing here climb) rising))
-        ∙ ap (λ l. over entry_of front ++ members_laid zeros types type_of es (members_of l)) (sym here) ∙ so_far
-
-    -- members that are gone through to the end
-    pub run_end : {A : Type 0} (g : A → Seq ℕ × Json) (left : Seq A) (front rest joined : Seq (Seq ℕ × Value)) (all : Seq (Seq ℕ × TypedValue)) → left ≡ [] → joined ≡ front ++ rest
-        → over entry_of front ++ members_laid zeros types type_of (over entry_of rest) (members_of (over g left)) ≡ all → over entry_of joined ≡ all
-    run_end g left front rest joined all none joins so_far =
-        ap (over entry_of) joins ∙ map_join front rest ∙ sym (ap (λ l. over entry_of front ++ members_laid zeros types type_of (over entry_of rest) (members_of (over g l))) none) ∙ so_far
-
-    -- an entry of the run's name
-    pub run_over : (k : Seq ℕ) (xs : Seq Json) (t : Shape) (name : Seq ℕ) (base value : TypedValue) → type_of k ≡ Some t → list_any (takes types t) xs ≡ true → name ≡ k
-        → value ≡ trees_laid zeros types t base xs → (name, value) ∷ [] ≡ run_laid zeros types type_of k xs ((name, base) ∷ [])
-    run_over k xs t name base value typed taken same e =
-        let lay : Shape → TypedValue → TypedValue = λ u v. trees_laid zeros types u v xs in
-        let es : Seq (Seq ℕ × TypedValue) = (name, base) ∷ [] in
-        let here : found k es ≡ Some base = ap (λ b. if b then Some base else None) ((bytes_decides name k).1 same) in
-        let done : with_member zeros (λ u. list_any (takes types u) xs) lay k (Some t) es ≡ (k, lay t base) ∷ [] =
-        ap (λ b. if b then put k (lay t (unwrap_or (found k es) (zeros t))) es else es) taken ∙ ap (λ o. put k (lay t (unwrap_or o (zeros t))) es) here ∙ put_at k (lay t base) (name, base) [] ((bytes_decides name k).1 same) in
-        ap₂ (λ n v. (n, v) ∷ []) same e ∙ sym done ∙ ap (λ o. with_member zeros (λ u. list_any (takes types u) xs) lay k o es) (sym typed)
+        ap₂ (λ f l. f ++ members_laid zeros types type_of l (members_of later)) grown_is goes
+        ∙ ap (λ m. (front ++ (lower k es ++ mid)) ++ members_laid zeros types type_of next m) left_is
+        ∙ append_assoc front (lower k es ++ mid) (members_laid zeros types type_of next ms)
+        ∙ ap (λ l. front ++ l) (sym (run_parts k p ps es is (subst AreClimbing here climb) rising))
+        ∙ ap (λ l. front ++ members_laid zeros types type_of es (members_of l)) (sym here) ∙ so_far
 
   -- ---- objects laid over a value
 
@@ -164,6 +140,10 @@ module _ (zeros : Shape → TypedValue) (types : TypeTable) where
     pub other_more : (value : TypedValue) → takes types t x ≡ true → is_object x ≡ false → value ≡ laid zeros types t under x → value ≡ trees_laid zeros types t base ys
     other_more value h other is = is ∙ replaces zeros types t x under (trees_laid zeros types t base xs) other ∙ sym (taken_next h)
 
+pub no_items : {A : Type 0} (xs : Seq A) → length xs ≡ 0 → xs ≡ []
+no_items [] h = refl
+no_items (x ∷ xs) h = absurd (omega (arith, h))
+
 pub over_join : {A B : Type 0} (g : A → B) (ys : Seq A) (y : A) → over g (ys ++ y ∷ []) ≡ over g ys ++ g y ∷ []
 over_join g [] y = refl
 over_join g (z ∷ ys) y = ap (λ l. g z ∷ l) (over_join g ys y)
@@ -186,26 +166,24 @@ over_more g xs i x h is = ap (over g) (take_more xs i x h) ∙ over_join g (take
 
 -- ---- depths
 
+pub one_object : (ms : json.Members) → objects_depth (ms ∷ []) ≡ suc (members_depth ms)
+one_object ms = omega arith
+
+pub objects_deep : (mss : Seq json.Members) → 0 < length mss → objects_depth mss ≡ suc (layers_depth mss)
+objects_deep [] some = absurd (omega (arith, some))
+objects_deep (ms ∷ mss) some = refl
+
+layers_more : (mss : Seq json.Members) (ms : json.Members) (n : ℕ) → layers_depth mss ≤ n → members_depth ms ≤ n → layers_depth (mss ++ ms ∷ []) ≤ n
+layers_more [] ms n h i = omega (arith, i)
+layers_more (l ∷ mss) ms n h i = omega (arith, h, layers_more mss ms n (omega (arith, h)) i)
+
 -- one object more is within the trees
-pub deeper : (mss : Seq json.Members) (ms : json.Members) (n : ℕ) → (0 < length mss → layers_depth mss + 1 ≤ n) → members_depth ms + 1 ≤ n → layers_depth (mss ++ ms ∷ []) + 1 ≤ n
+pub deeper : (mss : Seq json.Members) (ms : json.Members) (n : ℕ) → objects_depth mss ≤ n → suc (members_depth ms) ≤ n → objects_depth (mss ++ ms ∷ []) ≤ n
 deeper [] ms n h i = omega (arith, i)
-deeper (l ∷ []) ms n h i = omega (arith, h (omega arith), i)
-deeper (l ∷ m ∷ mss) ms n h i =
-    let all = h (omega arith) in
-    let rest = deeper (m ∷ mss) ms n (λ some. omega (arith, all)) i in
-    omega (arith, all, rest)
+deeper (l ∷ mss) ms zero h i = absurd (omega (arith, h))
+deeper (l ∷ mss) ms (suc n) h i = omega (arith, h, layers_more mss ms n (omega (arith, h)) (omega (arith, i)))
 
 pub tree_deep : {A : Type 0} (f : A → Json) (xs : Seq A) (i : ℕ) (d : A) → i < length xs → depth (f (get_or xs i d)) ≤ trees_depth (over f xs)
 tree_deep f [] i d h = absurd (omega (arith, h))
 tree_deep f (x ∷ xs) zero d h = omega arith
 tree_deep f (x ∷ xs) (suc i) d h = omega (arith, tree_deep f xs i d (omega (arith, h)))
-
-pub layer_deep : {A : Type 0} (f : A → json.Members) (xs : Seq A) (i : ℕ) (d : A) → i < length xs → members_depth (f (get_or xs i d)) ≤ layers_depth (over f xs)
-layer_deep f [] i d h = absurd (omega (arith, h))
-layer_deep f (x ∷ xs) zero d h = omega arith
-layer_deep f (x ∷ xs) (suc i) d h = omega (arith, layer_deep f xs i d (omega (arith, h)))
-
-pub layers_drop : (n : ℕ) (mss : Seq json.Members) → layers_depth (drop n mss) ≤ layers_depth mss
-layers_drop zero mss = omega arith
-layers_drop (suc n) [] = omega arith
-layers_drop (suc n) (ms ∷ mss) = omega (arith, layers_drop n mss)

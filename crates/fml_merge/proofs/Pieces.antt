@@ -1,7 +1,7 @@
 -- The parts of values and of what is laid over them.
 use Rattle.std.proofs.Common.{◌≡◌, ℕ, zero, suc, ◌<◌, Bool, true, false, List as Seq, [], ◌∷◌, length, map as over, get_or, take, Option as Maybe, Some, None, refl, sym, ap, ap₂, ◌∙◌, subst, arith}
 use Rattle.std.specs.Option.{option_to_list}
-use Rattle.std.specs.Prelude.{bytes_eq, unwrap_or, if◌then◌else◌}
+use Rattle.std.specs.Prelude.{bytes_eq, if◌then◌else◌}
 use Rattle.std.specs.Cmp.Lexicographic.{slice_cmp, bytes_decides}
 use Rattle.std.specs.Ordering.{nat_cmp}
 use Rattle.std.specs.declared.cmp.Ordering.TheVariants.{Less}
@@ -9,17 +9,16 @@ use Rattle.json_tree.specs.Json as json
 use Rattle.json_tree.specs.Json.{Json}
 use Rattle.json_tree.specs.Tree.{json_of}
 use Rattle.json_tree.specs.declared.tree.Tree.{Tree}
-use Rattle.fml_types.specs.Named.{IsAbove, IsBelow, AreRising, found}
+use Rattle.fml_types.specs.Named.{IsAbove, IsBelow, AreRising}
 use Rattle.fml_types.specs.Shape as shape
 use Rattle.fml_types.specs.Shape.{Shape}
 use Rattle.fml_types.specs.declared.manifest.Field.{Field}
 use Rattle.fml_types.specs.declared.manifest.TypeTable.{TypeTable}
-use Rattle.fml_value.specs.Takes.{takes}
 use Rattle.fml_value.specs.Typed.{TypedValue, item, items_of, entries_of}
+use Rattle.fml_value.specs.TypedOf.{entry_of}
 use Rattle.fml_value.specs.declared.value.Value.{Value}
-use Rattle.fml_merge.specs.Overlay.{pairs_of, held, laid, items_laid, put, with_member}
-use Rattle.fml_merge.specs.Merging.{inside_laid, member_laid, named}
-use Rattle.fml_merge.proofs.Merge.{put_at}
+use Rattle.fml_merge.specs.Overlay.{pairs_of, held, laid, items_laid}
+use Rattle.fml_merge.specs.Merging.{inside_laid, named}
 
 pub pairs_kept : (es : Seq (Seq ℕ × TypedValue)) → pairs_of (entries_of es) ≡ es
 pairs_kept [] = refl
@@ -39,23 +38,13 @@ pub laid_items : (zeros : Shape → TypedValue) (types : TypeTable) (t : Shape) 
 laid_items zeros types t [] = refl
 laid_items zeros types t (u ∷ ts) = ap (λ l. item (laid zeros types t (zeros t) (json_of u)) l) (laid_items zeros types t ts)
 
--- an entry that has the member's name
-pub member_over : (zeros : Shape → TypedValue) (types : TypeTable) (type_of : Seq ℕ → Maybe Shape) (k : Seq ℕ) (x : Json) (t : Shape) (name : Seq ℕ) (base value : TypedValue) → type_of k ≡ Some t → takes types t x ≡ true → name ≡ k
-    → value ≡ laid zeros types t base x → (name, value) ∷ [] ≡ member_laid zeros types type_of k x ((name, base) ∷ [])
-member_over zeros types type_of k x t name base value typed taken same e =
-    let lay : Shape → TypedValue → TypedValue = λ u v. laid zeros types u v x in
-    let es : Seq (Seq ℕ × TypedValue) = (name, base) ∷ [] in
-    let here : found k es ≡ Some base = ap (λ b. if b then Some base else None) ((bytes_decides name k).1 same) in
-    let done : with_member zeros (λ u. takes types u x) lay k (Some t) es ≡ (k, lay t base) ∷ [] =
-    ap (λ b. if b then put k (lay t (unwrap_or (found k es) (zeros t))) es else es) taken ∙ ap (λ o. put k (lay t (unwrap_or o (zeros t))) es) here ∙ put_at k (lay t base) (name, base) [] ((bytes_decides name k).1 same) in
-    ap₂ (λ n v. (n, v) ∷ []) same e ∙ sym done ∙ ap (λ o. with_member zeros (λ u. takes types u x) lay k o es) (sym typed)
-
-pub named_has : (k : Seq ℕ) (ps : Seq (Seq ℕ × Value)) (o : Maybe (Seq ℕ × Value)) (p : Seq ℕ × Value) → option_to_list o ≡ named k ps → o ≡ Some p → p.0 ≡ k
-named_has k [] o p e is = absurd (cc (ap option_to_list is))
-named_has k (q ∷ ps) o p e is = one (bytes_eq q.0 k) refl (sym (ap option_to_list is) ∙ e)
+-- an entry that is taken has the name
+pub taken_has : (k : Seq ℕ) (es : Seq (Seq ℕ × TypedValue)) (o : Maybe (Seq ℕ × Value)) (p : Seq ℕ × Value) → over entry_of (option_to_list o) ≡ named k es → o ≡ Some p → p.0 ≡ k
+taken_has k [] o p e is = absurd (cc (ap (λ (m : Maybe (Seq ℕ × Value)). over entry_of (option_to_list m)) is))
+taken_has k (q ∷ es) o p e is = one (bytes_eq q.0 k) refl (sym (ap (λ (m : Maybe (Seq ℕ × Value)). over entry_of (option_to_list m)) is) ∙ e)
   where
-    one : (b : Bool) → bytes_eq q.0 k ≡ b → p ∷ [] ≡ (if b then q ∷ [] else []) → p.0 ≡ k
-    one true same h = (let here : p ≡ q = cc in ap (λ (r : Seq ℕ × Value). r.0) here) ∙ (bytes_decides q.0 k).0 same
+    one : (b : Bool) → bytes_eq q.0 k ≡ b → entry_of p ∷ [] ≡ (if b then q ∷ [] else []) → p.0 ≡ k
+    one true same h = (let here : entry_of p ≡ q = cc in ap (λ (r : Seq ℕ × TypedValue). r.0) here) ∙ (bytes_decides q.0 k).0 same
     one false other h = absurd cc
 
 -- ---- names that rise

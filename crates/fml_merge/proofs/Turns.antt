@@ -1,5 +1,5 @@
 -- A turn of the walk over sorted pieces: the run of the first name, and what follows it.
-use Rattle.std.proofs.Common.{◌≡◌, ℕ, zero, suc, ◌+◌, ◌-◌, ◌<◌, ◌≤◌, List as Seq, [], ◌∷◌, ◌++◌, length, map as over, get_or, take, drop, Option as Maybe, refl, sym, ap, ◌∙◌, subst, arith}
+use Rattle.std.proofs.Common.{◌≡◌, ℕ, zero, suc, ◌+◌, ◌-◌, ◌<◌, ◌≤◌, List as Seq, [], ◌∷◌, ◌++◌, length, map as over, get_or, take, drop, Bor, Option as Maybe, refl, sym, ap, ap₂, ◌∙◌, subst, arith}
 use Rattle.std.proofs.lemmas.List.{length-map, take_all}
 use Rattle.json_tree.specs.Json as json
 use Rattle.json_tree.specs.Json.{Json, members_depth, members_of}
@@ -8,14 +8,14 @@ use Rattle.fml_types.specs.Named.{AreRising}
 use Rattle.fml_types.specs.Shape.{Shape}
 use Rattle.fml_types.specs.declared.manifest.TypeTable.{TypeTable}
 use Rattle.fml_value.specs.Typed.{TypedValue}
-use Rattle.fml_value.specs.TypedOf.{entry_of}
-use Rattle.fml_value.specs.declared.value.Value.{Value}
 use Rattle.fml_merge.specs.Layers.{layers_laid, run_laid, piece_of, pieces, trees_under, run_length, AreClimbing, trees_depth}
-use Rattle.fml_merge.specs.Merging.{lower, upper, named, unnamed}
+use Rattle.fml_merge.specs.Laying.{layers_of}
+use Rattle.fml_merge.specs.Merging.{merged_in, left_in, lower, upper, named, unnamed}
 use Rattle.fml_merge.specs.Overlay.{members_laid}
+use Rattle.fml_merge.specs.declared.merging.Merge.{Merge}
 use Rattle.fml_merge.specs.declared.sorting.Piece.{Piece}
 use Rattle.fml_merge.proofs.Layered.{first_rest, run_turn}
-use Rattle.fml_merge.proofs.Merge.{laid_rising, left_rising, upper-map, unnamed-map}
+use Rattle.fml_merge.proofs.Merge.{laid_rising, left_rising}
 use Rattle.fml_merge.proofs.Sorted.{climbing_drop, deep_drop, deep_take, drop-over, over-over, run_most, run_some, take-over}
 use Rattle.fml_merge.proofs.Under.{layers_joined, same_laid}
 
@@ -88,19 +88,18 @@ module _ (ps : Seq Piece) (start : ℕ) (left : Seq Piece) (x : Piece) (key : Se
       let same = ap (λ l. members_depth (members_of l)) later_is in
       omega (arith, same, within, deep_drop (run_length key (over piece_of (drop start ps))) (over piece_of (drop start ps)))
 
-  pub turn_same : (zeros : Shape → TypedValue) (types : TypeTable) (type_of : Seq ℕ → Maybe Shape) (run : Seq Piece) (front grown rest after entry : Seq (Seq ℕ × Value)) (all : Seq (Seq ℕ × TypedValue)) → run ≡ take count (drop start ps)
-      → AreClimbing (over piece_of (drop start ps)) → AreRising (over entry_of rest) → grown ≡ (front ++ lower key rest) ++ entry → after ≡ unnamed key (upper key rest)
-      → over entry_of entry ≡ run_laid zeros types type_of key (over tree_in run) (over entry_of (named key (upper key rest)))
-      → over entry_of front ++ members_laid zeros types type_of (over entry_of rest) (members_of (over piece_of (drop start ps))) ≡ all
-      → over entry_of grown ++ members_laid zeros types type_of (over entry_of after) (members_of (over piece_of (drop (start + count) ps))) ≡ all
-  turn_same zeros types type_of run front grown rest after entry all taken climb rising grows goes value so_far =
-      run_turn zeros types type_of key (piece_of x) (over piece_of (drop 1 (drop start ps))) (over piece_of (drop start ps)) (over piece_of (drop (start + count) ps)) front grown rest after entry (over tree_in run) all
-      head_is name climb rising (run_trees run taken) later_is grows goes value so_far
+  pub turn_same : (zeros : Shape → TypedValue) (types : TypeTable) (type_of : Seq ℕ → Maybe Shape) (run : Seq Piece) (front grown es after all : Seq (Seq ℕ × TypedValue)) → run ≡ take count (drop start ps)
+      → AreClimbing (over piece_of (drop start ps)) → AreRising es
+      → grown ≡ (front ++ lower key es) ++ run_laid zeros types type_of key (over tree_in run) (named key (upper key es)) → after ≡ unnamed key (upper key es)
+      → front ++ members_laid zeros types type_of es (members_of (over piece_of (drop start ps))) ≡ all
+      → grown ++ members_laid zeros types type_of after (members_of (over piece_of (drop (start + count) ps))) ≡ all
+  turn_same zeros types type_of run front grown es after all taken climb rising grows goes so_far =
+      run_turn zeros types type_of key (piece_of x) (over piece_of (drop 1 (drop start ps))) (over piece_of (drop start ps)) (over piece_of (drop (start + count) ps)) front grown es after (over tree_in run) all
+      head_is name climb rising (run_trees run taken) later_is grows goes so_far
 
 -- what is left of the entries rises
-pub after_rising : (zeros : Shape → TypedValue) (types : TypeTable) (type_of : Seq ℕ → Maybe Shape) (key : Seq ℕ) (rest after : Seq (Seq ℕ × Value)) → AreRising (over entry_of rest) → after ≡ unnamed key (upper key rest) → AreRising (over entry_of after)
-after_rising zeros types type_of key rest after rising goes =
-    subst AreRising (sym (ap (over entry_of) goes ∙ unnamed-map key (upper key rest) ∙ ap (unnamed key) (upper-map key rest))) (left_rising zeros types type_of key (over entry_of rest) rising)
+pub after_rising : (zeros : Shape → TypedValue) (types : TypeTable) (type_of : Seq ℕ → Maybe Shape) (key : Seq ℕ) (es after : Seq (Seq ℕ × TypedValue)) → AreRising es → after ≡ unnamed key (upper key es) → AreRising after
+after_rising zeros types type_of key es after rising goes = subst AreRising (sym goes) (left_rising zeros types type_of key es rising)
 
 module _ (zeros : Shape → TypedValue) (types : TypeTable) (type_of : Seq ℕ → Maybe Shape) where
   pub layers_rising : (es : Seq (Seq ℕ × TypedValue)) (mss : Seq json.Members) → AreRising es → AreRising (layers_laid zeros types type_of es mss)
@@ -111,3 +110,11 @@ module _ (zeros : Shape → TypedValue) (types : TypeTable) (type_of : Seq ℕ �
   pub sorted_laid : {T : Type 0} (pairs : T → Seq (Seq ℕ × Json)) (ls : Seq T) (es : Seq (Seq ℕ × TypedValue)) (qs : Seq (Seq ℕ × Json)) → AreRising es → ((k : Seq ℕ) → trees_under k qs ≡ trees_under k (pieces (over pairs ls)))
       → members_laid zeros types type_of es (members_of qs) ≡ layers_laid zeros types type_of es (over (λ l. members_of (pairs l)) ls)
   sorted_laid pairs ls es qs rising same = same_laid zeros types type_of es qs (pieces (over pairs ls)) rising same ∙ layers_joined zeros types type_of pairs ls es
+
+  -- sorted pieces that are merged into entries of which all are left
+  pub merged_layers : (layers : Seq (Bor (Seq (Seq ℕ × Json)))) (base : Seq (Seq ℕ × TypedValue)) (qs : Seq (Seq ℕ × Json)) (before after : Merge) → AreRising base
+      → ((k : Seq ℕ) → trees_under k qs ≡ trees_under k (pieces (over (λ (m : Bor (Seq (Seq ℕ × Json))). m.now) layers))) → merged_in before ≡ [] → left_in before ≡ base
+      → merged_in after ++ left_in after ≡ merged_in before ++ members_laid zeros types type_of (left_in before) (members_of qs)
+      → merged_in after ++ left_in after ≡ layers_laid zeros types type_of base (layers_of layers)
+  merged_layers layers base qs before after rising same none all merges =
+      merges ∙ ap₂ (λ f es. f ++ members_laid zeros types type_of es (members_of qs)) none all ∙ sorted_laid (λ (m : Bor (Seq (Seq ℕ × Json))). m.now) layers base qs rising same

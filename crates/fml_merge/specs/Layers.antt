@@ -1,5 +1,5 @@
 -- Layers of members that are laid one after the other, and what they have under each name.
-use Rattle.std.specs.Prelude.{◌≡◌, ℕ, suc, max, false, List as Seq, [], ◌∷◌, ◌++◌, Option as Maybe, ⊤, bytes_eq, if◌then◌else◌}
+use Rattle.std.specs.Prelude.{◌≡◌, ℕ, suc, max, false, List as Seq, [], ◌∷◌, ◌++◌, Option as Maybe, Some, None, ⊤, bytes_eq, if◌then◌else◌}
 use Rattle.std.specs.List.{list_any}
 use Rattle.std.specs.Cmp.Lexicographic.{slice_cmp}
 use Rattle.std.specs.Ordering.{nat_cmp, is_lt}
@@ -17,6 +17,11 @@ use Rattle.fml_merge.specs.declared.sorting.Piece.{Piece}
 abbrev pub trees_laid : (Shape → TypedValue) → TypeTable → Shape → TypedValue → Seq Json → TypedValue
 trees_laid zeros types t v [] = v
 trees_laid zeros types t v (x ∷ xs) = trees_laid zeros types t (overlay_with zeros types t v x) xs
+
+-- a value, or in its place a tree laid over the zero of its type
+abbrev pub replaced_by : (Shape → TypedValue) → TypeTable → Shape → TypedValue → Maybe Json → TypedValue
+replaced_by zeros types t v None = v
+replaced_by zeros types t v (Some x) = laid zeros types t (zeros t) x
 
 -- objects laid over a value of a type that takes them, one after the other
 abbrev pub objects_laid : (Shape → TypedValue) → TypeTable → Shape → TypedValue → Seq json.Members → TypedValue
@@ -63,6 +68,11 @@ abbrev pub run_length : Seq ℕ → Seq (Seq ℕ × Json) → ℕ
 run_length name [] = 0
 run_length name (p ∷ ps) = if bytes_eq p.0 name then suc (run_length name ps) else 0
 
+-- the depth of a tree, where there is one
+abbrev pub depth_of : Maybe Json → ℕ
+depth_of None = 0
+depth_of (Some x) = depth x
+
 -- the greatest depth of trees, and of what the members of layers have
 abbrev pub trees_depth : Seq Json → ℕ
 trees_depth [] = 0
@@ -71,3 +81,8 @@ trees_depth (x ∷ xs) = max (depth x) (trees_depth xs)
 abbrev pub layers_depth : Seq json.Members → ℕ
 layers_depth [] = 0
 layers_depth (ms ∷ mss) = max (members_depth ms) (layers_depth mss)
+
+-- the greatest depth of the objects of these members
+abbrev pub objects_depth : Seq json.Members → ℕ
+objects_depth [] = 0
+objects_depth (ms ∷ mss) = suc (max (members_depth ms) (layers_depth mss))

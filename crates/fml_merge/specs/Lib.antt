@@ -6,3 +6,4 @@ pub mod Merging
 pub mod Highest
 pub mod Laws
 pub mod Layers
+pub mod Laying

@@ -1,5 +1,5 @@
 -- How the entries of a value and the members of a tree are gone through side by side.
-use Rattle.std.specs.Prelude.{ℕ, suc, Bool, false, List as Seq, [], ◌∷◌, Option as Maybe, Some, None, option_map, bytes_eq, if◌then◌else◌}
+use Rattle.std.specs.Prelude.{ℕ, suc, Bool, false, List as Seq, [], ◌∷◌, map as over, Option as Maybe, Some, None, option_map, bytes_eq, if◌then◌else◌}
 use Rattle.std.specs.Cmp.Lexicographic.{slice_cmp}
 use Rattle.std.specs.Ordering.{nat_cmp, is_lt}
 use Rattle.json_tree.specs.Json as json
@@ -15,9 +15,10 @@ use Rattle.fml_types.specs.declared.manifest.TypeTable.{TypeTable}
 use Rattle.fml_value.specs.Fits.{type_of_entry, type_of_field}
 use Rattle.fml_value.specs.Takes.{takes}
 use Rattle.fml_value.specs.Typed.{TypedValue, absent, present}
-use Rattle.fml_value.specs.TypedOf.{typed_of}
+use Rattle.fml_value.specs.TypedOf.{typed_of, entry_of}
 use Rattle.fml_merge.specs.Overlay.{laid, with_member, overlay_with}
 use Rattle.fml_merge.specs.Zero.{zero_within}
+use Rattle.fml_merge.specs.declared.merging.Merge.{Merge}
 use Rattle.fml_merge.specs.declared.parts.Base.{Base}
 use Rattle.fml_merge.specs.declared.parts.Base.TheVariants as base
 use Rattle.fml_merge.specs.declared.parts.MemberTypes.{MemberTypes}
@@ -89,3 +90,10 @@ named name (p ∷ ps) = if bytes_eq p.0 name then p ∷ [] else []
 abbrev pub unnamed : {T : Type 0} → Seq ℕ → Seq (Seq ℕ × T) → Seq (Seq ℕ × T)
 unnamed name [] = []
 unnamed name (p ∷ ps) = if bytes_eq p.0 name then ps else p ∷ ps
+
+-- the entries that are merged already, and those that are left
+abbrev pub merged_in : Merge → Seq (Seq ℕ × TypedValue)
+merged_in m = over entry_of m.merged.items
+
+abbrev pub left_in : Merge → Seq (Seq ℕ × TypedValue)
+left_in m = over entry_of m.left.items

@@ -8,7 +8,7 @@ ghost use Rattle.json_tree.specs.Tree.{json_of};
 ghost use Rattle.fml_merge.specs.Features as features;
 ghost use Rattle.fml_merge.specs.Features.{IsOfFeature, is_for, patches_for, objects_among, AreSound};
 
-use crate::laying::{initial, lay_layers, lay_members};
+use crate::laying::Layering;
 use crate::overlays::MAX_LEVELS;
 use crate::parts::{MemberTypes, entries_in};
 use fml_types::{DefaultEntry, FeatureDefinition, Manifest, Text};
@@ -29,7 +29,12 @@ pub fn default_of(
     ensures value { IfOk result (λ v. typed_of v ≡ features.default_of manifest.now feature.now) }
     ensures typed { IfOk result (λ v. IsSoundTable manifest.now.types → IsGrounded manifest.now.types → AreSoundFields manifest.now.types feature.now.variables → IsOfFeature manifest.now feature.now (typed_of v)) }
 {
-    let value = Value::Object(initial(alloc, &manifest.types, MAX_LEVELS, &feature.variables)?);
+    let layering = Layering {
+        alloc,
+        types: &manifest.types,
+        levels: MAX_LEVELS,
+    };
+    let value = Value::Object(layering.initial(&feature.variables)?);
     let entries = feature.defaults.as_slice();
     let patches = patches_for(alloc, manifest.channel.as_str(), entries)?;
     overlay_each(alloc, manifest, feature, value, patches.as_slice())
@@ -56,7 +61,12 @@ pub fn overlay_each(
     }
     let variables = MemberTypes::Fields(&feature.variables);
     let base = entries_in(alloc, base);
-    Ok(Value::Object(lay_layers(alloc, &manifest.types, MAX_LEVELS, variables, base, layers)?))
+    let layering = Layering {
+        alloc,
+        types: &manifest.types,
+        levels: MAX_LEVELS,
+    };
+    Ok(Value::Object(layering.lay_layers(variables, base, layers)?))
 }
 
 /// The patch laid over a value of the feature, as over an object whose fields are the variables: a
@@ -78,14 +88,12 @@ pub fn overlay_feature(
         Tree::Object(members) => {
             let variables = MemberTypes::Fields(&feature.variables);
             let base = entries_in(alloc, base);
-            Ok(Value::Object(lay_members(
+            let layering = Layering {
                 alloc,
-                &manifest.types,
-                MAX_LEVELS,
-                variables,
-                base,
-                members,
-            )?))
+                types: &manifest.types,
+                levels: MAX_LEVELS,
+            };
+            Ok(Value::Object(layering.lay_members(variables, base, members)?))
         }
         _ => Ok(base),
     }

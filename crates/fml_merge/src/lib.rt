@@ -7,11 +7,15 @@
 mod defaults;
 mod features;
 mod laws;
+mod layers;
 mod laying;
-mod moving;
+mod merging;
+mod object_fields;
 mod overlays;
 mod parts;
+mod runs;
 mod sorting;
+mod zeros;
 
 pub use defaults::{DefaultFault, check_defaults};
 pub use features::{default_of, overlay_each, overlay_feature};

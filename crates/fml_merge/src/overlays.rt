@@ -7,7 +7,7 @@ ghost use Rattle.fml_value.specs.TypedOf.{typed_of};
 ghost use Rattle.json_tree.specs.Tree.{json_of};
 ghost use Rattle.fml_merge.specs.Zero.{zero_of, overlay};
 
-use crate::laying::{lay, zero_within};
+use crate::laying::Layering;
 use crate::parts::Base;
 use fml_types::{FieldType, TypeTable};
 use fml_value::{Value, takes};
@@ -27,7 +27,12 @@ pub fn zero(alloc: Global, types: &TypeTable, of: &FieldType) -> Result<Value, A
     ensures value { IfOk result (λ v. typed_of v ≡ zero_of types.now (shape_of of.now)) }
     ensures typed { IfOk result (λ v. IsSoundTable types.now → IsGrounded types.now → IsSoundType types.now (shape_of of.now) → HasType types.now (shape_of of.now) (typed_of v)) }
 {
-    zero_within(alloc, types, MAX_LEVELS, of)
+    Layering {
+        alloc,
+        types,
+        levels: MAX_LEVELS,
+    }
+    .zero(of)
 }
 
 /// The patch laid over a value of the type.
@@ -53,7 +58,12 @@ pub fn overlay(
 {
     patch.keeps();
     if takes(types, of, patch) {
-        lay(alloc, types, MAX_LEVELS, of, Base::Made(base), patch)
+        Layering {
+            alloc,
+            types,
+            levels: MAX_LEVELS,
+        }
+        .lay(of, Base::Made(base), patch)
     } else {
         Ok(base)
     }

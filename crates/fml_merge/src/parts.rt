@@ -1,10 +1,11 @@
 // The parts of types and values.
-ghost use Rattle.std.specs.Prelude.{◌≡◌, ◌≤◌, ◌+◌, option_map};
-ghost use Rattle.fml_types.specs.Named.{found};
+ghost use Rattle.std.specs.Prelude.{◌≡◌, ◌≤◌, ◌+◌, ◌∷◌, ◌++◌, [], option_map, OnOk};
+ghost use Rattle.fml_types.specs.Named.{found, IsAbove};
 ghost use Rattle.fml_types.specs.Shape as shape;
 ghost use Rattle.fml_types.specs.Shape.{Shape, height};
 ghost use Rattle.fml_types.specs.declared.manifest.TypeTable.{TypeTable};
 ghost use Rattle.fml_types.specs.Shapes.{shape_of};
+ghost use Rattle.fml_value.specs.Entries.{with_entry};
 ghost use Rattle.fml_value.specs.Typed as typed;
 ghost use Rattle.fml_value.specs.Typed.{TypedValue};
 ghost use Rattle.fml_value.specs.TypedOf.{typed_of};
@@ -18,7 +19,7 @@ use fml_types::{ByName, Field, FieldType, Key, TypeTable};
 use fml_value::{Entries, Value, is_key, takes};
 use json_tree::{Members, Tree};
 use sequences::Text;
-use std::alloc::Global;
+use std::alloc::{AllocError, Global};
 
 /// The types that the names of a value have.
 #[derive(Clone, Copy)]
@@ -183,6 +184,27 @@ pub(crate) fn entries_in(alloc: Global, value: Value) -> Entries
         Value::Object(entries) => entries,
         _ => Entries::new(alloc),
     }
+}
+
+/// Puts a copy of the name at the end, which is above each that is there.
+pub(crate) fn push_entry(entries: &mut Entries, name: &Text, value: Value) -> Result<(), AllocError>
+    requires { IsAbove name.now entries.old }
+    ensures { OnOk result (entries.new ≡ entries.old ++ (name.now, typed_of value) ∷ []) }
+{
+    let name = name.clone()?;
+    entries.push(name, value)
+}
+
+/// Gives a copy of the name this value.
+pub(crate) fn insert_entry(
+    entries: &mut Entries,
+    name: &Text,
+    value: Value,
+) -> Result<(), AllocError>
+    ensures { OnOk result (entries.new ≡ with_entry name.now (typed_of value) entries.old) }
+{
+    let name = name.clone()?;
+    entries.insert(name, value)
 }
 
 /// The map or the object of these entries.

@@ -1,22 +1,16 @@
-use Rattle.std.proofs.Common.{rules, ◌≡◌, ℕ, ◌<◌, List, [], ◌∷◌, length, map, Bor, refl, sym, ap, ◌∙◌, subst, arith}
-use Rattle.json_tree.specs.Json as json
-use Rattle.json_tree.specs.Json.{Json, members_of}
+use Rattle.std.proofs.Common.{rules, ◌≡◌, ◌<◌, length, map, Bor, sym, ap, ◌∙◌, subst}
+use Rattle.json_tree.specs.Json.{Json}
 use Rattle.json_tree.specs.Tree.{json_of}
 use Rattle.json_tree.specs.declared.tree.Tree.{Tree}
 use Rattle.fml_value.specs.TypedOf.{typed_of}
 use Rattle.fml_merge.specs.Features.{IsOfFeature}
+use Rattle.fml_merge.specs.Laying.{members_in}
+use Rattle.fml_merge.proofs.Layered.{no_items}
 use Rattle.fml_merge.proofs.Patches.{each_is, none_over, each_typed}
 use Rattle.fml_merge.proofs.features.overlay_each.Goals as goal
 
-abbrev members_in : Bor (List (List ℕ × Json)) → json.Members
-members_in m = members_of m.now
-
 abbrev tree_in : Bor Tree → Json
 tree_in t = json_of t.now
-
-no_items : {A : Type 0} (xs : List A) → length xs ≡ 0 → xs ≡ []
-no_items [] h = refl
-no_items (x ∷ xs) h = absurd (omega (arith, h))
 
 pub returns-then-is_empty-clause-value : goal.returns-then-is_empty-clause-value
 returns-then-is_empty-clause-value c =

@@ -9,4 +9,4 @@ pub returns-clause-typed : goal.returns-clause-typed
 returns-clause-typed c =
     let types = c.args.types.now in
     let s = shape_of c.args.of.now in
-    ok_weaker c.zero_within.result _ _ (λ v e table grounded sound. subst (HasType types s) (sym e) (zeros_typed types table (low_objects types grounded) s sound)) c.zero_within.ensures
+    ok_weaker c.zero.result _ _ (λ v e table grounded sound. subst (HasType types s) (sym e) (zeros_typed types table (low_objects types grounded) s sound)) c.zero.ensures
