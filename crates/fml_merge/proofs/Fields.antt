@@ -5,7 +5,7 @@ use Rattle.std.specs.Prelude.{◌||◌, bytes_eq, unwrap_or, if◌then◌else◌
 use Rattle.std.specs.Cmp.Lexicographic.{texts_ties, bytes_decides}
 use Rattle.std.specs.Ordering.{is_eq}
 use Rattle.json_tree.specs.Json as json
-use Rattle.json_tree.specs.Json.{Json, Members, no_members, member, depth, members_depth, get_member, AreSoundMembers}
+use Rattle.json_tree.specs.Json.{Json, Members, no_members, member, members_depth, get_member, AreSoundMembers}
 use Rattle.json_tree.specs.declared.tree.Tree.{Tree}
 use Rattle.fml_types.specs.Named.{IsBelow, AreRising, found, has_name}
 use Rattle.fml_types.specs.Shape as shape

@@ -1,10 +1,10 @@
 -- Layers laid over entries and over values, one after the other.
-use Rattle.std.proofs.Common.{◌≡◌, ℕ, zero, suc, ◌+◌, ◌<◌, ◌≤◌, true, false, List as Seq, [], ◌∷◌, ◌++◌, length, map as over, get_or, take, drop, fold, Option as Maybe, Some, None, refl, sym, ap, ap₂, ◌∙◌, subst, append_assoc, arith}
+use Rattle.std.proofs.Common.{◌≡◌, ℕ, zero, suc, ◌+◌, ◌<◌, ◌≤◌, true, false, List as Seq, [], ◌∷◌, ◌++◌, length, map as over, get_or, take, drop, fold, Option as Maybe, refl, sym, ap, ap₂, ◌∙◌, subst, append_assoc, arith}
 use Rattle.std.proofs.lemmas.List.{take_more}
 use Rattle.std.specs.Prelude.{if◌then◌else◌}
 use Rattle.std.specs.List.{list_any}
 use Rattle.json_tree.specs.Json as json
-use Rattle.json_tree.specs.Json.{Json, IsSound, depth, members_depth, members_of}
+use Rattle.json_tree.specs.Json.{Json, depth, members_depth, members_of}
 use Rattle.json_tree.specs.Tree.{json_of}
 use Rattle.json_tree.specs.declared.tree.Tree.{Tree}
 use Rattle.json_tree.specs.declared.tree.Tree.TheVariants as trees

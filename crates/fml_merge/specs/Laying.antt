@@ -11,7 +11,7 @@ use Rattle.fml_types.specs.declared.field_type.FieldType.{FieldType}
 use Rattle.fml_types.specs.declared.manifest.Field.{Field}
 use Rattle.fml_types.specs.declared.manifest.TypeTable.{TypeTable}
 use Rattle.fml_value.specs.Typed.{TypedValue, TypedItems}
-use Rattle.fml_merge.specs.Layers.{trees_laid, replaced_by, objects_laid, layers_laid, run_laid, depth_of, objects_depth, trees_depth}
+use Rattle.fml_merge.specs.Layers.{trees_laid, replaced_by, objects_laid, layers_laid, run_laid, depth_of, objects_depth}
 use Rattle.fml_merge.specs.Merging.{base_value, field_laid, inside_laid, named_laid, types_of, merged_in, left_in, lower, upper, named}
 use Rattle.fml_merge.specs.Overlay.{laid, items_laid, members_laid, pairs_in, type_under}
 use Rattle.fml_merge.specs.Zero.{initial, with_default, zero_within}

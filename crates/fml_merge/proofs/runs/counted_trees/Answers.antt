@@ -1,5 +1,4 @@
-use Rattle.std.proofs.Common.{◌≡◌, ℕ, suc, ◌+◌, ◌≤◌, ◌++◌, List, [], ◌∷◌, length, map, take, Bor, Vec, Global, option_map, sym, ap, ap₂, ◌∙◌, subst, arith}
-use Rattle.std.proofs.lemmas.List.{take_all}
+use Rattle.std.proofs.Common.{◌≡◌, ℕ, suc, ◌+◌, ◌≤◌, ◌++◌, List, [], ◌∷◌, map, take, Bor, Vec, Global, option_map, sym, ap, ap₂, ◌∙◌, subst, arith}
 use Rattle.json_tree.specs.Json as json
 use Rattle.json_tree.specs.Json.{Json, depth, members_depth, members_of}
 use Rattle.json_tree.specs.Tree.{json_of}
@@ -9,7 +8,7 @@ use Rattle.fml_types.specs.Shapes.{shape_of}
 use Rattle.fml_value.specs.Typed.{TypedValue}
 use Rattle.fml_merge.specs.Overlay.{laid}
 use Rattle.fml_merge.specs.Laying.{members_in}
-use Rattle.fml_merge.specs.Layers.{objects_laid, replaced_by, trees_laid, depth_of, trees_depth, objects_depth}
+use Rattle.fml_merge.specs.Layers.{objects_laid, replaced_by, depth_of, trees_depth, objects_depth}
 use Rattle.fml_merge.specs.declared.sorting.Piece.{Piece}
 use Rattle.fml_merge.proofs.Fields.{replaces}
 use Rattle.fml_merge.proofs.Layered.{over_more, over_join, tree_deep, untaken_more, object_more, other_more, not_object, deeper}

@@ -1,4 +1,4 @@
-use Rattle.std.proofs.Common.{◌≡◌, ◌≤◌, Bor, map, option_map, take}
+use Rattle.std.proofs.Common.{◌≡◌, ◌≤◌, Bor, option_map, take}
 use Rattle.json_tree.specs.Tree.{json_of}
 use Rattle.json_tree.specs.declared.tree.Tree.{Tree}
 use Rattle.fml_types.specs.Shape.{Shape}

@@ -1,4 +1,4 @@
-use Rattle.std.proofs.Common.{rules, ◌≡◌, ℕ, suc, ◌+◌, ◌-◌, ◌*◌, ◌<◌, ◌≤◌, ◌++◌, List, [], ◌∷◌, length, map, take, drop, Some, None, Bor, IfOk, OnOk, true, option_map, sym, ap, ap₂, ◌∙◌, subst, arith}
+use Rattle.std.proofs.Common.{rules, ◌≡◌, ℕ, ◌+◌, ◌-◌, ◌*◌, ◌<◌, ◌≤◌, ◌++◌, List, [], ◌∷◌, length, map, take, drop, Some, None, Bor, IfOk, OnOk, true, option_map, sym, ap, ap₂, ◌∙◌, subst, arith}
 use Rattle.std.proofs.lemmas.List.{take_all, drop_all, length-map}
 use Rattle.std.proofs.lemmas.Result.{on_ok_weaker}
 use Rattle.std.proofs.Math.Nat.{mul-le-mul_left}
@@ -21,7 +21,7 @@ use Rattle.fml_value.specs.TypedOf.{typed_of}
 use Rattle.fml_value.proofs.Ordered.{replaced_none}
 use Rattle.fml_merge.specs.Overlay.{laid, items_laid, members_laid, pairs_in, value_with, type_under}
 use Rattle.fml_merge.specs.Highest.{highest_type}
-use Rattle.fml_merge.specs.Zero.{zero_within, initial, with_default}
+use Rattle.fml_merge.specs.Zero.{zero_within, with_default}
 use Rattle.fml_merge.specs.Merging.{base_value, field_laid, inside_laid, types_of, zero_fields, merged_in, left_in, lower, upper, named, unnamed}
 use Rattle.fml_merge.specs.Laying.{members_in}
 use Rattle.fml_merge.specs.Layers.{replaced_by, trees_laid, objects_laid, layers_laid, run_laid, piece_of, pieces, trees_under, depth_of, AreClimbing, trees_depth, layers_depth, objects_depth}

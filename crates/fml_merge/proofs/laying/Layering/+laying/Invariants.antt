@@ -1,4 +1,4 @@
-use Rattle.std.proofs.Common.{◌≡◌, ℕ, ◌+◌, ◌*◌, ◌-◌, ◌<◌, ◌≤◌, ◌++◌, Bor, length, map, option_map, take, drop}
+use Rattle.std.proofs.Common.{◌≡◌, ◌+◌, ◌*◌, ◌-◌, ◌≤◌, ◌++◌, Bor, length, map, option_map, take, drop}
 use Rattle.json_tree.specs.Json.{depth, items_depth, members_depth, members_of}
 use Rattle.json_tree.specs.Json as json
 use Rattle.json_tree.specs.Tree.{json_of, member_of}
