@@ -1,6 +1,7 @@
 -- Laws of the single file of a manifest.
-use Rattle.std.specs.Prelude.{◌≡◌, ℕ, List as Seq, [], ◌∷◌, Ok, Some}
-use Rattle.json_tree.specs.Json.{Json}
+use Rattle.std.specs.Prelude.{◌≡◌, ◌≤◌, ℕ, List as Seq, [], ◌∷◌, Ok, Some}
+use Rattle.json_tree.specs.Bytes.{max_depth, tree_of}
+use Rattle.json_tree.specs.Json.{Json, depth}
 use Rattle.fml_types.specs.Shape.{Shape}
 use Rattle.fml_types.specs.TypeTexts.{spelled}
 use Rattle.fml_types.specs.declared.manifest.Manifest.{Manifest}
@@ -13,6 +14,10 @@ use Rattle.fml_imports.specs.WellFormed.{IsSpelledType, IsWellFormed}
 -- the value reads as a module, and the one file of this name that says it gives the manifest, for the manifest's channel
 abbrev pub IsFileOf : Seq ℕ → Json → Manifest → Type 0
 IsFileOf name x m = (read : Module) × (module_of x ≡ Ok read) × (joined (record { name = name; channel = m.channel; «module» = read } ∷ []) m.channel ≡ Ok m)
+
+-- the bytes are a value that nests at most 64 deep, and the one file of this name that says it gives the manifest
+abbrev pub IsTextOf : Seq ℕ → Seq ℕ → Manifest → Type 0
+IsTextOf name bytes m = (x : Json) × (tree_of bytes ≡ Some x) × (depth x ≤ max_depth) × IsFileOf name x m
 
 -- the single file of a well formed manifest gives the manifest
 abbrev pub SingleReadsBack : Type 0

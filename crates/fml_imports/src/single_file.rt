@@ -1,9 +1,9 @@
 // A manifest as one file.
 ghost use Rattle.std.specs.Prelude.{◌≡◌, ◌≤◌, ℕ, List, option_map, IfOk};
-ghost use Rattle.json_tree.specs.Bytes.{max_depth};
+ghost use Rattle.json_tree.specs.Bytes.{max_depth, text_of};
 ghost use Rattle.json_tree.specs.Json.{depth, text};
 ghost use Rattle.json_tree.specs.Tree.{json_of};
-ghost use Rattle.fml_imports.specs.Laws.{IsFileOf};
+ghost use Rattle.fml_imports.specs.Laws.{IsFileOf, IsTextOf};
 ghost use Rattle.fml_imports.specs.Single.{by_name_json, definition_json, entry_json, enum_json, feature_json, field_json, given, list_json, single, variant_json};
 ghost use Rattle.fml_imports.specs.WellFormed.{IsWellFormed};
 
@@ -37,15 +37,19 @@ trait Written: Sized {
 /// `value`, and `channels` where it has them. A field or variable has a `type`, and a `default`
 /// where there is one. A type has no spaces but one after the comma of a map.
 ///
-/// Where the manifest is well formed, the file alone, read for the manifest's channel, gives the
-/// manifest, and the tree is no deeper than a tree that is read may be. The one error is want of
+/// Where the manifest is well formed, as each is that is joined of files that are read, the text of
+/// the file alone, read for the manifest's channel, gives the manifest. The one error is want of
 /// memory.
 pub fn single(alloc: Global, manifest: &Manifest) -> Result<Tree, AllocError>
     ensures file { IfOk result (λ t. json_of t ≡ single manifest.now) }
     ensures reads_back { IfOk result (λ t. IsWellFormed manifest.now → (name : List ℕ) → IsFileOf name (json_of t) manifest.now) }
     ensures shallow { IfOk result (λ t. IsWellFormed manifest.now → depth (json_of t) ≤ max_depth) }
+    ensures text_reads_back { IfOk result (λ t. IsWellFormed manifest.now → (name : List ℕ) → IsTextOf name (text_of (json_of t)) manifest.now) }
 {
-    whole_file(alloc, manifest)
+    let tree = whole_file(alloc, manifest)?;
+    // that the tree is sound, so that its text is read as the tree
+    tree.keeps();
+    Ok(tree)
 }
 
 fn whole_file(alloc: Global, manifest: &Manifest) -> Result<Tree, AllocError>
