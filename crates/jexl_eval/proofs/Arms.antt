@@ -114,16 +114,8 @@ module _ (has : List ℕ → Bool) (attributes : Members) (current : Json) where
   pub left_fail : (o : BinarySign) (a b : Tree) (f : EvalFault) → Fails f (m a) → Fails f (m (Binary o a b))
   left_fail o a b f h = fails_then f (m a) (binary_on o b) h
 
-  pub left_decides : (o : BinarySign) (a b : Tree) (x : Json) (d : Bool) → m a ≡ Ok x → decided o x ≡ Some d → m (Binary o a b) ≡ Ok (truth d)
-  left_decides o a b x d e is = then_ok (m a) x (binary_on o b) e ∙ ap (λ d. unless_decided d (m b >>= λ y. operate o x y)) is
-
-  pub right_fail : (o : BinarySign) (a b : Tree) (x : Json) (f : EvalFault) → m a ≡ Ok x → decided o x ≡ None → Fails f (m b) → Fails f (m (Binary o a b))
-  right_fail o a b x f e is h =
-      goes (Fails f) (m a) x (binary_on o b) e (subst (λ d. Fails f (unless_decided d (m b >>= λ y. operate o x y))) (sym is) (fails_then f (m b) (λ y. operate o x y) h))
-
-  pub binary_goes : (o : BinarySign) (a b : Tree) (x y : Json) (r : Result Found EvalFault) → m a ≡ Ok x → decided o x ≡ None → m b ≡ Ok y → Gives found_as_json r (operate o x y) → Gives found_as_json r (m (Binary o a b))
-  binary_goes o a b x y r e is d h =
-      goes (Gives found_as_json r) (m a) x (binary_on o b) e (subst (λ d. Gives found_as_json r (unless_decided d (m b >>= λ y. operate o x y))) (sym is) (goes (Gives found_as_json r) (m b) y (λ y. operate o x y) d h))
+  pub operation_goes : (o : BinarySign) (a b : Tree) (x : Json) (r : Result Found EvalFault) → m a ≡ Ok x → Gives found_as_json r (binary_on o b x) → Gives found_as_json r (m (Binary o a b))
+  operation_goes o a b x r e h = goes (Gives found_as_json r) (m a) x (binary_on o b) e h
 
   pub condition_fail : (a b c : Tree) (f : EvalFault) → Fails f (m a) → Fails f (m (Choose a b c))
   condition_fail a b c f h = fails_then f (m a) (choose_on b c) h
@@ -137,8 +129,24 @@ module _ (has : List ℕ → Bool) (attributes : Members) (current : Json) where
   pub first_fail : (a c : Tree) (f : EvalFault) → Fails f (m a) → Fails f (m (OrElse a c))
   first_fail a c f h = fails_then f (m a) (or_else_on c) h
 
-  pub first_counts : (a c : Tree) (x : Json) → m a ≡ Ok x → true ≡ is_truthy x → m (OrElse a c) ≡ Ok x
-  first_counts a c x e is = then_ok (m a) x (or_else_on c) e ∙ ap (λ d. if d then Ok x else m c) (sym is)
+  pub or_else_goes : (a c : Tree) (x : Json) (r : Result Found EvalFault) → m a ≡ Ok x → Gives found_as_json r (or_else_on c x) → Gives found_as_json r (m (OrElse a c))
+  or_else_goes a c x r e h = goes (Gives found_as_json r) (m a) x (or_else_on c) e h
 
-  pub second_counts : (a c : Tree) (x : Json) (r : Result Found EvalFault) → m a ≡ Ok x → false ≡ is_truthy x → Gives found_as_json r (m c) → Gives found_as_json r (m (OrElse a c))
-  second_counts a c x r e is h = goes (Gives found_as_json r) (m a) x (or_else_on c) e (subst (λ d. Gives found_as_json r (if d then Ok x else m c)) is h)
+-- the right side of an operation
+module _ (o : BinarySign) (x : Json) (right : Result Json Fault) where
+  pub left_decides : (d : Bool) → decided o x ≡ Some d → unless_decided (decided o x) (right >>= λ y. operate o x y) ≡ Ok (truth d)
+  left_decides d is = ap (λ d. unless_decided d (right >>= λ y. operate o x y)) is
+
+  pub right_fails : (f : EvalFault) → decided o x ≡ None → Fails f right → Fails f (unless_decided (decided o x) (right >>= λ y. operate o x y))
+  right_fails f is h = subst (λ d. Fails f (unless_decided d (right >>= λ y. operate o x y))) (sym is) (fails_then f right (λ y. operate o x y) h)
+
+  pub right_goes : (y : Json) (r : Result Found EvalFault) → decided o x ≡ None → right ≡ Ok y → Gives found_as_json r (operate o x y) → Gives found_as_json r (unless_decided (decided o x) (right >>= λ y. operate o x y))
+  right_goes y r is e h = subst (λ d. Gives found_as_json r (unless_decided d (right >>= λ y. operate o x y))) (sym is) (goes (Gives found_as_json r) right y (λ y. operate o x y) e h)
+
+-- the second value, where the first one doesn't count as true
+module _ (x : Json) (second : Result Json Fault) where
+  pub first_counts : true ≡ is_truthy x → (if is_truthy x then Ok x else second) ≡ Ok x
+  first_counts is = ap (λ d. if d then Ok x else second) (sym is)
+
+  pub second_counts : (r : Result Found EvalFault) → false ≡ is_truthy x → Gives found_as_json r second → Gives found_as_json r (if is_truthy x then Ok x else second)
+  second_counts r is h = subst (λ d. Gives found_as_json r (if d then Ok x else second)) is h

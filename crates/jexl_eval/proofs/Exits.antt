@@ -13,10 +13,13 @@ use Rattle.jexl_eval.specs.Meaning.{meaning}
 use Rattle.jexl_eval.specs.Seen.{found_as_json}
 
 -- the fault that was had is the answer
-exit : (meant : Result Json Fault) (r : Result Found EvalFault) (f : EvalFault) → IsErrAnd r (λ e. e ≡ f) → Fails f meant → Gives found_as_json r meant
-exit meant r f h fails = let p = err_from_is_err_and r h in subst (λ s. Gives found_as_json s meant) (sym p.1) (subst (λ e. Fails e meant) (sym p.2) fails)
+pub exit_at : {X Y : Type 0} (view : X → Y) (meant : Result Y Fault) (r : Result X EvalFault) (f : EvalFault) → IsErrAnd r (λ e. e ≡ f) → Fails f meant → Gives view r meant
+exit_at view meant r f h fails = let p = err_from_is_err_and r h in subst (λ s. Gives view s meant) (sym p.1) (subst (λ e. Fails e meant) (sym p.2) fails)
 
--- want of memory is
+exit : (meant : Result Json Fault) (r : Result Found EvalFault) (f : EvalFault) → IsErrAnd r (λ e. e ≡ f) → Fails f meant → Gives found_as_json r meant
+exit meant r f h fails = exit_at found_as_json meant r f h fails
+
+-- so is want of memory
 pub exit_memory : (meant : Result Json Fault) (r : Result Found EvalFault) → IsErrAnd r (λ e. e ≡ faults.OutOfMemory) → Gives found_as_json r meant
 exit_memory meant r h = exit meant r faults.OutOfMemory h tt
 

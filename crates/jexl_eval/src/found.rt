@@ -4,7 +4,7 @@ ghost use Rattle.json_tree.specs.Json as json;
 ghost use Rattle.jexl_value.specs.Value.{as_json};
 ghost use Rattle.jexl_eval.specs.Seen.{found_as_json};
 
-use jexl_value::Value;
+use jexl_value::{NamedValues, Value, Values};
 use std::alloc::{AllocError, Global};
 use std::rc::Rc;
 
@@ -56,4 +56,18 @@ pub(crate) fn truth<'a>(truth: bool) -> Found<'a>
     ensures { found_as_json result ≡ json.truth truth }
 {
     Found::Owned(Value::Truth(truth))
+}
+
+/// A list that was built. It takes no memory.
+pub(crate) fn list<'a>(values: Values) -> Found<'a>
+    ensures { found_as_json result ≡ json.list (json.items_of values) }
+{
+    Found::Owned(Value::List(values))
+}
+
+/// An object that was built. It takes no memory.
+pub(crate) fn object<'a>(members: NamedValues) -> Found<'a>
+    ensures { found_as_json result ≡ json.object (json.members_of members) }
+{
+    Found::Owned(Value::Object(members))
 }
