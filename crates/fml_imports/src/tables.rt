@@ -16,6 +16,7 @@ use fml_types::{
 use sequences::{Sequence, Text};
 use std::alloc::{AllocError, Global};
 use std::collections::BTreeMap;
+use std::mem;
 
 /// What is defined, in order by name.
 #[derive(Drop)]
@@ -69,44 +70,61 @@ impl TableMaps {
         Ok(())
     }
 
+    /// Adds the enums of a file, which are taken out of it.
     #[tactic(auto, using(crate::proofs::Steps::each_fails, crate::proofs::Steps::each_turn))]
-    fn add_enums(&mut self, enums: ByName<EnumDefinition>) -> Result<(), JoinFault>
-        ensures { Leaves (held self.new) result (each with_enum (held self.old) enums) }
+    fn add_enums(
+        &mut self,
+        alloc: Global,
+        enums: &mut ByName<EnumDefinition>,
+    ) -> Result<(), JoinFault>
+        ensures { Leaves (held self.new) result (each with_enum (held self.old) enums.old) }
     {
-        for (name, definition) in enums.into_vec() {
+        for (name, definition) in taken(alloc, enums) {
             self.add_enum(name, definition)?;
         }
         Ok(())
     }
 
+    /// Adds the objects of a file, which are taken out of it.
     #[tactic(auto, using(crate::proofs::Steps::each_fails, crate::proofs::Steps::each_turn))]
-    fn add_objects(&mut self, objects: ByName<ObjectDefinition>) -> Result<(), JoinFault>
-        ensures { Leaves (held self.new) result (each with_object (held self.old) objects) }
+    fn add_objects(
+        &mut self,
+        alloc: Global,
+        objects: &mut ByName<ObjectDefinition>,
+    ) -> Result<(), JoinFault>
+        ensures { Leaves (held self.new) result (each with_object (held self.old) objects.old) }
     {
-        for (name, definition) in objects.into_vec() {
+        for (name, definition) in taken(alloc, objects) {
             self.add_object(name, definition)?;
         }
         Ok(())
     }
 
-    /// Adds the features of a file of this channel, with those of their entries that count for the
-    /// asked one.
+    /// Adds the features of a file of this channel, which are taken out of it, with those of their
+    /// entries that count for the asked one.
     #[tactic(auto, using(crate::proofs::Steps::each_fails, crate::proofs::Steps::each_turn))]
     fn add_features(
         &mut self,
         alloc: Global,
         asked: &Text,
         channel: &Text,
-        features: ByName<FeatureDefinition>,
+        features: &mut ByName<FeatureDefinition>,
     ) -> Result<(), JoinFault>
-        ensures { Leaves (held self.new) result (each with_feature (held self.old) (map (feature_for asked.now channel.now) features)) }
+        ensures { Leaves (held self.new) result (each with_feature (held self.old) (map (feature_for asked.now channel.now) features.old)) }
     {
-        for (name, definition) in features.into_vec() {
+        for (name, definition) in taken(alloc, features) {
             let definition = definition_for(alloc, asked, channel, definition)?;
             self.add_feature(name, definition)?;
         }
         Ok(())
     }
+}
+
+/// What stands under the names, which are taken out of the table.
+fn taken<T: Drop>(alloc: Global, table: &mut ByName<T>) -> Vec<(Text, T)>
+    ensures { result.items ≡ table.old }
+{
+    mem::replace(table, ByName::new(alloc)).into_vec()
 }
 
 #[tactic(auto, using(crate::proofs::Maps::held_name))]
@@ -149,21 +167,21 @@ pub(crate) struct Definitions {
 }
 
 impl Definitions {
-    /// Adds what a file says, as it counts for the asked channel.
+    /// Adds what a file says, as it counts for the asked channel. It is taken out of the file.
     #[tactic(auto, using(crate::proofs::Steps::fails_bind), unfolding(crate::specs::Tables::with_module))]
-    fn add_file(&mut self, alloc: Global, asked: &Text, file: Linked) -> Result<(), JoinFault>
-        ensures tables { Leaves (held self.new.tables) result (with_module (held self.old.tables) (module_for asked.now file)) }
-        ensures overrides { OnOk result (self.new.overrides ≡ self.old.overrides ++ file_overrides asked.now file) }
+    fn add_file(&mut self, alloc: Global, asked: &Text, file: &mut Linked) -> Result<(), JoinFault>
+        ensures tables { Leaves (held self.new.tables) result (with_module (held self.old.tables) (module_for asked.now file.old)) }
+        ensures overrides { OnOk result (self.new.overrides ≡ self.old.overrides ++ file_overrides asked.now file.old) }
     {
-        let channel = file.channel;
-        let module = file.module;
-        self.tables.add_enums(module.enums)?;
-        self.tables.add_enums(module.types_enums)?;
-        self.tables.add_objects(module.objects)?;
-        self.tables.add_objects(module.types_objects)?;
+        self.tables.add_enums(alloc, &mut file.module.enums)?;
+        self.tables.add_enums(alloc, &mut file.module.types_enums)?;
+        self.tables.add_objects(alloc, &mut file.module.objects)?;
         self.tables
-            .add_features(alloc, asked, &channel, module.features)?;
-        push_overrides(alloc, &mut self.overrides, asked, &channel, module.imports)?;
+            .add_objects(alloc, &mut file.module.types_objects)?;
+        self.tables
+            .add_features(alloc, asked, &file.channel, &mut file.module.features)?;
+        let imports = mem::replace(&mut file.module.imports, Sequence::new(alloc));
+        push_overrides(alloc, &mut self.overrides, asked, &file.channel, imports)?;
         Ok(())
     }
 
@@ -185,19 +203,38 @@ impl Definitions {
         ensures { IfOk result (λ m. m ≡ manifest_with (held self.tables) self.overrides channel) }
     {
         let tables = self.tables;
-        let overrides = self.overrides;
-        let types = TypeTable {
-            enums: by_name(alloc, tables.enums)?,
-            objects: by_name(alloc, tables.objects)?,
-        };
-        let features = overridden(tables.features, overrides)?;
-        let features = by_name(alloc, features)?;
+        let types = type_table(alloc, tables.enums, tables.objects)?;
+        let features = features_with(alloc, tables.features, self.overrides)?;
         Ok(Manifest {
             types,
             features,
             channel,
         })
     }
+}
+
+fn type_table(
+    alloc: Global,
+    enums: BTreeMap<Text, EnumDefinition>,
+    objects: BTreeMap<Text, ObjectDefinition>,
+) -> Result<TypeTable, AllocError>
+    ensures { IfOk result (λ types. types ≡ record { enums = enums.entries; objects = objects.entries }) }
+{
+    let enums = by_name(alloc, enums)?;
+    let objects = by_name(alloc, objects)?;
+    Ok(TypeTable { enums, objects })
+}
+
+/// The features with the overrides laid over them, in order by name.
+fn features_with(
+    alloc: Global,
+    features: BTreeMap<Text, FeatureDefinition>,
+    overrides: Sequence<(Text, Sequence<DefaultEntry>)>,
+) -> Result<ByName<FeatureDefinition>, AllocError>
+    ensures { IfOk result (λ all. all ≡ map (overridden overrides) features.entries) }
+{
+    let features = overridden(features, overrides)?;
+    by_name(alloc, features)
 }
 
 /// The features with the overrides laid over them.
@@ -230,7 +267,8 @@ pub(crate) fn defined(
         overrides: Sequence::new(alloc),
     };
     for file in files.into_vec() {
-        definitions.add_file(alloc, asked, file)?;
+        let mut file = file;
+        definitions.add_file(alloc, asked, &mut file)?;
     }
     Ok(definitions)
 }
