@@ -1,23 +1,21 @@
 //! Rows on the commands over states with recipes.
-ghost use Rattle.std.specs.Prelude.{◌≤◌, IfOk};
+ghost use Rattle.std.specs.Prelude.{◌≤◌, IfOk, length};
 ghost use Rattle.enrol_states.specs.Consistent.{IsConsistent};
 
-use crate::inputs::{recipes, slug};
-use crate::shown::{parts_text, state_text, status_text};
-use anyhow::{Context, Result, bail, ensure};
+use crate::inputs::recipes;
+use crate::shown::{add_parts, add_state, add_status};
 use enrol_states::{
-    MAX_RECIPES, OptInFault, OptOutFault, Part, State, is_exclusive, opt_in, opt_out, participate,
-    reset,
+    MAX_RECIPES, OptInFault, Part, State, is_exclusive, opt_in, opt_out, participate, reset,
 };
-use plain_text::{Slug, read_number};
+use plain_text::Slug;
 use recipe_reader::Recipes;
-use row_tables::{cut, displayed, halves, word};
-use std::alloc::Global;
+use row_tables::{Fault, add_between, add_texts, cut, parts, slug};
+use std::alloc::{AllocError, Global};
 use uuid::Uuid;
 
-const NOW: u64 = 1_700_000_000;
+pub(crate) const NOW: u64 = 1_700_000_000;
 
-const ID: Uuid = Uuid::NAMESPACE_DNS;
+pub(crate) const ID: Uuid = Uuid::NAMESPACE_DNS;
 
 const OTHER_ID: Uuid = Uuid::NAMESPACE_URL;
 
@@ -28,70 +26,97 @@ const MESSAGING: &str = "{\"featureId\":\"messaging\",\"value\":{}}";
 const BOTH: &str =
     "{\"featureId\":\"homescreen\",\"value\":{}},{\"featureId\":\"messaging\",\"value\":{}}";
 
-// A recipe's record, with what stands for its kind and its features.
-fn record(alloc: Global, slug: &str, kind: &str, features: &str) -> Result<String> {
-    Ok(format!(in alloc;
-        "{{\"slug\":\"{slug}\",\"schemaVersion\":\"1.12.0\",\"isRollout\":{kind},\"bucketConfig\":{{\"randomizationUnit\":\"nimbus_id\",\"namespace\":\"ns\",\"start\":0,\"count\":10000,\"total\":10000}},\"branches\":[{{\"slug\":\"control\",\"ratio\":0,\"features\":[{features}]}},{{\"slug\":\"treatment\",\"ratio\":1,\"features\":[{features}]}}]}}"
-    )?)
+// The parts of a record, between which its slug, its kind, and the features of its two branches stand.
+const TO_SLUG: &str = "{\"slug\":\"";
+
+const TO_KIND: &str = "\",\"schemaVersion\":\"1.12.0\",\"isRollout\":";
+
+const TO_CONTROL: &str =
+    ",\"bucketConfig\":{\"randomizationUnit\":\"nimbus_id\",\"namespace\":\"ns\",\"start\":0,\"count\":10000,\"total\":10000},\"branches\":[{\"slug\":\"control\",\"ratio\":0,\"features\":[";
+
+const TO_TREATMENT: &str = "]},{\"slug\":\"treatment\",\"ratio\":1,\"features\":[";
+
+const END: &str = "]}]}";
+
+// Adds a recipe's record, behind a comma where it isn't the first.
+fn add_record(
+    records: &mut String,
+    slug: &str,
+    kind: &str,
+    features: &str,
+) -> Result<(), AllocError> {
+    add_between(records, ",")?;
+    let parts = [
+        TO_SLUG,
+        slug,
+        TO_KIND,
+        kind,
+        TO_CONTROL,
+        features,
+        TO_TREATMENT,
+        features,
+        END,
+    ];
+    add_texts(records, &parts)
 }
 
-// The state of a new store, with these recipes.
-pub(crate) fn with_recipes(alloc: Global, records: &str) -> Result<State>
+/// The state of a new store, with these recipes.
+pub(crate) fn with_recipes(alloc: Global, records: &str) -> Result<State, Fault>
     ensures { IfOk result IsConsistent }
 {
     let recipes = recipes(alloc, records)?;
-    ensure!(recipes.as_slice().len() <= MAX_RECIPES, "too many recipes");
+    if recipes.as_slice().len() > MAX_RECIPES {
+        return Err(Fault::NoRow);
+    }
     let mut state = State::new(alloc, ID, NOW);
     state.live = recipes;
     Ok(state)
 }
 
-// Adds a recipe's record, behind a comma where it isn't the first.
-fn add_record(
-    alloc: Global,
-    records: &mut String,
-    slug: &str,
-    kind: &str,
-    features: &str,
-) -> Result<()> {
-    let record = record(alloc, slug, kind, features)?;
-    if !records.is_empty() {
-        records.push(',')?;
-    }
-    Ok(records.push_str(record.as_str())?)
-}
-
 // Alpha with both features, beta and delta with one each, and a rollout with both.
-fn rivals(alloc: Global) -> Result<State>
+fn rivals(alloc: Global) -> Result<State, Fault>
     ensures { IfOk result IsConsistent }
 {
     let mut records = String::new(alloc);
-    add_record(alloc, &mut records, "alpha", "false", BOTH)?;
-    add_record(alloc, &mut records, "beta", "false", MESSAGING)?;
-    add_record(alloc, &mut records, "delta", "false", HOME)?;
-    add_record(alloc, &mut records, "aroll", "true", BOTH)?;
+    add_rivals(&mut records)?;
     with_recipes(alloc, records.as_str())
 }
 
-fn chosen(alloc: Global, state: &State, name: &str, branch: &str) -> Result<State>
+fn add_rivals(records: &mut String) -> Result<(), AllocError> {
+    add_record(records, "alpha", "false", BOTH)?;
+    add_record(records, "beta", "false", MESSAGING)?;
+    add_record(records, "delta", "false", HOME)?;
+    add_record(records, "aroll", "true", BOTH)
+}
+
+fn chosen(alloc: Global, state: &State, name: &str, branch: &str) -> Result<State, Fault>
     requires { IsConsistent state.now }
     ensures { IfOk result IsConsistent }
 {
-    let (name, branch) = (slug(alloc, name)?, slug(alloc, branch)?);
-    match opt_in(alloc, state, &name, &branch) {
+    let name = slug(alloc, name)?;
+    chosen_by(alloc, state, &name, branch)
+}
+
+fn chosen_by(alloc: Global, state: &State, name: &Slug, branch: &str) -> Result<State, Fault>
+    requires { IsConsistent state.now }
+    ensures { IfOk result IsConsistent }
+{
+    let branch = slug(alloc, branch)?;
+    match opt_in(alloc, state, name, &branch) {
         Ok(next) => Ok(next),
-        Err(_) => bail!("the opt-in is refused"),
+        Err(_) => Err(Fault::NoRow),
     }
 }
 
-fn without(alloc: Global, state: &State, name: &str) -> Result<State>
+/// The state after an opt-out.
+pub(crate) fn without(alloc: Global, state: &State, name: &str) -> Result<State, Fault>
     requires { IsConsistent state.now }
     ensures { IfOk result IsConsistent }
 {
     let name = slug(alloc, name)?;
     match opt_out(alloc, state, &name) {
         Ok(next) => Ok(next),
-        Err(_) => bail!("the opt-out is refused"),
+        Err(_) => Err(Fault::NoRow),
     }
 }
 
@@ -108,200 +133,170 @@ fn switch(line: &str) -> Option<(Part, bool)> {
     }
 }
 
-// The state after a line: a switch, `reset`, `out` and a slug, or a slug and a branch.
-pub(crate) fn step(alloc: Global, state: &State, line: &str) -> Result<State>
+/// The state after a line: a switch, `reset`, `out` and a slug, or a slug and a branch.
+pub(crate) fn step(alloc: Global, state: &State, line: &str) -> Result<State, Fault>
     requires { IsConsistent state.now }
     ensures { IfOk result IsConsistent }
 {
     if let Some((part, on)) = switch(line) {
         return Ok(participate(alloc, state, part, on)?);
     }
-    if line == "reset" {
-        return Ok(reset(alloc, state, OTHER_ID)?);
-    }
-    match line.split_once(' ') {
-        Some(("out", name)) => without(alloc, state, name),
-        Some((name, branch)) => chosen(alloc, state, name, branch),
-        None => bail!("no such line: {line}"),
+    match cut(line) {
+        ("reset", _) => Ok(reset(alloc, state, OTHER_ID)?),
+        ("out", name) => without(alloc, state, name),
+        (name, branch) => chosen(alloc, state, name, branch),
     }
 }
 
-// The state after lines, between which there is a comma.
-fn run(alloc: Global, state: State, lines: &str) -> Result<State>
-    requires { IsConsistent state }
-    ensures { IfOk result IsConsistent }
+// The state gets that after lines, between which there is a comma.
+fn run(alloc: Global, state: &mut State, lines: &str) -> Result<(), Fault>
+    requires { IsConsistent state.old }
+    ensures { IsConsistent state.new }
 {
-    let mut state = state;
     for line in lines.split(',') {
-        if !line.is_empty() {
-            state = step(alloc, &state, line.trim())?;
-        }
+        run_line(alloc, state, line.trim())?;
     }
-    Ok(state)
+    Ok(())
+}
+
+fn run_line(alloc: Global, state: &mut State, line: &str) -> Result<(), Fault>
+    requires { IsConsistent state.old }
+    ensures { IsConsistent state.new }
+{
+    if !line.is_empty() {
+        *state = step(alloc, state, line)?;
+    }
+    Ok(())
 }
 
 /// The opt-outs and rows to which lines lead over the one recipe alpha. Row: the lines.
-pub(crate) fn shown_after(alloc: Global, input: &str) -> Result<String> {
-    let state = alpha_alone(alloc)?;
-    let state = run(alloc, state, input)?;
-    state_text(alloc, &state)
+pub(crate) fn find_state(alloc: Global, input: &str, found: &mut String) -> Result<(), Fault> {
+    let mut state = alpha_alone(alloc)?;
+    run(alloc, &mut state, input)?;
+    Ok(add_state(&state, found)?)
 }
 
-fn alpha_alone(alloc: Global) -> Result<State>
+fn alpha_alone(alloc: Global) -> Result<State, Fault>
     ensures { IfOk result IsConsistent }
 {
-    let record = record(alloc, "alpha", "false", HOME)?;
-    with_recipes(alloc, record.as_str())
+    let mut records = String::new(alloc);
+    add_record(&mut records, "alpha", "false", HOME)?;
+    with_recipes(alloc, records.as_str())
 }
 
 // The state after lines over four recipes.
-fn rivals_after(alloc: Global, lines: &str) -> Result<State>
+fn rivals_after(alloc: Global, lines: &str) -> Result<State, Fault>
     ensures { IfOk result IsConsistent }
 {
-    let state = rivals(alloc)?;
-    run(alloc, state, lines)
+    let mut state = rivals(alloc)?;
+    run(alloc, &mut state, lines)?;
+    Ok(state)
 }
 
 /// What the client takes part in, the opt-outs and the rows to which lines lead over four recipes, of which aroll is a
 /// rollout. Row: the lines.
-pub(crate) fn parts_after(alloc: Global, input: &str) -> Result<String> {
+pub(crate) fn find_parts(alloc: Global, input: &str, found: &mut String) -> Result<(), Fault> {
     let state = rivals_after(alloc, input)?;
-    parts_text(alloc, &state)
+    Ok(add_parts(&state, found)?)
 }
 
 /// The answer to an opt-in after lines over four recipes. Row: the lines, a slug and a branch.
-pub(crate) fn opt_in_after(alloc: Global, input: &str) -> Result<String> {
-    let (lines, words) = halves(input)?;
+pub(crate) fn find_opt_in(alloc: Global, input: &str, found: &mut String) -> Result<(), Fault> {
+    let (lines, words) = parts(input)?;
     let state = rivals_after(alloc, lines)?;
-    opt_in_answer(alloc, &state, words)
+    add_opt_in(alloc, &state, words, found)
 }
 
-// The answer to an opt-in to a slug and a branch.
-fn opt_in_answer(alloc: Global, state: &State, words: &str) -> Result<String>
+// Adds the answer to an opt-in to a slug and a branch.
+fn add_opt_in(alloc: Global, state: &State, words: &str, found: &mut String) -> Result<(), Fault>
     requires { IsConsistent state.now }
 {
     let (name, branch) = cut(words);
-    let (name, branch) = (slug(alloc, name)?, slug(alloc, branch)?);
-    answer_text(alloc, state, &name, &branch)
+    let name = slug(alloc, name)?;
+    add_opt_in_to(alloc, state, &name, branch, found)
 }
 
-// The answer to an opt-in, in words.
-fn answer_text(alloc: Global, state: &State, slug: &Slug, branch: &Slug) -> Result<String>
+fn add_opt_in_to(
+    alloc: Global,
+    state: &State,
+    name: &Slug,
+    branch: &str,
+    found: &mut String,
+) -> Result<(), Fault>
     requires { IsConsistent state.now }
 {
-    match opt_in(alloc, state, slug, branch) {
-        Ok(_) => word(alloc, "ok"),
-        Err(fault) => fault_text(alloc, &fault),
+    let branch = slug(alloc, branch)?;
+    match opt_in(alloc, state, name, &branch).err() {
+        None => Ok(found.push_str("ok")?),
+        Some(fault) => Ok(add_fault(&fault, found)?),
     }
 }
 
-fn fault_text(alloc: Global, fault: &OptInFault) -> Result<String> {
+fn add_fault(fault: &OptInFault, found: &mut String) -> Result<(), AllocError> {
     match fault {
-        OptInFault::FeatureTaken(holder, feature) => {
-            Ok(format!(in alloc; "FeatureTaken {} {}", holder.text(), feature.as_str())?)
-        }
-        fault => word(alloc, name_of(fault)),
-    }
-}
-
-fn name_of(fault: &OptInFault) -> &'static str {
-    match fault {
-        OptInFault::NotParticipating => "NotParticipating",
-        OptInFault::NoSuchExperiment => "NoSuchExperiment",
-        OptInFault::NoSuchBranch => "NoSuchBranch",
-        OptInFault::FeatureTaken(_, _) => "FeatureTaken",
-        OptInFault::OutOfMemory => "OutOfMemory",
+        OptInFault::FeatureTaken(holder, feature) => add_texts(
+            found,
+            &["FeatureTaken ", holder.text(), " ", feature.as_str()],
+        ),
+        OptInFault::NotParticipating => found.push_str("NotParticipating"),
+        OptInFault::NoSuchExperiment => found.push_str("NoSuchExperiment"),
+        OptInFault::NoSuchBranch => found.push_str("NoSuchBranch"),
+        OptInFault::OutOfMemory => found.push_str("OutOfMemory"),
     }
 }
 
 /// What a state says of a slug after lines over four recipes. Row: the lines, and the slug.
-pub(crate) fn status_after(alloc: Global, input: &str) -> Result<String> {
-    let (lines, name) = halves(input)?;
+pub(crate) fn find_status(alloc: Global, input: &str, found: &mut String) -> Result<(), Fault> {
+    let (lines, name) = parts(input)?;
     let state = rivals_after(alloc, lines)?;
     match state.status_of(name) {
-        Some(status) => status_text(alloc, status),
-        None => word(alloc, "nothing"),
+        Some(status) => Ok(add_status(status, found)?),
+        None => Ok(found.push_str("nothing")?),
     }
 }
 
 /// What a reset leaves of the client after lines over four recipes: its id, the moments of install and update, whether
 /// it takes part in experiments and in rollouts, the number of live recipes, whether any are pending, and whether its
 /// copy is the same. Row: the lines.
-pub(crate) fn reset_after(alloc: Global, input: &str) -> Result<String> {
+pub(crate) fn find_reset(alloc: Global, input: &str, found: &mut String) -> Result<(), Fault> {
     let state = rivals_after(alloc, input)?;
-    let is_same = is_copied(&state)?;
-    client_text(alloc, &state, is_same)
+    add_client(&state, found)?;
+    add_copy(&state, found)
 }
 
-fn is_copied(state: &State) -> Result<bool> {
-    Ok(state.clone()? == *state)
+fn add_client(state: &State, found: &mut String) -> Result<(), AllocError> {
+    write!(found, "{}", state.id == OTHER_ID)?;
+    write!(found, " {}", state.installed)?;
+    write!(found, " {}", state.updated)?;
+    write!(found, " {}", state.experiments)?;
+    write!(found, " {}", state.rollouts)?;
+    write!(found, " {}", state.live.as_slice().len())?;
+    write!(found, " {}", state.pending.is_some())
 }
 
-fn client_text(alloc: Global, state: &State, is_same: bool) -> Result<String> {
-    let has_other_id = state.id == OTHER_ID;
-    let (count, is_pending) = (state.live.as_slice().len(), state.pending.is_some());
-    Ok(format!(in alloc;
-        "{has_other_id} {} {} {} {} {count} {is_pending} {is_same}",
-        state.installed, state.updated, state.experiments, state.rollouts
-    )?)
-}
-
-/// Whether one opt-out more is refused after so many, whether its slug is opted out then, and whether one that is made
-/// again changes nothing. Row: the number, and the slug of the one that is made again.
-pub(crate) fn opt_outs(alloc: Global, input: &str) -> Result<String> {
-    let (number, again) = cut(input);
-    let count = read_number(number.as_bytes()).context("no number")?;
-    let state = opted_out_of(alloc, count)?;
-    let is_limit = is_at_limit(alloc, &state)?;
-    let stays = stays_opted_out(alloc, &state, again)?;
-    let is_in = state.is_opted_out("one-more");
-    Ok(format!(in alloc; "{is_limit} {is_in} {stays}")?)
-}
-
-fn is_at_limit(alloc: Global, state: &State) -> Result<bool>
-    requires { IsConsistent state.now }
-{
-    let name = slug(alloc, "one-more")?;
-    let more = opt_out(alloc, state, &name);
-    Ok(matches!(more, Err(OptOutFault::OptedOutLimit)))
-}
-
-fn stays_opted_out(alloc: Global, state: &State, name: &str) -> Result<bool>
-    requires { IsConsistent state.now }
-{
-    let next = without(alloc, state, name)?;
-    Ok(next.is_opted_out(name) && next == *state)
-}
-
-// The state of a new store after as many opt-outs.
-fn opted_out_of(alloc: Global, count: u64) -> Result<State>
-    ensures { IfOk result IsConsistent }
-{
-    let mut state = State::new(alloc, ID, NOW);
-    for number in 0..count {
-        let name = format!(in alloc; "slug-{number}")?;
-        state = without(alloc, &state, name.as_str())?;
-    }
-    Ok(state)
+// Adds whether the copy is the same.
+fn add_copy(state: &State, found: &mut String) -> Result<(), Fault> {
+    let copy = state.clone()?;
+    Ok(write!(found, " {}", copy == *state)?)
 }
 
 /// Whether features are left to one recipe of a kind where the client is enrolled in the experiment delta, which has the
 /// home screen, and in beta. Row: whether beta is a rollout, and its feature.
-pub(crate) fn leaves_alone(alloc: Global, input: &str) -> Result<String> {
+pub(crate) fn find_exclusion(alloc: Global, input: &str, found: &mut String) -> Result<(), Fault> {
     let (kind, feature) = cut(input);
     let mut state = rivals_after(alloc, "beta control,delta control")?;
     state.live = beta_and_delta(alloc, kind, feature)?;
-    displayed(alloc, &is_exclusive(alloc, &state)?)
+    Ok(write!(found, "{}", is_exclusive(alloc, &state)?)?)
 }
 
-fn beta_and_delta(alloc: Global, kind: &str, feature: &str) -> Result<Recipes> {
+fn beta_and_delta(alloc: Global, kind: &str, feature: &str) -> Result<Recipes, Fault> {
     let feature = if feature == "homescreen" {
         HOME
     } else {
         MESSAGING
     };
     let mut records = String::new(alloc);
-    add_record(alloc, &mut records, "beta", kind, feature)?;
-    add_record(alloc, &mut records, "delta", "false", HOME)?;
+    add_record(&mut records, "beta", kind, feature)?;
+    add_record(&mut records, "delta", "false", HOME)?;
     recipes(alloc, records.as_str())
 }

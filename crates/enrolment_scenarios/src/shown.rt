@@ -1,74 +1,69 @@
 //! Statuses and rows in words.
-use anyhow::Result;
 use enrol_states::{State, Status};
-use std::alloc::{AllocError, Global};
+use row_tables::{add_between, add_texts};
+use std::alloc::AllocError;
 
-pub(crate) fn status_text(alloc: Global, status: &Status) -> Result<String> {
-    Ok(match status {
+pub(crate) fn add_status(status: &Status, found: &mut String) -> Result<(), AllocError> {
+    match status {
         Status::Enrolled { reason, branch } => {
-            format!(in alloc; "Enrolled {reason:?} {}", branch.text())?
+            write!(found, "Enrolled {reason:?} ")?;
+            found.push_str(branch.text())
         }
-        Status::NotEnrolled { reason } => format!(in alloc; "NotEnrolled {reason:?}")?,
+        Status::NotEnrolled { reason } => write!(found, "NotEnrolled {reason:?}"),
         Status::Disqualified { reason, branch } => {
-            format!(in alloc; "Disqualified {reason:?} {}", branch.text())?
+            write!(found, "Disqualified {reason:?} ")?;
+            found.push_str(branch.text())
         }
         Status::WasEnrolled { branch, ended } => {
-            format!(in alloc; "WasEnrolled {} {ended}", branch.text())?
+            add_texts(found, &["WasEnrolled ", branch.text()])?;
+            write!(found, " {ended}")
         }
-        Status::Error { cause } => format!(in alloc; "Error {cause:?}")?,
-    })
+        Status::Error { cause } => write!(found, "Error {cause:?}"),
+    }
 }
 
-/// The opt-outs and the rows of a state, with commas between them, or `nothing`.
-pub(crate) fn state_text(alloc: Global, state: &State) -> Result<String> {
-    let mut line = String::new(alloc);
+/// Adds the opt-outs and the rows of a state, with commas between them, or `nothing`.
+pub(crate) fn add_state(state: &State, found: &mut String) -> Result<(), AllocError> {
+    if state.opted_out.as_slice().is_empty() && state.rows.as_slice().is_empty() {
+        add_between(found, ", ")?;
+        return found.push_str("nothing");
+    }
     for slug in state.opted_out.as_slice() {
-        push(&mut line, "out", slug.text())?;
+        add_pair("out", slug.text(), found)?;
     }
     for row in state.rows.as_slice() {
-        let status = status_text(alloc, &row.status)?;
-        push(&mut line, row.slug.text(), status.as_str())?;
+        add_pair(row.slug.text(), "", found)?;
+        add_status(&row.status, found)?;
     }
-    if line.is_empty() {
-        line.push_str("nothing")?;
-    }
-    Ok(line)
+    Ok(())
 }
 
 // Adds two texts with a space between them, behind a comma where they are not the first.
-fn push(line: &mut String, first: &str, second: &str) -> Result<(), AllocError> {
-    if !line.is_empty() {
-        line.push_str(", ")?;
-    }
-    line.push_str(first)?;
-    line.push_str(" ")?;
-    line.push_str(second)
+fn add_pair(first: &str, second: &str, found: &mut String) -> Result<(), AllocError> {
+    add_between(found, ", ")?;
+    add_texts(found, &[first, " ", second])
 }
 
-/// What a client takes part in, and its opt-outs and rows.
-pub(crate) fn parts_text(alloc: Global, state: &State) -> Result<String> {
-    let part = match (state.experiments, state.rollouts) {
+/// Adds what a client takes part in, and its opt-outs and rows.
+pub(crate) fn add_parts(state: &State, found: &mut String) -> Result<(), AllocError> {
+    found.push_str(part_name(state.experiments, state.rollouts))?;
+    add_state(state, found)
+}
+
+fn part_name(experiments: bool, rollouts: bool) -> &'static str {
+    match (experiments, rollouts) {
         (true, true) => "both",
         (true, false) => "experiments",
         (false, true) => "rollouts",
         (false, false) => "none",
-    };
-    let rest = state_text(alloc, state)?;
-    Ok(format!(in alloc; "{part}, {rest}")?)
-}
-
-/// The lines of a text in one, with a bar between them.
-pub(crate) fn one_line(alloc: Global, text: &str) -> Result<String> {
-    Ok(joined(alloc, text)?)
-}
-
-fn joined(alloc: Global, text: &str) -> Result<String, AllocError> {
-    let mut line = String::new(alloc);
-    for part in text.lines() {
-        if !line.is_empty() {
-            line.push_str(" | ")?;
-        }
-        line.push_str(part)?;
     }
-    Ok(line)
+}
+
+/// Adds the lines of a text in one, with a bar between them.
+pub(crate) fn add_lines(text: &str, found: &mut String) -> Result<(), AllocError> {
+    for line in text.lines() {
+        add_between(found, " | ")?;
+        found.push_str(line)?;
+    }
+    Ok(())
 }

@@ -1,15 +1,13 @@
 //! Rows on what follows from a verdict, and on what stays without a live recipe.
-use crate::inputs::{recipe, slug};
-use crate::shown::status_text;
-use anyhow::{Context, Result, bail};
+use crate::inputs::{disqualified, enrolled, recipe, was_enrolled};
+use crate::shown::add_status;
 use enrol_states::{
     DisqualifiedReason, EnrolledReason, ErrorCause, NotEnrolledReason, Outcome, Status, Verdict,
     candidate, ended,
 };
-use plain_text::read_number;
 use recipe_reader::Recipe;
-use row_tables::{cut, halves, word};
-use std::alloc::Global;
+use row_tables::{Fault, cut, number, parts, slug};
+use std::alloc::{AllocError, Global};
 
 // An experiment with the branches `control` and `treatment`.
 const EXPERIMENT: &str =
@@ -21,53 +19,100 @@ const ROLLOUT: &str =
 
 /// What follows from a verdict on an experiment, or on a rollout where `rollout` is given. Row: the
 /// status before, or `none`, and the verdict.
-pub(crate) fn outcome_of(alloc: Global, given: &str, input: &str) -> Result<String> {
+pub(crate) fn find_outcome(
+    alloc: Global,
+    given: &str,
+    input: &str,
+    found: &mut String,
+) -> Result<(), Fault> {
+    let (old, verdict) = parts(input)?;
     let record = if given == "rollout" {
         ROLLOUT
     } else {
         EXPERIMENT
     };
-    let (old, verdict) = halves(input)?;
-    let old = old_status(alloc, old)?;
-    let verdict = verdict_of(alloc, verdict)?;
     let recipe = recipe(alloc, record)?;
-    next(alloc, old.as_ref(), &verdict, &recipe)
+    add_outcome_for(alloc, &recipe, old, verdict, found)
 }
 
-// What follows, but for a pause where the client is enrolled.
-fn next(alloc: Global, old: Option<&Status>, verdict: &Verdict, recipe: &Recipe) -> Result<String> {
+fn add_outcome_for(
+    alloc: Global,
+    recipe: &Recipe,
+    old: &str,
+    verdict: &str,
+    found: &mut String,
+) -> Result<(), Fault> {
+    if old == "none" {
+        return add_outcome_from(alloc, recipe, None, verdict, found);
+    }
+    let old = old_status(alloc, old)?;
+    add_outcome_from(alloc, recipe, Some(&old), verdict, found)
+}
+
+fn add_outcome_from(
+    alloc: Global,
+    recipe: &Recipe,
+    old: Option<&Status>,
+    verdict: &str,
+    found: &mut String,
+) -> Result<(), Fault> {
+    let verdict = verdict_of(alloc, verdict)?;
+    add_next(alloc, old, &verdict, recipe, found)
+}
+
+// Adds what follows, but for a pause where the client is enrolled.
+fn add_next(
+    alloc: Global,
+    old: Option<&Status>,
+    verdict: &Verdict,
+    recipe: &Recipe,
+    found: &mut String,
+) -> Result<(), Fault> {
     match (old, verdict) {
-        (Some(Status::Enrolled { .. }), Verdict::EnrollmentsPaused) => { word(alloc, "never") }
-        _ => outcome_text(alloc, &candidate(alloc, old, verdict, recipe)?),
+        (Some(Status::Enrolled { .. }), Verdict::EnrollmentsPaused) => Ok(found.push_str("never")?),
+        _ => {
+            let outcome = candidate(alloc, old, verdict, recipe)?;
+            Ok(add_outcome(&outcome, found)?)
+        }
     }
 }
 
-fn outcome_text(alloc: Global, outcome: &Outcome) -> Result<String> {
+fn add_outcome(outcome: &Outcome, found: &mut String) -> Result<(), AllocError> {
     match outcome {
-        Outcome::Keep(status) => status_text(alloc, status),
+        Outcome::Keep(status) => add_status(status, found),
         Outcome::Wish { won, lost } => {
-            let (won, lost) = (status_text(alloc, won)?, status_text(alloc, lost)?);
-            Ok(format!(in alloc; "{won}, or {lost}")?)
+            add_status(won, found)?;
+            found.push_str(", or ")?;
+            add_status(lost, found)
         }
     }
 }
 
 /// What stays of a status without a live recipe. Row: a moment, and the status.
-pub(crate) fn end_of(alloc: Global, input: &str) -> Result<String> {
+pub(crate) fn find_end(alloc: Global, input: &str, found: &mut String) -> Result<(), Fault> {
     let (now, status) = cut(input);
-    let now = read_number(now.as_bytes()).context("no moment")?;
-    let old = old_status(alloc, status)?.context("no status")?;
-    match ended(alloc, &old, now)? {
-        Some(status) => status_text(alloc, &status),
-        None => word(alloc, "dropped"),
+    let now = number(now).ok_or(Fault::NoRow)?;
+    let old = old_status(alloc, status)?;
+    add_end(alloc, &old, now, found)
+}
+
+fn add_end(alloc: Global, old: &Status, now: u64, found: &mut String) -> Result<(), Fault> {
+    match ended(alloc, old, now)? {
+        Some(status) => Ok(add_status(&status, found)?),
+        None => Ok(found.push_str("dropped")?),
     }
 }
 
-fn verdict_of(alloc: Global, text: &str) -> Result<Verdict> {
+fn verdict_of(alloc: Global, text: &str) -> Result<Verdict, Fault> {
     match plain_verdict(text) {
         Some(verdict) => Ok(verdict),
-        None => Ok(Verdict::Qualified(slug(alloc, text)?)),
+        None => qualified(alloc, text),
     }
+}
+
+fn qualified(alloc: Global, branch: &str) -> Result<Verdict, Fault> {
+    let branch = slug(alloc, branch)?;
+    Ok(Verdict::Qualified(branch))
 }
 
 // The verdict of this name, but for one with a branch.
@@ -88,55 +133,36 @@ fn plain_verdict(text: &str) -> Option<Verdict> {
 }
 
 // A status of each kind. Why a client isn't enrolled, and what can't be judged, don't matter.
-fn old_status(alloc: Global, text: &str) -> Result<Option<Status>> {
+fn old_status(alloc: Global, text: &str) -> Result<Status, Fault> {
     let (word, rest) = cut(text);
-    if word == "none" {
-        return Ok(None);
-    }
-    Ok(Some(match word {
-        "NotEnrolled" => Status::NotEnrolled {
+    match word {
+        "Enrolled" => enrolled(alloc, EnrolledReason::Qualified, rest),
+        "OptedIn" => enrolled(alloc, EnrolledReason::OptIn, rest),
+        "WasEnrolled" => was_enrolled(alloc, rest),
+        "Disqualified" => old_disqualification(alloc, rest),
+        "NotEnrolled" => Ok(Status::NotEnrolled {
             reason: NotEnrolledReason::NotSelected,
-        },
-        "Error" => Status::Error {
+        }),
+        "Error" => Ok(Status::Error {
             cause: ErrorCause::NoUnit,
-        },
-        "Disqualified" => old_disqualification(alloc, rest)?,
-        _ => old_enrolment(alloc, word, rest)?,
-    }))
-}
-
-fn old_enrolment(alloc: Global, word: &str, branch: &str) -> Result<Status> {
-    let branch = slug(alloc, branch)?;
-    Ok(match word {
-        "Enrolled" => Status::Enrolled {
-            reason: EnrolledReason::Qualified,
-            branch,
-        },
-        "OptedIn" => Status::Enrolled {
-            reason: EnrolledReason::OptIn,
-            branch,
-        },
-        "WasEnrolled" => Status::WasEnrolled { branch, ended: 5 },
-        _ => bail!("no status: {word}"),
-    })
+        }),
+        _ => Err(Fault::NoRow),
+    }
 }
 
 // A reason, and the branch.
-fn old_disqualification(alloc: Global, text: &str) -> Result<Status> {
+fn old_disqualification(alloc: Global, text: &str) -> Result<Status, Fault> {
     let (reason, branch) = cut(text);
-    Ok(Status::Disqualified {
-        reason: disqualified_reason(reason)?,
-        branch: slug(alloc, branch)?,
-    })
+    disqualified(alloc, disqualified_reason(reason)?, branch)
 }
 
-fn disqualified_reason(text: &str) -> Result<DisqualifiedReason> {
-    Ok(match text {
-        "Error" => DisqualifiedReason::Error,
-        "FeatureConflict" => DisqualifiedReason::FeatureConflict,
-        "NotSelected" => DisqualifiedReason::NotSelected,
-        "NotTargeted" => DisqualifiedReason::NotTargeted,
-        "OptOut" => DisqualifiedReason::OptOut,
-        _ => bail!("no reason: {text}"),
-    })
+fn disqualified_reason(text: &str) -> Result<DisqualifiedReason, Fault> {
+    match text {
+        "Error" => Ok(DisqualifiedReason::Error),
+        "FeatureConflict" => Ok(DisqualifiedReason::FeatureConflict),
+        "NotSelected" => Ok(DisqualifiedReason::NotSelected),
+        "NotTargeted" => Ok(DisqualifiedReason::NotTargeted),
+        "OptOut" => Ok(DisqualifiedReason::OptOut),
+        _ => Err(Fault::NoRow),
+    }
 }

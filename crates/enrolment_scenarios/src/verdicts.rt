@@ -6,19 +6,18 @@ ghost use Rattle.recipe_reader.specs.Records.{IsValid};
 
 use crate::choices;
 use crate::inputs::{recipe, tree};
-use anyhow::{Result, bail};
 use app_context::{Context, read_context};
 use enrol_evolver::{evolve, verdict};
 use enrol_states::{State, Verdict};
 use jexl_transforms::{
-    Transform, TransformTable, bucket_transform, date_transform, event_nonzero_transform,
+    TransformTable, bucket_transform, date_transform, event_nonzero_transform,
     event_seen_transform, event_sum_transform, version_transform,
 };
 use jexl_value::{Attributes, Value};
 use recipe_reader::Recipe;
-use row_tables::{debugged, halves, word};
+use row_tables::{Fault, add_texts, cut, parts};
 use sequences::Sequence;
-use std::alloc::Global;
+use std::alloc::{AllocError, Global};
 
 const NOW: u64 = 1_700_000_000;
 
@@ -29,43 +28,52 @@ const CONTEXT: &str =
 /// The verdict on a recipe. Given: what is sampled, and the first and the number of the buckets that may enrol, of
 /// 10,000. Row: what the record has besides, and what the client did before with the recipe that has nothing besides:
 /// `apply`, or a line of the rows on choices.
-pub(crate) fn verdict_on(alloc: Global, given: &str, input: &str) -> Result<String> {
-    let version: Transform = Box::new(
-        alloc,
-        |attributes: &Attributes, subject: &Value, arguments: &[Value]| {
-            version_transform(attributes, subject, arguments)
-        },
-    )?;
-    let date: Transform = Box::new(
-        alloc,
-        |attributes: &Attributes, subject: &Value, arguments: &[Value]| {
-            date_transform(attributes, subject, arguments)
-        },
-    )?;
-    let bucket: Transform = Box::new(
-        alloc,
-        move |attributes: &Attributes, subject: &Value, arguments: &[Value]| {
-            bucket_transform(alloc, attributes, subject, arguments)
-        },
-    )?;
-    let sum: Transform = Box::new(
-        alloc,
-        |attributes: &Attributes, subject: &Value, arguments: &[Value]| {
-            event_sum_transform(attributes, subject, arguments)
-        },
-    )?;
-    let nonzero: Transform = Box::new(
-        alloc,
-        |attributes: &Attributes, subject: &Value, arguments: &[Value]| {
-            event_nonzero_transform(attributes, subject, arguments)
-        },
-    )?;
-    let seen: Transform = Box::new(
-        alloc,
-        |attributes: &Attributes, subject: &Value, arguments: &[Value]| {
-            event_seen_transform(attributes, subject, arguments)
-        },
-    )?;
+pub(crate) fn find_verdict(
+    alloc: Global,
+    given: &str,
+    input: &str,
+    found: &mut String,
+) -> Result<(), Fault> {
+    let (Ok(version), Ok(date), Ok(bucket), Ok(sum), Ok(nonzero), Ok(seen)) = (
+        Box::new(
+            alloc,
+            |attributes: &Attributes, subject: &Value, arguments: &[Value]| {
+                version_transform(attributes, subject, arguments)
+            },
+        ),
+        Box::new(
+            alloc,
+            |attributes: &Attributes, subject: &Value, arguments: &[Value]| {
+                date_transform(attributes, subject, arguments)
+            },
+        ),
+        Box::new(
+            alloc,
+            move |attributes: &Attributes, subject: &Value, arguments: &[Value]| {
+                bucket_transform(alloc, attributes, subject, arguments)
+            },
+        ),
+        Box::new(
+            alloc,
+            |attributes: &Attributes, subject: &Value, arguments: &[Value]| {
+                event_sum_transform(attributes, subject, arguments)
+            },
+        ),
+        Box::new(
+            alloc,
+            |attributes: &Attributes, subject: &Value, arguments: &[Value]| {
+                event_nonzero_transform(attributes, subject, arguments)
+            },
+        ),
+        Box::new(
+            alloc,
+            |attributes: &Attributes, subject: &Value, arguments: &[Value]| {
+                event_seen_transform(attributes, subject, arguments)
+            },
+        ),
+    ) else {
+        return Err(Fault::OutOfMemory);
+    };
     let mut table = TransformTable::new(alloc);
     let (Ok(()), Ok(()), Ok(()), Ok(()), Ok(()), Ok(())) = (
         table.push(alloc, "versionCompare", version),
@@ -75,44 +83,102 @@ pub(crate) fn verdict_on(alloc: Global, given: &str, input: &str) -> Result<Stri
         table.push(alloc, "eventCountNonZero", nonzero),
         table.push(alloc, "eventLastSeen", seen),
     ) else {
-        bail!("no table");
+        return Err(Fault::OutOfMemory);
     };
-    judged(alloc, &table, given, input)
+    add_judged(alloc, &table, given, input, found)
 }
 
-fn judged(alloc: Global, table: &TransformTable, given: &str, input: &str) -> Result<String>
+fn add_judged(
+    alloc: Global,
+    table: &TransformTable,
+    given: &str,
+    input: &str,
+    found: &mut String,
+) -> Result<(), Fault>
     requires { HasStandardNames table.now }
 {
-    let (members, lines) = halves(input)?;
+    let (members, lines) = parts(input)?;
     let recipe = recipe_with(alloc, given, members)?;
+    add_judged_recipe(alloc, table, &recipe, given, lines, found)
+}
+
+fn add_judged_recipe(
+    alloc: Global,
+    table: &TransformTable,
+    recipe: &Recipe,
+    given: &str,
+    lines: &str,
+    found: &mut String,
+) -> Result<(), Fault>
+    requires valid { IsValid recipe.now }
+    requires table { HasStandardNames table.now }
+{
     let context = context(alloc)?;
-    let state = client_after(alloc, table, &context, given, lines)?;
-    let verdict = verdict(alloc, &recipe, &state, &context, table, NOW)?;
-    verdict_text(alloc, &verdict)
+    add_judged_in(alloc, table, recipe, &context, given, lines, found)
 }
 
-fn context(alloc: Global) -> Result<Context> {
-    let read = read_context(alloc, &tree(alloc, CONTEXT)?);
-    match read {
-        Ok(context) => Ok(context),
-        Err(_) => bail!("no context"),
-    }
+fn add_judged_in(
+    alloc: Global,
+    table: &TransformTable,
+    recipe: &Recipe,
+    context: &Context,
+    given: &str,
+    lines: &str,
+    found: &mut String,
+) -> Result<(), Fault>
+    requires valid { IsValid recipe.now }
+    requires table { HasStandardNames table.now }
+{
+    let state = client_after(alloc, table, context, given, lines)?;
+    add_verdict_on(alloc, table, recipe, context, &state, found)
 }
 
-fn record(alloc: Global, given: &str, members: &str) -> Result<String> {
-    let mut words = given.split(' ');
-    let (Some(unit), Some(start), Some(count)) = (words.next(), words.next(), words.next()) else {
-        bail!("no buckets: {given}");
-    };
-    Ok(format!(in alloc;
-        "{{\"slug\":\"alpha\",\"schemaVersion\":\"1.12.0\",\"bucketConfig\":{{\"randomizationUnit\":\"{unit}\",\"namespace\":\"ns\",\"start\":{start},\"count\":{count},\"total\":10000}},\"branches\":[{{\"slug\":\"control\",\"ratio\":0}},{{\"slug\":\"treatment\",\"ratio\":1}}]{members}}}"
-    )?)
+fn add_verdict_on(
+    alloc: Global,
+    table: &TransformTable,
+    recipe: &Recipe,
+    context: &Context,
+    state: &State,
+    found: &mut String,
+) -> Result<(), Fault>
+    requires valid { IsValid recipe.now }
+    requires consistent { IsConsistent state.now }
+    requires table { HasStandardNames table.now }
+{
+    let verdict = verdict(alloc, recipe, state, context, table, NOW)?;
+    Ok(add_verdict(&verdict, found)?)
 }
 
-fn recipe_with(alloc: Global, given: &str, members: &str) -> Result<Recipe>
+fn context(alloc: Global) -> Result<Context, Fault> {
+    let tree = tree(alloc, CONTEXT)?;
+    read_context(alloc, &tree).ok().ok_or(Fault::NoRow)
+}
+
+// Adds a record of what is given, with members at its end.
+fn add_record(given: &str, members: &str, record: &mut String) -> Result<(), AllocError> {
+    let (unit, buckets) = cut(given);
+    let (start, count) = cut(buckets);
+    add_texts(
+        record,
+        &[
+            "{\"slug\":\"alpha\",\"schemaVersion\":\"1.12.0\",\"bucketConfig\":{\"randomizationUnit\":\"",
+            unit,
+            "\",\"namespace\":\"ns\",\"start\":",
+            start,
+            ",\"count\":",
+            count,
+            ",\"total\":10000},\"branches\":[{\"slug\":\"control\",\"ratio\":0},{\"slug\":\"treatment\",\"ratio\":1}]",
+            members,
+            "}",
+        ],
+    )
+}
+
+fn recipe_with(alloc: Global, given: &str, members: &str) -> Result<Recipe, Fault>
     ensures { IfOk result IsValid }
 {
-    let record = record(alloc, given, members)?;
+    let mut record = String::new(alloc);
+    add_record(given, members, &mut record)?;
     recipe(alloc, record.as_str())
 }
 
@@ -123,46 +189,68 @@ fn client_after(
     context: &Context,
     given: &str,
     lines: &str,
-) -> Result<State>
+) -> Result<State, Fault>
     requires { HasStandardNames table.now }
     ensures { IfOk result IsConsistent }
 {
-    let record = record(alloc, given, "")?;
-    let mut state = choices::with_recipes(alloc, record.as_str())?;
-    for line in lines.split(',') {
-        if !line.is_empty() {
-            state = client_step(alloc, table, context, &state, line.trim())?;
-        }
-    }
+    let mut state = client_with(alloc, given)?;
+    run(alloc, table, context, &mut state, lines)?;
     Ok(state)
 }
 
-fn client_step(
+fn client_with(alloc: Global, given: &str) -> Result<State, Fault>
+    ensures { IfOk result IsConsistent }
+{
+    let mut record = String::new(alloc);
+    add_record(given, "", &mut record)?;
+    choices::with_recipes(alloc, record.as_str())
+}
+
+fn run(
     alloc: Global,
     table: &TransformTable,
     context: &Context,
-    state: &State,
-    line: &str,
-) -> Result<State>
-    requires consistent { IsConsistent state.now }
+    state: &mut State,
+    lines: &str,
+) -> Result<(), Fault>
+    requires consistent { IsConsistent state.old }
     requires table { HasStandardNames table.now }
-    ensures { IfOk result IsConsistent }
+    ensures { IsConsistent state.new }
 {
-    if line == "apply" {
-        return Ok(evolve(alloc, state, context, Sequence::new(alloc), table, NOW)?);
+    for line in lines.split(',') {
+        run_line(alloc, table, context, state, line.trim())?;
     }
-    choices::step(alloc, state, line)
+    Ok(())
 }
 
-fn verdict_text(alloc: Global, verdict: &Verdict) -> Result<String> {
+fn run_line(
+    alloc: Global,
+    table: &TransformTable,
+    context: &Context,
+    state: &mut State,
+    line: &str,
+) -> Result<(), Fault>
+    requires consistent { IsConsistent state.old }
+    requires table { HasStandardNames table.now }
+    ensures { IsConsistent state.new }
+{
+    match line {
+        "" => {}
+        "apply" => *state = evolve(alloc, state, context, Sequence::new(alloc), table, NOW)?,
+        line => *state = choices::step(alloc, state, line)?,
+    }
+    Ok(())
+}
+
+fn add_verdict(verdict: &Verdict, found: &mut String) -> Result<(), AllocError> {
     match verdict {
-        Verdict::DifferentAppName => word(alloc, "DifferentAppName"),
-        Verdict::DifferentChannel => word(alloc, "DifferentChannel"),
-        Verdict::OptOut => word(alloc, "OptOut"),
-        Verdict::EnrollmentsPaused => word(alloc, "EnrollmentsPaused"),
-        Verdict::NotTargeted => word(alloc, "NotTargeted"),
-        Verdict::NotSelected => word(alloc, "NotSelected"),
-        Verdict::Failed(cause) => debugged(alloc, cause),
-        Verdict::Qualified(branch) => word(alloc, branch.text()),
+        Verdict::DifferentAppName => found.push_str("DifferentAppName"),
+        Verdict::DifferentChannel => found.push_str("DifferentChannel"),
+        Verdict::OptOut => found.push_str("OptOut"),
+        Verdict::EnrollmentsPaused => found.push_str("EnrollmentsPaused"),
+        Verdict::NotTargeted => found.push_str("NotTargeted"),
+        Verdict::NotSelected => found.push_str("NotSelected"),
+        Verdict::Failed(cause) => write!(found, "{cause:?}"),
+        Verdict::Qualified(branch) => found.push_str(branch.text()),
     }
 }

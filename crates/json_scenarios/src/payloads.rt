@@ -1,108 +1,126 @@
 //! Rows on payloads, and on recipes in their order.
-use crate::records::{recipe, record_named};
+use crate::records::{add_record_named, recipe};
 use crate::trees::tree;
-use anyhow::{Context, Result, bail, ensure};
 use recipe_reader::{Payload, Recipe, Recipes, read_payload};
-use row_tables::{debugged, halves, word};
+use row_tables::{Fault, parts};
 use std::alloc::{AllocError, Global};
 
-fn payload(alloc: Global, text: &str) -> Result<Payload> {
-    let read = read_payload(alloc, &tree(alloc, text)?);
-    read.ok().context("no payload")
+fn payload(alloc: Global, text: &str) -> Result<Payload, Fault> {
+    let tree = tree(alloc, text)?;
+    read_payload(alloc, &tree).ok().ok_or(Fault::NoRow)
 }
 
 /// The slugs of a payload's recipes, and the records that are skipped. Row: the payload.
-pub(crate) fn payload_text(alloc: Global, input: &str) -> Result<String> {
+pub(crate) fn find_payload(alloc: Global, input: &str, found: &mut String) -> Result<(), Fault> {
     let payload = payload(alloc, input)?;
-    let slugs = slugs_text(alloc, &payload.recipes)?;
-    Ok(format!(in alloc; "{slugs}; {:?}", payload.skipped.as_slice())?)
+    add_slugs(&payload.recipes, found)?;
+    Ok(write!(found, "; {:?}", payload.skipped.as_slice())?)
 }
 
-// The slugs of recipes, each with a space behind the one before it.
-fn slugs_text(alloc: Global, recipes: &Recipes) -> Result<String, AllocError> {
-    let mut line = String::new(alloc);
-    for recipe in recipes.as_slice() {
-        add(&mut line, " ", recipe.slug.text())?;
+// Adds the slugs of recipes, with spaces between them.
+fn add_slugs(recipes: &Recipes, found: &mut String) -> Result<(), AllocError> {
+    for (place, recipe) in recipes.as_slice().iter().enumerate() {
+        if place > 0 {
+            found.push_str(" ")?;
+        }
+        found.push_str(recipe.slug.text())?;
     }
-    Ok(line)
-}
-
-// Puts a text at the end of a line, behind another one where it isn't the first.
-fn add(line: &mut String, between: &str, text: &str) -> Result<(), AllocError> {
-    if !line.is_empty() {
-        line.push_str(between)?;
-    }
-    line.push_str(text)
+    Ok(())
 }
 
 /// The fault of a payload, or `none`. Row: the payload.
-pub(crate) fn fault_of(alloc: Global, input: &str) -> Result<String> {
-    let read = read_payload(alloc, &tree(alloc, input)?);
-    match read {
-        Ok(_) => word(alloc, "none"),
-        Err(fault) => debugged(alloc, &fault),
+pub(crate) fn find_fault(alloc: Global, input: &str, found: &mut String) -> Result<(), Fault> {
+    let tree = tree(alloc, input)?;
+    match read_payload(alloc, &tree).err() {
+        None => Ok(found.push_str("none")?),
+        Some(fault) => Ok(write!(found, "{fault:?}")?),
     }
 }
 
 // The recipes of a payload whose records have these slugs, between which there are spaces.
-fn recipes_named(alloc: Global, slugs: &str) -> Result<Recipes> {
-    let records = records_named(alloc, slugs)?;
-    let text = format!(in alloc; "{{\"data\":[{records}]}}")?;
+fn recipes_named(alloc: Global, slugs: &str) -> Result<Recipes, Fault> {
+    let mut text = String::new(alloc);
+    add_payload_of(slugs, &mut text)?;
     Ok(payload(alloc, text.as_str())?.recipes)
 }
 
-// The records of these slugs, with commas between them.
-fn records_named(alloc: Global, slugs: &str) -> Result<String> {
-    let mut records = String::new(alloc);
-    for slug in slugs.split(' ') {
-        let record = record_named(alloc, slug)?;
-        add(&mut records, ",", record.as_str())?;
+fn add_payload_of(slugs: &str, text: &mut String) -> Result<(), AllocError> {
+    text.push_str("{\"data\":[")?;
+    for (place, slug) in slugs.split(' ').enumerate() {
+        if place > 0 {
+            text.push_str(",")?;
+        }
+        add_record_named(slug, text)?;
     }
-    Ok(records)
+    text.push_str("]}")
 }
 
-fn recipe_named(alloc: Global, slug: &str) -> Result<Recipe> {
-    let record = record_named(alloc, slug)?;
+fn recipe_named(alloc: Global, slug: &str) -> Result<Recipe, Fault> {
+    let mut record = String::new(alloc);
+    add_record_named(slug, &mut record)?;
     recipe(alloc, record.as_str())
 }
 
 /// Whether a recipe is put into a copy of recipes, the slugs of the copy, those of the recipes, and whether each then has
 /// it. Row: the slugs of a payload's records, and the recipe's with ` | ` before it.
-pub(crate) fn inserted(alloc: Global, input: &str) -> Result<String> {
-    let (slugs, slug) = halves(input)?;
+pub(crate) fn find_inserted(alloc: Global, input: &str, found: &mut String) -> Result<(), Fault> {
+    let (slugs, slug) = parts(input)?;
     let recipes = recipes_named(alloc, slugs)?;
-    inserted_into(alloc, &recipes, slug)
+    add_inserted(alloc, &recipes, slug, found)
 }
 
-fn inserted_into(alloc: Global, recipes: &Recipes, slug: &str) -> Result<String> {
-    let mut copy = copy_of(alloc, recipes)?;
-    let is_new = copy.insert(recipe_named(alloc, slug)?)?;
-    let slugs = both_slugs(alloc, &copy, recipes)?;
-    let (is_in, was_in) = (copy.get(slug).is_some(), recipes.get(slug).is_some());
-    Ok(format!(in alloc; "{is_new}; {slugs}; {is_in} {was_in}")?)
+fn add_inserted(
+    alloc: Global,
+    recipes: &Recipes,
+    slug: &str,
+    found: &mut String,
+) -> Result<(), Fault> {
+    let mut copy = recipes.clone()?;
+    if !is_copy(alloc, &copy, recipes) {
+        return Ok(found.push_str("a copy differs")?);
+    }
+    insert(alloc, &mut copy, slug, found)?;
+    Ok(add_both(&copy, recipes, slug, found)?)
 }
 
-fn copy_of(alloc: Global, recipes: &Recipes) -> Result<Recipes> {
-    let copy = recipes.clone()?;
-    ensure!(
-        copy == *recipes && copy != Recipes::new(alloc),
-        "a copy differs"
-    );
-    Ok(copy)
+// Whether recipes are others, and not none.
+fn is_copy(alloc: Global, copy: &Recipes, recipes: &Recipes) -> bool {
+    *copy == *recipes && *copy != Recipes::new(alloc)
 }
 
-fn both_slugs(alloc: Global, first: &Recipes, second: &Recipes) -> Result<String, AllocError> {
-    let (first, second) = (slugs_text(alloc, first)?, slugs_text(alloc, second)?);
-    format!(in alloc; "{first}; {second}")
+// Puts a recipe among others, and adds whether it is new.
+fn insert(
+    alloc: Global,
+    recipes: &mut Recipes,
+    slug: &str,
+    found: &mut String,
+) -> Result<(), Fault> {
+    let is_new = recipes.insert(recipe_named(alloc, slug)?)?;
+    Ok(write!(found, "{is_new}; ")?)
+}
+
+fn add_both(
+    copy: &Recipes,
+    recipes: &Recipes,
+    slug: &str,
+    found: &mut String,
+) -> Result<(), AllocError> {
+    add_slugs(copy, found)?;
+    found.push_str("; ")?;
+    add_slugs(recipes, found)?;
+    write!(found, "; {}", copy.get(slug).is_some())?;
+    write!(found, " {}", recipes.get(slug).is_some())
 }
 
 /// The slug of the last of a payload's recipes, which is put at the end of none. Row: the slugs of its records.
-pub(crate) fn last_alone(alloc: Global, input: &str) -> Result<String> {
+pub(crate) fn find_last(alloc: Global, input: &str, found: &mut String) -> Result<(), Fault> {
     let recipes = recipes_named(alloc, input)?;
-    let Some(last) = recipes.as_slice().last() else {
-        bail!("no recipes");
-    };
+    add_last(alloc, recipes.as_slice(), found)
+}
+
+fn add_last(alloc: Global, recipes: &[Recipe], found: &mut String) -> Result<(), Fault> {
+    let last = recipes.last().ok_or(Fault::NoRow)?;
     let mut others = Recipes::new(alloc);
     others.push(last.clone()?)?;
-    Ok(slugs_text(alloc, &others)?)
+    Ok(add_slugs(&others, found)?)
 }

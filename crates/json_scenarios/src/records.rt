@@ -1,141 +1,171 @@
 //! Rows on records that are read one by one, and on recipes that are written back.
 ghost use Rattle.recipe_reader.specs.Records.{IsValid};
 
-use crate::trees::{text_of, tree};
-use anyhow::{Context, Result, bail, ensure};
+use crate::trees::{add_tree, tree};
 use json::Writer;
+use json_tree::Tree;
 use recipe_reader::{
     Recipe, RecordFault, read_record, record_length, record_of, reread, write_record,
 };
-use row_tables::{debugged, displayed, halves, word};
-use std::alloc::Global;
+use row_tables::{Fault, add_texts, parts};
+use std::alloc::{AllocError, Global};
+
+// The parts of a record that is a recipe, between which members may stand.
+const TO_BUCKET: &str =
+    "{\"slug\":\"alpha\",\"schemaVersion\":\"1.12.0\",\"bucketConfig\":{\"randomizationUnit\":\"nimbus_id\",\"namespace\":\"ns\",\"start\":0,\"count\":1,\"total\":1";
+
+const TO_FEATURE: &str =
+    "},\"branches\":[{\"slug\":\"control\",\"ratio\":1,\"features\":[{\"featureId\":\"home\"";
+
+const END: &str = "}]";
 
 /// The recipe of a record.
-pub(crate) fn recipe(alloc: Global, text: &str) -> Result<Recipe> {
-    let read = read_record(alloc, &tree(alloc, text)?);
-    read.ok().context("no recipe")
+pub(crate) fn recipe(alloc: Global, text: &str) -> Result<Recipe, Fault> {
+    let tree = tree(alloc, text)?;
+    read_record(alloc, &tree).ok().ok_or(Fault::NoRow)
 }
 
 /// The text of a record's recipe, which is written and read again as the same, or the reason to skip it. Row: the
 /// record.
-pub(crate) fn record_text(alloc: Global, input: &str) -> Result<String> {
-    let read = read_record(alloc, &tree(alloc, input)?);
-    match read {
-        Ok(recipe) => written(alloc, &recipe),
-        Err(fault) => reason_text(alloc, &fault),
+pub(crate) fn find_record(alloc: Global, input: &str, found: &mut String) -> Result<(), Fault> {
+    let tree = tree(alloc, input)?;
+    add_record_of(alloc, &tree, found)
+}
+
+fn add_record_of(alloc: Global, tree: &Tree, found: &mut String) -> Result<(), Fault> {
+    match read_record(alloc, tree) {
+        Ok(recipe) => add_written(alloc, &recipe, found),
+        Err(fault) => add_fault(&fault, found),
     }
 }
 
-// The reason to skip a record.
-fn reason_text(alloc: Global, fault: &RecordFault) -> Result<String> {
+// Adds the reason to skip a record.
+fn add_fault(fault: &RecordFault, found: &mut String) -> Result<(), Fault> {
     match fault {
-        RecordFault::Skip(reason) => debugged(alloc, reason),
-        RecordFault::OutOfMemory => bail!("out of memory"),
+        RecordFault::Skip(reason) => Ok(write!(found, "{reason:?}")?),
+        RecordFault::OutOfMemory => Err(Fault::OutOfMemory),
     }
 }
 
-fn written(alloc: Global, recipe: &Recipe) -> Result<String>
+fn add_written(alloc: Global, recipe: &Recipe, found: &mut String) -> Result<(), Fault>
     requires { IsValid recipe.now }
 {
-    let text = tree_text(alloc, recipe)?;
-    ensure!(
-        text.len() as u128 == record_length(recipe),
-        "another length"
-    );
-    ensure!(
-        is_streamed_as(alloc, recipe, text.as_str())?,
-        "another text"
-    );
-    ensure!(is_reread(alloc, recipe)?, "another recipe");
-    Ok(text)
+    add_tree_of(alloc, recipe, found)?;
+    if found.len() as u128 != record_length(recipe) {
+        found.push_str(", with another length")?;
+    } else if !is_streamed_as(alloc, recipe, found.as_bytes())? {
+        found.push_str(", but another text without a tree")?;
+    } else if !is_reread(alloc, recipe)? {
+        found.push_str(", and another recipe again")?;
+    }
+    Ok(())
 }
 
-// The text of a recipe's tree.
-fn tree_text(alloc: Global, recipe: &Recipe) -> Result<String> {
+// Adds the text of a recipe's tree.
+fn add_tree_of(alloc: Global, recipe: &Recipe, found: &mut String) -> Result<(), Fault> {
     let tree = record_of(alloc, recipe)?;
-    text_of(alloc, &tree)
+    add_tree(alloc, &tree, found)
 }
 
 // Whether a recipe is written as this text where no tree of it is made.
-fn is_streamed_as(alloc: Global, recipe: &Recipe, text: &str) -> Result<bool>
+fn is_streamed_as(alloc: Global, recipe: &Recipe, text: &[u8]) -> Result<bool, Fault>
     requires { IsValid recipe.now }
 {
     let mut writer = Writer::new(Vec::new(alloc));
-    write_record(&mut writer, recipe)?;
-    Ok(writer.into_inner().as_slice() == text.as_bytes())
+    match write_record(&mut writer, recipe) {
+        Ok(()) => Ok(writer.into_inner().as_slice() == text),
+        Err(_) => Err(Fault::OutOfMemory),
+    }
 }
 
 // Whether a recipe is read again as the same, and copied as the same.
-fn is_reread(alloc: Global, recipe: &Recipe) -> Result<bool>
+fn is_reread(alloc: Global, recipe: &Recipe) -> Result<bool, Fault>
     requires { IsValid recipe.now }
 {
-    let Ok(again) = reread(alloc, recipe) else {
-        bail!("it isn't read again");
-    };
-    Ok(again == *recipe && is_copied(&again)?)
+    match reread(alloc, recipe) {
+        Ok(again) => Ok(again == *recipe && is_copied(&again)?),
+        Err(_) => Err(Fault::OutOfMemory),
+    }
 }
 
-fn is_copied(recipe: &Recipe) -> Result<bool> {
+fn is_copied(recipe: &Recipe) -> Result<bool, AllocError> {
     Ok(recipe.clone()? == *recipe)
 }
 
-// A record that is a recipe, with members at the end of a part. Of two members with one key the last counts.
-fn record_with(alloc: Global, part: &str, members: &str) -> Result<String> {
-    let (record, bucket, branch, feature) = match part {
+// Adds a record that is a recipe, with members at the end of a part. Of two members with one key the last counts.
+fn add_record_with(part: &str, members: &str, record: &mut String) -> Result<(), Fault> {
+    let (own, bucket, branch, feature) = match part {
         "record" => (members, "", "", ""),
         "bucket" => ("", members, "", ""),
         "branch" => ("", "", members, ""),
         "feature" => ("", "", "", members),
-        _ => bail!("no part: {part}"),
+        _ => return Err(Fault::NoRow),
     };
-    Ok(format!(in alloc;
-        "{{\"slug\":\"alpha\",\"schemaVersion\":\"1.12.0\",\"bucketConfig\":{{\"randomizationUnit\":\"nimbus_id\",\"namespace\":\"ns\",\"start\":0,\"count\":1,\"total\":1{bucket}}},\"branches\":[{{\"slug\":\"control\",\"ratio\":1,\"features\":[{{\"featureId\":\"home\"{feature}}}]{branch}}}]{record}}}"
+    Ok(add_texts(
+        record,
+        &[
+            TO_BUCKET, bucket, TO_FEATURE, feature, END, branch, END, own, "}",
+        ],
     )?)
+}
+
+/// Adds a record that is a recipe, with this slug.
+pub(crate) fn add_record_named(slug: &str, record: &mut String) -> Result<(), AllocError> {
+    let parts = [TO_BUCKET, TO_FEATURE, END, END, ",\"slug\":\"", slug, "\"}"];
+    add_texts(record, &parts)
 }
 
 /// `recipe`, or the reason to skip a record with members at the end of the part that is given: `record`, `bucket`,
 /// `branch` or `feature`. Row: the members, with a comma before each.
-pub(crate) fn reason_with(alloc: Global, given: &str, input: &str) -> Result<String> {
-    let record = record_with(alloc, given, input)?;
-    reason_of(alloc, record.as_str())
+pub(crate) fn find_reason(
+    alloc: Global,
+    part: &str,
+    members: &str,
+    found: &mut String,
+) -> Result<(), Fault> {
+    let mut record = String::new(alloc);
+    add_record_with(part, members, &mut record)?;
+    add_reason(alloc, record.as_str(), found)
 }
 
-// `recipe`, or the reason to skip a record.
-fn reason_of(alloc: Global, record: &str) -> Result<String> {
-    let read = read_record(alloc, &tree(alloc, record)?);
-    match read {
-        Ok(_) => word(alloc, "recipe"),
-        Err(fault) => reason_text(alloc, &fault),
+// Adds `recipe`, or the reason to skip a record.
+fn add_reason(alloc: Global, record: &str, found: &mut String) -> Result<(), Fault> {
+    let tree = tree(alloc, record)?;
+    match read_record(alloc, &tree).err() {
+        None => Ok(found.push_str("recipe")?),
+        Some(fault) => add_fault(&fault, found),
     }
 }
 
 /// Whether a recipe with members has an application, a channel, a targeting and a moment of publishing. Row: the
 /// members.
-pub(crate) fn texts_with(alloc: Global, input: &str) -> Result<String> {
-    let recipe = recipe_with(alloc, input)?;
-    presence_text(alloc, &recipe)
+pub(crate) fn find_texts(alloc: Global, members: &str, found: &mut String) -> Result<(), Fault> {
+    let mut record = String::new(alloc);
+    add_record_with("record", members, &mut record)?;
+    add_texts_of(alloc, record.as_str(), found)
 }
 
-fn recipe_with(alloc: Global, members: &str) -> Result<Recipe> {
-    let record = record_with(alloc, "record", members)?;
-    recipe(alloc, record.as_str())
-}
-
-fn presence_text(alloc: Global, recipe: &Recipe) -> Result<String> {
-    let (name, channel) = (recipe.app_name.is_some(), recipe.channel.is_some());
-    let (targeting, published) = (recipe.targeting.is_some(), recipe.published.is_some());
-    Ok(format!(in alloc; "{name} {channel} {targeting} {published}")?)
+fn add_texts_of(alloc: Global, record: &str, found: &mut String) -> Result<(), Fault> {
+    let recipe = recipe(alloc, record)?;
+    write!(found, "{}", recipe.app_name.is_some())?;
+    write!(found, " {}", recipe.channel.is_some())?;
+    write!(found, " {}", recipe.targeting.is_some())?;
+    Ok(write!(found, " {}", recipe.published.is_some())?)
 }
 
 /// Whether the recipes of two records are equal. Row: the records with ` | ` between them.
-pub(crate) fn are_equal(alloc: Global, input: &str) -> Result<String> {
-    let (first, second) = halves(input)?;
-    let (first, second) = (recipe(alloc, first)?, recipe(alloc, second)?);
-    displayed(alloc, &(first == second))
+pub(crate) fn find_equality(alloc: Global, input: &str, found: &mut String) -> Result<(), Fault> {
+    let (first, second) = parts(input)?;
+    let first = recipe(alloc, first)?;
+    add_equality(alloc, &first, second, found)
 }
 
-/// A record that is a recipe, with this slug.
-pub(crate) fn record_named(alloc: Global, slug: &str) -> Result<String> {
-    let members = format!(in alloc; ",\"slug\":\"{slug}\"")?;
-    record_with(alloc, "record", members.as_str())
+fn add_equality(
+    alloc: Global,
+    first: &Recipe,
+    second: &str,
+    found: &mut String,
+) -> Result<(), Fault> {
+    let second = recipe(alloc, second)?;
+    Ok(write!(found, "{}", *first == second)?)
 }

@@ -1,14 +1,13 @@
 //! Rows on the order of versions.
-use anyhow::{Context, Result};
-use row_tables::word;
+use row_tables::{Fault, add_texts};
 use std::alloc::{AllocError, Global};
 use version_compare::compare;
 
 /// How two versions compare, in both orders. Row: the versions with a bar between them.
-pub(crate) fn order_of(alloc: Global, input: &str) -> Result<String> {
-    let (first, second) = input.split_once('|').context("no two versions")?;
-    let (there, back) = (compare(first, second), compare(second, first));
-    Ok(format!(in alloc; "{there:?} {back:?}")?)
+pub(crate) fn find_order(input: &str, found: &mut String) -> Result<(), Fault> {
+    let (first, second) = input.split_once('|').ok_or(Fault::NoRow)?;
+    write!(found, "{:?}", compare(first, second))?;
+    Ok(write!(found, " {:?}", compare(second, first))?)
 }
 
 // A version, and its rank.
@@ -20,27 +19,32 @@ struct Ranked<'a> {
 
 /// The first pair that doesn't compare as the ranks of its versions, or `as ranked`. Row: versions with ` < ` between
 /// them, or ` = ` where the rank is the same.
-pub(crate) fn chain_rises(alloc: Global, input: &str) -> Result<String> {
-    let chain = chain_of(alloc, input)?;
-    match first_unranked(&chain) {
-        Some((first, second)) => Ok(format!(in alloc; "{first} and {second}")?),
-        None => word(alloc, "as ranked"),
-    }
+pub(crate) fn find_unranked(alloc: Global, input: &str, found: &mut String) -> Result<(), Fault> {
+    let mut chain = Vec::new(alloc);
+    read_chain(input, &mut chain)?;
+    Ok(add_unranked(&chain, found)?)
 }
 
-fn first_unranked<'a>(chain: &[Ranked<'a>]) -> Option<(&'a str, &'a str)> {
+fn add_unranked(chain: &[Ranked<'_>], found: &mut String) -> Result<(), AllocError> {
     for first in chain {
-        for second in chain {
-            if compare(first.version, second.version) != first.rank.cmp(&second.rank) {
-                return Some((first.version, second.version));
-            }
+        if let Some(second) = unranked_to(*first, chain) {
+            return add_texts(found, &[first.version, " and ", second]);
+        }
+    }
+    found.push_str("as ranked")
+}
+
+// The first version to which this one doesn't compare as their ranks.
+fn unranked_to<'a>(first: Ranked<'_>, chain: &[Ranked<'a>]) -> Option<&'a str> {
+    for second in chain {
+        if compare(first.version, second.version) != first.rank.cmp(&second.rank) {
+            return Some(second.version);
         }
     }
     None
 }
 
-fn chain_of<'a>(alloc: Global, input: &'a str) -> Result<Vec<Ranked<'a>>, AllocError> {
-    let mut chain = Vec::new(alloc);
+fn read_chain<'a>(input: &'a str, chain: &mut Vec<Ranked<'a>>) -> Result<(), AllocError> {
     let mut rank = 0u32;
     for word in input.split(' ') {
         match word {
@@ -49,5 +53,5 @@ fn chain_of<'a>(alloc: Global, input: &'a str) -> Result<Vec<Ranked<'a>>, AllocE
             version => chain.push(Ranked { version, rank })?,
         }
     }
-    Ok(chain)
+    Ok(())
 }

@@ -1,36 +1,23 @@
-//! Slugs, words and bytes of a line.
-use anyhow::{Result, bail};
-use plain_text::{Slug, slug_of};
-use std::alloc::{AllocError, Global};
+//! Bytes of a line.
+use std::alloc::AllocError;
 
-pub(crate) fn slug(alloc: Global, text: &str) -> Result<Slug> {
-    match slug_of(alloc, text.as_bytes()) {
-        Ok(slug) => Ok(slug),
-        Err(_) => bail!("no slug: {text}"),
-    }
-}
-
-/// A text before and behind a mark.
-pub(crate) fn halves<'a>(text: &'a str, mark: &str) -> Result<(&'a str, &'a str)> {
-    match text.split_once(mark) {
-        Some(halves) => Ok(halves),
-        None => bail!("no{mark}in {text}"),
-    }
-}
-
-/// The bytes that a text spells: `\x` and two hexadecimal digits are one byte, and each other byte is itself.
-pub(crate) fn bytes_of(alloc: Global, text: &str) -> Result<Vec<u8>, AllocError> {
-    let mut bytes = Vec::new(alloc);
+/// Adds the bytes that a text spells: `\x` and two hexadecimal digits are one byte, and each other byte is itself.
+pub(crate) fn add_bytes_of(text: &str, bytes: &mut Vec<u8>) -> Result<(), AllocError> {
     for (place, part) in text.split("\\x").enumerate() {
-        match part.as_bytes() {
-            [high, low, rest @ ..] if place > 0 => {
-                bytes.push((digit(*high) << 4) | digit(*low))?;
-                bytes.extend_from_slice(rest)?;
-            }
-            rest => bytes.extend_from_slice(rest)?,
-        }
+        add_part(place, part.as_bytes(), bytes)?;
     }
-    Ok(bytes)
+    Ok(())
+}
+
+// Adds the bytes of a part, of which each but the first begins with two digits.
+fn add_part(place: usize, part: &[u8], bytes: &mut Vec<u8>) -> Result<(), AllocError> {
+    match part {
+        [high, low, rest @ ..] if place > 0 => {
+            bytes.push((digit(*high) << 4) | digit(*low))?;
+            bytes.extend_from_slice(rest)
+        }
+        rest => bytes.extend_from_slice(rest),
+    }
 }
 
 // What a hexadecimal digit is worth; 0 for any other byte.

@@ -3,77 +3,107 @@ ghost use Rattle.std.specs.Prelude.{IfOk, IsTrue};
 ghost use Rattle.enrol_states.specs.Order.{AreAbove, Rise};
 ghost use Rattle.enrol_states.specs.State.{slugs_of};
 
-use crate::inputs::{halves, slug};
-use crate::shown::changes_text;
-use anyhow::{Result, bail};
+use crate::shown::add_changes;
 use change_outbox::changes_of;
 use enrol_states::{
     DisqualifiedReason, EnrolledReason, ErrorCause, NotEnrolledReason, Row, Status,
 };
+use row_tables::{Fault, cut, parts, slug};
 use std::alloc::Global;
 use std::cmp::Ordering;
 
 /// The changes between rows. Row: the old and the new rows, as `SLUG STATUS` with commas between them, or `none`.
-pub(crate) fn changes_between(alloc: Global, input: &str) -> Result<String> {
-    let (old, new) = halves(input, " | ")?;
+pub(crate) fn find_changes(alloc: Global, input: &str, found: &mut String) -> Result<(), Fault> {
+    let (old, new) = parts(input)?;
     let old = rows_of(alloc, old)?;
+    add_changes_from(alloc, &old, new, found)
+}
+
+fn add_changes_from(alloc: Global, old: &[Row], new: &str, found: &mut String) -> Result<(), Fault>
+    requires { Rise (slugs_of old.now) }
+{
     let new = rows_of(alloc, new)?;
-    let changes = changes_of(alloc, &old, &new)?;
-    changes_text(alloc, changes.as_slice())
+    add_changes_between(alloc, old, &new, found)
+}
+
+fn add_changes_between(
+    alloc: Global,
+    old: &[Row],
+    new: &[Row],
+    found: &mut String,
+) -> Result<(), Fault>
+    requires old_rows { Rise (slugs_of old.now) }
+    requires new_rows { Rise (slugs_of new.now) }
+{
+    let changes = changes_of(alloc, old, new)?;
+    Ok(add_changes(changes.as_slice(), found)?)
 }
 
 // The rows that a text names, which rise by slug.
-fn rows_of(alloc: Global, text: &str) -> Result<Vec<Row>>
+fn rows_of(alloc: Global, text: &str) -> Result<Vec<Row>, Fault>
     ensures { IfOk result (λ rows. Rise (slugs_of rows.items)) }
 {
     let mut rows = Vec::new(alloc);
     if text != "none" {
-        for row in text.split(", ") {
-            rows.push(row_of(alloc, row)?)?;
-        }
+        read_rows(alloc, text, &mut rows)?;
     }
-    if !rises(&rows) {
-        bail!("no order: {text}");
+    if rises(&rows) {
+        Ok(rows)
+    } else {
+        Err(Fault::NoRow)
     }
-    Ok(rows)
 }
 
-fn row_of(alloc: Global, text: &str) -> Result<Row> {
-    let (name, status) = halves(text, " ")?;
+fn read_rows(alloc: Global, text: &str, rows: &mut Vec<Row>) -> Result<(), Fault> {
+    for row in text.split(", ") {
+        rows.push(row_of(alloc, row)?)?;
+    }
+    Ok(())
+}
+
+fn row_of(alloc: Global, text: &str) -> Result<Row, Fault> {
+    let (name, status) = cut(text);
+    let status = status_of(alloc, status)?;
     Ok(Row {
         slug: slug(alloc, name)?,
-        status: status_of(alloc, status)?,
+        status,
     })
 }
 
 // A status by the name of its kind, and its branch.
-fn status_of(alloc: Global, text: &str) -> Result<Status> {
-    let (kind, branch) = text.split_once(' ').unwrap_or((text, ""));
-    Ok(match kind {
-        "Enrolled" => Status::Enrolled {
-            reason: EnrolledReason::Qualified,
-            branch: slug(alloc, branch)?,
-        },
-        "OptedIn" => Status::Enrolled {
-            reason: EnrolledReason::OptIn,
-            branch: slug(alloc, branch)?,
-        },
-        "Disqualified" => Status::Disqualified {
-            reason: DisqualifiedReason::OptOut,
-            branch: slug(alloc, branch)?,
-        },
-        "WasEnrolled" => Status::WasEnrolled {
-            branch: slug(alloc, branch)?,
-            ended: 7,
-        },
-        "NotEnrolled" => Status::NotEnrolled {
+fn status_of(alloc: Global, text: &str) -> Result<Status, Fault> {
+    let (kind, branch) = cut(text);
+    match kind {
+        "Enrolled" => enrolled(alloc, EnrolledReason::Qualified, branch),
+        "OptedIn" => enrolled(alloc, EnrolledReason::OptIn, branch),
+        "Disqualified" => disqualified(alloc, branch),
+        "WasEnrolled" => was_enrolled(alloc, branch),
+        "NotEnrolled" => Ok(Status::NotEnrolled {
             reason: NotEnrolledReason::NotTargeted,
-        },
-        "Error" => Status::Error {
+        }),
+        "Error" => Ok(Status::Error {
             cause: ErrorCause::Unparsed,
-        },
-        _ => bail!("no status: {text}"),
+        }),
+        _ => Err(Fault::NoRow),
+    }
+}
+
+fn enrolled(alloc: Global, reason: EnrolledReason, branch: &str) -> Result<Status, Fault> {
+    let branch = slug(alloc, branch)?;
+    Ok(Status::Enrolled { reason, branch })
+}
+
+fn disqualified(alloc: Global, branch: &str) -> Result<Status, Fault> {
+    let branch = slug(alloc, branch)?;
+    Ok(Status::Disqualified {
+        reason: DisqualifiedReason::OptOut,
+        branch,
     })
+}
+
+fn was_enrolled(alloc: Global, branch: &str) -> Result<Status, Fault> {
+    let branch = slug(alloc, branch)?;
+    Ok(Status::WasEnrolled { branch, ended: 7 })
 }
 
 // Whether the rows rise by slug.

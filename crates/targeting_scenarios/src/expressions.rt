@@ -1,56 +1,55 @@
 //! Rows on the trees of expressions by the grammar, and on the texts that have none.
-use anyhow::Result;
 use jexl_lexer::{Token, lex};
 use jexl_parser::{BinarySign, Literal, Node, parse};
-use row_tables::{debugged, word};
+use row_tables::{Fault, add_texts};
 use std::alloc::{AllocError, Global};
 
 /// The tree of an expression, or the name of the fault of its text. Row: the text.
-pub(crate) fn tree_of(alloc: Global, input: &str) -> Result<String> {
+pub(crate) fn find_tree(alloc: Global, input: &str, found: &mut String) -> Result<(), Fault> {
     match lex(alloc, input) {
-        Ok(tokens) => parsed_tree(alloc, tokens.as_slice()),
-        Err(fault) => debugged(alloc, &fault),
+        Ok(tokens) => add_tree_of(alloc, tokens.as_slice(), found),
+        Err(fault) => Ok(write!(found, "{fault:?}")?),
     }
 }
 
-fn parsed_tree(alloc: Global, tokens: &[Token]) -> Result<String> {
+fn add_tree_of(alloc: Global, tokens: &[Token], found: &mut String) -> Result<(), Fault> {
     match parse(alloc, tokens) {
-        Ok(expression) => Ok(tree_text(alloc, &expression.root)?),
-        Err(fault) => debugged(alloc, &fault),
+        Ok(expression) => Ok(add_tree(alloc, &expression.root, found)?),
+        Err(fault) => Ok(write!(found, "{fault:?}")?),
     }
 }
 
 /// Whether a text is an expression: `tree`, or the name of its fault. Row: the text.
-pub(crate) fn reading_of(alloc: Global, input: &str) -> Result<String> {
+pub(crate) fn find_reading(alloc: Global, input: &str, found: &mut String) -> Result<(), Fault> {
     match lex(alloc, input) {
-        Ok(tokens) => parsed_reading(alloc, tokens.as_slice()),
-        Err(fault) => debugged(alloc, &fault),
+        Ok(tokens) => add_reading(alloc, tokens.as_slice(), found),
+        Err(fault) => Ok(write!(found, "{fault:?}")?),
     }
 }
 
-fn parsed_reading(alloc: Global, tokens: &[Token]) -> Result<String> {
-    match parse(alloc, tokens) {
-        Ok(_) => word(alloc, "tree"),
-        Err(fault) => debugged(alloc, &fault),
+fn add_reading(alloc: Global, tokens: &[Token], found: &mut String) -> Result<(), Fault> {
+    match parse(alloc, tokens).err() {
+        None => Ok(found.push_str("tree")?),
+        Some(fault) => Ok(write!(found, "{fault:?}")?),
     }
 }
 
-fn tree_text(alloc: Global, node: &Node) -> Result<String, AllocError> {
+fn add_tree(alloc: Global, node: &Node, found: &mut String) -> Result<(), AllocError> {
     let mut line = String::new(alloc);
-    show(alloc, &mut line, node)?;
-    String::from_str(alloc, line.trim_start())
+    show(&mut line, node)?;
+    found.push_str(line.trim_start())
 }
 
 // Puts the tree of a node at the end of a line, behind a space.
-fn show(alloc: Global, line: &mut String, node: &Node) -> Result<(), AllocError> {
+fn show(line: &mut String, node: &Node) -> Result<(), AllocError> {
     match node {
-        Node::Literal(literal) => show_literal(alloc, line, literal),
-        Node::Name(name) => add(line, " ", name.as_str()),
-        Node::Relative(name) => add(line, " .", name.as_str()),
+        Node::Literal(literal) => show_literal(line, literal),
+        Node::Name(name) => add_texts(line, &[" ", name.as_str()]),
+        Node::Relative(name) => add_texts(line, &[" .", name.as_str()]),
         Node::List(items) => {
             line.push_str(" (list")?;
             for item in items {
-                show(alloc, line, item)?;
+                show(line, item)?;
             }
             line.push(')')
         }
@@ -58,99 +57,84 @@ fn show(alloc: Global, line: &mut String, node: &Node) -> Result<(), AllocError>
             line.push_str(" (members")?;
             for (key, value) in members {
                 show_key(line, key.as_str())?;
-                show(alloc, line, value)?;
+                show(line, value)?;
             }
             line.push(')')
         }
         Node::Member(subject, name) => {
             line.push_str(" (member")?;
-            show(alloc, line, subject)?;
+            show(line, subject)?;
             show_last(line, name.as_str())
         }
         Node::Index(subject, inside) => {
             line.push_str(" (index")?;
-            show(alloc, line, subject)?;
-            show(alloc, line, inside)?;
+            show(line, subject)?;
+            show(line, inside)?;
             line.push(')')
         }
         Node::Filter(subject, inside) => {
             line.push_str(" (filter")?;
-            show(alloc, line, subject)?;
-            show(alloc, line, inside)?;
+            show(line, subject)?;
+            show(line, inside)?;
             line.push(')')
         }
         Node::Transform(subject, name, arguments) => {
             line.push_str(" (transform")?;
-            show(alloc, line, subject)?;
-            add(line, " ", name.as_str())?;
+            show(line, subject)?;
+            add_texts(line, &[" ", name.as_str()])?;
             for argument in arguments {
-                show(alloc, line, argument)?;
+                show(line, argument)?;
             }
             line.push(')')
         }
         Node::Not(inside) => {
             line.push_str(" (!")?;
-            show(alloc, line, inside)?;
+            show(line, inside)?;
             line.push(')')
         }
         Node::Binary(sign, left, right) => {
-            show_sign(alloc, line, *sign)?;
-            show(alloc, line, left)?;
-            show(alloc, line, right)?;
+            show_sign(line, *sign)?;
+            show(line, left)?;
+            show(line, right)?;
             line.push(')')
         }
         Node::Choose(test, first, second) => {
             line.push_str(" (choose")?;
-            show(alloc, line, test)?;
-            show(alloc, line, first)?;
-            show(alloc, line, second)?;
+            show(line, test)?;
+            show(line, first)?;
+            show(line, second)?;
             line.push(')')
         }
         Node::OrElse(test, other) => {
             line.push_str(" (or_else")?;
-            show(alloc, line, test)?;
-            show(alloc, line, other)?;
+            show(line, test)?;
+            show(line, other)?;
             line.push(')')
         }
     }
 }
 
-// Puts two texts at the end of a line.
-fn add(line: &mut String, first: &str, second: &str) -> Result<(), AllocError> {
-    line.push_str(first)?;
-    line.push_str(second)
-}
-
 // Puts a name at the end of a line, behind a space and before a bracket.
 fn show_last(line: &mut String, name: &str) -> Result<(), AllocError> {
-    add(line, " ", name)?;
-    line.push(')')
+    add_texts(line, &[" ", name, ")"])
 }
 
 // Puts a member's key in single quotes at the end of a line, behind a space.
 fn show_key(line: &mut String, key: &str) -> Result<(), AllocError> {
-    add(line, " '", key)?;
-    line.push('\'')
+    add_texts(line, &[" '", key, "'"])
 }
 
 // Puts the name of an operator at the end of a line, behind a space and a bracket.
-fn show_sign(alloc: Global, line: &mut String, sign: BinarySign) -> Result<(), AllocError> {
-    let name = format!(in alloc; " ({sign:?}")?;
-    line.push_str(name.as_str())
+fn show_sign(line: &mut String, sign: BinarySign) -> Result<(), AllocError> {
+    write!(line, " ({sign:?}")
 }
 
 // Puts a literal at the end of a line, behind a space, a text in single quotes.
-fn show_literal(alloc: Global, line: &mut String, literal: &Literal) -> Result<(), AllocError> {
+fn show_literal(line: &mut String, literal: &Literal) -> Result<(), AllocError> {
     match literal {
         Literal::Null => line.push_str(" null"),
-        Literal::Truth(true) => line.push_str(" true"),
-        Literal::Truth(false) => line.push_str(" false"),
-        Literal::Whole(number) => show_number(alloc, line, *number),
+        Literal::Truth(truth) => write!(line, " {truth}"),
+        Literal::Whole(number) => write!(line, " {number}"),
         Literal::Text(text) => show_key(line, text.as_str()),
     }
-}
-
-fn show_number(alloc: Global, line: &mut String, number: i64) -> Result<(), AllocError> {
-    let text = format!(in alloc; " {number}")?;
-    line.push_str(text.as_str())
 }

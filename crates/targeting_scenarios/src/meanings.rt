@@ -3,18 +3,17 @@ ghost use Rattle.std.specs.Prelude.{IsTrue};
 ghost use Rattle.jexl_transforms.specs.Answering.{AnswersAs};
 ghost use Rattle.jexl_transforms.specs.Meaning.{is_standard};
 
-use crate::json_texts::{json_text, value};
-use crate::transforms::called;
-use anyhow::{Context, Result, bail, ensure};
+use crate::json_texts::{add_json, value};
+use crate::transforms::find_call;
 use jexl_eval::{eval, eval_truth};
-use jexl_lexer::lex;
+use jexl_lexer::{Token, lex};
 use jexl_parser::{Expr, parse};
 use jexl_transforms::{
     Transform, TransformAnswer, TransformTable, bucket_transform, date_transform,
     event_nonzero_transform, event_seen_transform, event_sum_transform, version_transform,
 };
 use jexl_value::{Attributes, NamedValues, Value};
-use row_tables::{debugged, displayed, word};
+use row_tables::{Fault, Question};
 use std::alloc::Global;
 
 // Puts a transform at the end of a table.
@@ -23,55 +22,63 @@ pub(crate) fn put(
     table: &mut TransformTable,
     name: &str,
     transform: Transform,
-) -> Result<()>
+) -> Result<(), Fault>
     requires standard { IsTrue (is_standard name.now) }
     requires callable { Transform.IsAlwaysCallable transform }
     requires answers { AnswersAs name.now (Transform.post transform) }
 {
     match table.push(alloc, name, transform) {
         Ok(()) => Ok(()),
-        Err(_) => bail!("the table has no room"),
+        Err(_) => Err(Fault::OutOfMemory),
     }
 }
 
 /// A row over a table of the standard transforms, of the kind `value`, `truth` or `call`.
-pub(crate) fn with_standard(alloc: Global, kind: &str, given: &str, input: &str) -> Result<String> {
-    let version: Transform = Box::new(
-        alloc,
-        |attributes: &Attributes, subject: &Value, arguments: &[Value]| {
-            version_transform(attributes, subject, arguments)
-        },
-    )?;
-    let date: Transform = Box::new(
-        alloc,
-        |attributes: &Attributes, subject: &Value, arguments: &[Value]| {
-            date_transform(attributes, subject, arguments)
-        },
-    )?;
-    let bucket: Transform = Box::new(
-        alloc,
-        move |attributes: &Attributes, subject: &Value, arguments: &[Value]| {
-            bucket_transform(alloc, attributes, subject, arguments)
-        },
-    )?;
-    let sum: Transform = Box::new(
-        alloc,
-        |attributes: &Attributes, subject: &Value, arguments: &[Value]| {
-            event_sum_transform(attributes, subject, arguments)
-        },
-    )?;
-    let nonzero: Transform = Box::new(
-        alloc,
-        |attributes: &Attributes, subject: &Value, arguments: &[Value]| {
-            event_nonzero_transform(attributes, subject, arguments)
-        },
-    )?;
-    let seen: Transform = Box::new(
-        alloc,
-        |attributes: &Attributes, subject: &Value, arguments: &[Value]| {
-            event_seen_transform(attributes, subject, arguments)
-        },
-    )?;
+pub(crate) fn find_with_standard(
+    alloc: Global,
+    row: Question<'_>,
+    found: &mut String,
+) -> Result<(), Fault> {
+    let (Ok(version), Ok(date), Ok(bucket), Ok(sum), Ok(nonzero), Ok(seen)) = (
+        Box::new(
+            alloc,
+            |attributes: &Attributes, subject: &Value, arguments: &[Value]| {
+                version_transform(attributes, subject, arguments)
+            },
+        ),
+        Box::new(
+            alloc,
+            |attributes: &Attributes, subject: &Value, arguments: &[Value]| {
+                date_transform(attributes, subject, arguments)
+            },
+        ),
+        Box::new(
+            alloc,
+            move |attributes: &Attributes, subject: &Value, arguments: &[Value]| {
+                bucket_transform(alloc, attributes, subject, arguments)
+            },
+        ),
+        Box::new(
+            alloc,
+            |attributes: &Attributes, subject: &Value, arguments: &[Value]| {
+                event_sum_transform(attributes, subject, arguments)
+            },
+        ),
+        Box::new(
+            alloc,
+            |attributes: &Attributes, subject: &Value, arguments: &[Value]| {
+                event_nonzero_transform(attributes, subject, arguments)
+            },
+        ),
+        Box::new(
+            alloc,
+            |attributes: &Attributes, subject: &Value, arguments: &[Value]| {
+                event_seen_transform(attributes, subject, arguments)
+            },
+        ),
+    ) else {
+        return Err(Fault::OutOfMemory);
+    };
     let mut table = TransformTable::new(alloc);
     let (Ok(()), Ok(()), Ok(()), Ok(()), Ok(()), Ok(())) = (
         table.push(alloc, "versionCompare", version),
@@ -81,14 +88,20 @@ pub(crate) fn with_standard(alloc: Global, kind: &str, given: &str, input: &str)
         table.push(alloc, "eventCountNonZero", nonzero),
         table.push(alloc, "eventLastSeen", seen),
     ) else {
-        bail!("the table has no room");
+        return Err(Fault::OutOfMemory);
     };
-    ensure!(table.names() == 6, "it has other names");
-    found(alloc, &table, kind, given, input)
+    if table.names() != 6 {
+        return Ok(found.push_str("it has other names")?);
+    }
+    find_over(alloc, &table, row, found)
 }
 
 /// A row over a table whose closures find no memory, of the kind `wanting-value` or `wanting-call`.
-pub(crate) fn with_wanting(alloc: Global, kind: &str, given: &str, input: &str) -> Result<String> {
+pub(crate) fn find_with_wanting(
+    alloc: Global,
+    row: Question<'_>,
+    found: &mut String,
+) -> Result<(), Fault> {
     let mut table = TransformTable::new(alloc);
     let version: Transform = Box::new(alloc, |_: &Attributes, _: &Value, _: &[Value]| {
         TransformAnswer::OutOfMemory
@@ -102,58 +115,95 @@ pub(crate) fn with_wanting(alloc: Global, kind: &str, given: &str, input: &str) 
         TransformAnswer::OutOfMemory
     })?;
     put(alloc, &mut table, "bucketSample", bucket)?;
-    found(alloc, &table, kind, given, input)
+    find_over(alloc, &table, row, found)
 }
 
-fn found(
+fn find_over(
     alloc: Global,
     table: &TransformTable,
-    kind: &str,
-    given: &str,
-    input: &str,
-) -> Result<String> {
-    match kind {
-        "value" | "wanting-value" => value_found(alloc, table, given, input),
-        "truth" => truth_found(alloc, table, given, input),
-        _ => called(alloc, table, input),
+    row: Question<'_>,
+    found: &mut String,
+) -> Result<(), Fault> {
+    match row.kind {
+        "call" | "wanting-call" => find_call(alloc, table, row.text()?, found),
+        _ => find_meaning(alloc, table, row, found),
     }
 }
 
-// The value of an expression as a JSON text, or the name of its fault, over an object of attributes. Row: the
-// expression.
-fn value_found(alloc: Global, table: &TransformTable, given: &str, input: &str) -> Result<String> {
-    let (expression, attributes) = (expression(alloc, input)?, attributes(alloc, given)?);
-    let value = eval(alloc, &expression, &attributes, table);
-    match value {
-        Ok(value) => json_text(alloc, &value),
-        Err(fault) => debugged(alloc, &fault),
+// The value of an expression as a JSON text, or at the kind `truth` its truth value, or `none` where it has another value; or
+// the name of its fault, over an object of attributes. Row: the expression.
+fn find_meaning(
+    alloc: Global,
+    table: &TransformTable,
+    row: Question<'_>,
+    found: &mut String,
+) -> Result<(), Fault> {
+    let attributes = attributes(alloc, row.given)?;
+    find_meaning_over(alloc, table, &attributes, row, found)
+}
+
+fn find_meaning_over(
+    alloc: Global,
+    table: &TransformTable,
+    attributes: &Attributes,
+    row: Question<'_>,
+    found: &mut String,
+) -> Result<(), Fault> {
+    let expression = expression(alloc, row.text()?)?;
+    if row.kind == "truth" {
+        return add_truth(alloc, table, attributes, &expression, found);
+    }
+    add_value(alloc, table, attributes, &expression, found)
+}
+
+fn add_value(
+    alloc: Global,
+    table: &TransformTable,
+    attributes: &Attributes,
+    expression: &Expr,
+    found: &mut String,
+) -> Result<(), Fault> {
+    match eval(alloc, expression, attributes, table) {
+        Ok(value) => add_json(alloc, &value, found),
+        Err(fault) => Ok(write!(found, "{fault:?}")?),
     }
 }
 
-// The truth value of an expression, `none` where it has another value, or the name of its fault, over an object of
-// attributes. Row: the expression.
-fn truth_found(alloc: Global, table: &TransformTable, given: &str, input: &str) -> Result<String> {
-    let (expression, attributes) = (expression(alloc, input)?, attributes(alloc, given)?);
-    match eval_truth(alloc, &expression, &attributes, table) {
-        Ok(Some(truth)) => displayed(alloc, &truth),
-        Ok(None) => word(alloc, "none"),
-        Err(fault) => debugged(alloc, &fault),
+fn add_truth(
+    alloc: Global,
+    table: &TransformTable,
+    attributes: &Attributes,
+    expression: &Expr,
+    found: &mut String,
+) -> Result<(), Fault> {
+    match eval_truth(alloc, expression, attributes, table) {
+        Ok(Some(truth)) => Ok(write!(found, "{truth}")?),
+        Ok(None) => Ok(found.push_str("none")?),
+        Err(fault) => Ok(write!(found, "{fault:?}")?),
     }
 }
 
-fn expression(alloc: Global, text: &str) -> Result<Expr> {
-    let tokens = lex(alloc, text).ok().context("no tokens")?;
-    let expression = parse(alloc, tokens.as_slice());
-    expression.ok().context("no expression")
+fn expression(alloc: Global, text: &str) -> Result<Expr, Fault> {
+    match lex(alloc, text) {
+        Ok(tokens) => expression_of(alloc, tokens.as_slice()),
+        Err(_) => Err(Fault::NoRow),
+    }
 }
 
-fn attributes(alloc: Global, given: &str) -> Result<Attributes> {
+fn expression_of(alloc: Global, tokens: &[Token]) -> Result<Expr, Fault> {
+    match parse(alloc, tokens) {
+        Ok(expression) => Ok(expression),
+        Err(_) => Err(Fault::NoRow),
+    }
+}
+
+fn attributes(alloc: Global, given: &str) -> Result<Attributes, Fault> {
     if given.is_empty() {
         let pairs = NamedValues::new(alloc);
         return Ok(Attributes { pairs });
     }
     match value(alloc, given)? {
         Value::Object(pairs) => Ok(Attributes { pairs }),
-        _ => bail!("no object is given"),
+        _ => Err(Fault::NoRow),
     }
 }

@@ -1,6 +1,6 @@
 use Rattle.std.proofs.Common.{sym, ◌∙◌, arith}
 use Rattle.targeting_scenarios.proofs.Rising.{rise_short, rise_next}
-use Rattle.targeting_scenarios.proofs.contexts.+rise.Goals as goal
+use Rattle.targeting_scenarios.proofs.clients.+rise.Goals as goal
 
 pub returns-in-empty : goal.returns-in-empty
 returns-in-empty t c = λ held. rise_short c.args.rows.now (omega (arith, c.in-empty.len_below))
