@@ -2,13 +2,11 @@
 use crate::faults::{Calls, Faults};
 use crate::host::FailingHost;
 use host_model::{MemHost, MemSource, Side};
+use plain_text::LAST_MOMENT;
 use std::alloc::{AllocError, Global};
 
 /// The moment of calls, unless a scenario says another.
 const NOW: u64 = 1_700_000_000;
-
-/// The last moment at which the program may be called.
-const LAST_MOMENT: u64 = 253_402_300_799;
 
 /// How many bytes a side may have, and how many may be written and said, unless a scenario says another number.
 const ROOM: usize = 65_536;

@@ -13,11 +13,9 @@ use jexl_transforms::{
     event_seen_transform, event_sum_transform, version_transform,
 };
 use jexl_value::{Attributes, Value};
+use plain_text::LAST_MOMENT;
 use session_run::{RunStatus, nimbus};
 use std::alloc::{AllocError, Global};
-
-/// The last moment at which the program may be called.
-const LAST_MOMENT: u64 = 253_402_300_799;
 
 /// How many standard transforms there are.
 const STANDARD_NAMES: usize = 6;

@@ -22,11 +22,8 @@ use change_outbox::{Outbox, OutboxFault, outbox_of};
 use event_counts::{Counts, CountsFault, counts_of};
 use pref_bindings::{Prefs, PrefsFault, prefs_of_parts};
 use row_batches::StoreRow;
-use state_codec::{CodecFault, state_of_parts};
+use state_codec::{CodecFault, MAX_STATE_BYTES, state_of_parts};
 use std::alloc::Global;
-
-// The most bytes that a state is spelled in.
-const MAX_SIZE: u128 = 16_777_216;
 
 /// The sound state that has exactly these rows, in this order, or of which they are the old form. `NotAState` comes exactly where
 /// there is none. No row is copied.
@@ -62,7 +59,7 @@ fn is_whole(state: &ClientState) -> bool
     ensures { IsTrue result ↔ IsSound state.now }
 {
     have_enrolled_holders(&state.enrolment, state.preferences.as_slice())
-        && sizes_of(state).total <= MAX_SIZE
+        && sizes_of(state).total <= MAX_STATE_BYTES as u128
 }
 
 // The counts that have these rows.

@@ -5,7 +5,7 @@ use Rattle.std.proofs.lemmas.Bool.{le-ltb, lt-ltb}
 use Rattle.host_model.specs.declared.host.Host.{Ghosts}
 use Rattle.host_model.specs.Hosts.{MeetsAll}
 use Rattle.host_model.proofs.Meeting.{met_weaker}
-use Rattle.pair_store.specs.declared.mark.TheConstants.{MARK}
+use Rattle.pair_store.specs.declared.mark.TheConstants.{MAX_RECORD_END}
 use Rattle.row_batches.specs.Batch.{ChangeList, batch_text, applied, whole_of}
 use Rattle.row_batches.specs.declared.store_row.StoreRow.{StoreRow}
 use Rattle.row_store.specs.Moments.{KeepsEitherRows}
@@ -22,10 +22,10 @@ use Rattle.client_store.specs.Moments.{IsLeftAs}
 -- what is written, of a batch of 9 bytes after which the rows spell the state
 module _ (store : StoredRows) (s : ClientState) (batch : ChangeList) (payload : List ℕ) (nine : length (batch_text batch) ≡ 9) (whole : batch_text (whole_of (applied batch store.rows)) ≡ spelling s) where
   passes : IsWritten true store batch payload → passes_mark (place store) ≡ true
-  passes written = lt-ltb MARK (place store + 15) (let past : MARK < place store + length (batch_text batch) + 6 = written.1 in omega (arith, past, nine))
+  passes written = lt-ltb MAX_RECORD_END (place store + 15) (let past : MAX_RECORD_END < place store + length (batch_text batch) + 6 = written.1 in omega (arith, past, nine))
 
   within : IsWritten false store batch payload → passes_mark (place store) ≡ false
-  within written = le-ltb MARK (place store + 15) (let below : place store + length (batch_text batch) + 6 ≤ MARK = written.1 in omega (arith, below, nine))
+  within written = le-ltb MAX_RECORD_END (place store + 15) (let below : place store + length (batch_text batch) + 6 ≤ MAX_RECORD_END = written.1 in omega (arith, below, nine))
 
   bytes_are : (is_whole : Bool) → IsWritten is_whole store batch payload → length payload + (if is_whole then 16 else 6) ≡ migration_bytes (place store) s
   unfolding migration_bytes

@@ -7,7 +7,7 @@ use Rattle.host_model.specs.declared.side.Side.TheVariants.{Left, Right}
 use Rattle.host_model.specs.Hosts.{MeetsAll}
 use Rattle.host_model.specs.Sides.{on}
 use Rattle.host_model.proofs.Meeting.{then_met, met_weaker}
-use Rattle.pair_store.specs.declared.mark.TheConstants.{MARK}
+use Rattle.pair_store.specs.declared.mark.TheConstants.{MAX_RECORD_END}
 use Rattle.pair_store.specs.Moments.{SameBehind, StaysBelow, IsOnlyRead, IsMaking}
 use Rattle.pair_store.specs.Pair.{HasNoList}
 use Rattle.pair_store.specs.Repair.{IsUnwritten}
@@ -39,7 +39,7 @@ module _ {H : Type 0} (h : Ghosts H) where
         let left = met.0 Left in
         let right = met.0 Right in
         let was = at_mid left.0 right.0 left.1 right.1 in (
-          both_sides (λ (side : Side). SameBehind MARK (h.images start side) (on side l r)) Left
+          both_sides (λ (side : Side). SameBehind MAX_RECORD_END (h.images start side) (on side l r)) Left
               ((was.0 Left).0, (was.0 Left).1, left.2 ∙ (was.0 Left).2) ((was.0 Right).0, (was.0 Right).1, right.2 ∙ (was.0 Right).2),
           met.1 ∙ was.1,
         )

@@ -3,7 +3,7 @@ use Rattle.std.proofs.Common.{◌≡◌, ◌≢◌, ℕ, ◌+◌, ◌<◌, ◌�
 use Rattle.std.specs.Prelude.{if◌then◌else◌}
 use Rattle.std.specs.Cmp.Lexicographic.{bytes_decides}
 use Rattle.std.proofs.lemmas.Bool.{le-ltb, lt-ltb}
-use Rattle.pair_store.specs.declared.mark.TheConstants.{MARK}
+use Rattle.pair_store.specs.declared.mark.TheConstants.{MAX_RECORD_END}
 use Rattle.row_batches.specs.Batch.{ChangeList, batch_text, applied, whole_of}
 use Rattle.row_batches.specs.declared.store_row.StoreRow.{StoreRow}
 use Rattle.row_batches.proofs.Walks.{applied_between}
@@ -66,10 +66,10 @@ module _ (stored : StoredState) (t : ClientState) (batch : ChangeList) (payload 
   apart = eq_apart s t s_sound t_sound other
 
   passes : IsWritten true stored.rows batch payload → passes_mark at s t ≡ true
-  passes written = lt-ltb MARK (at + change_size s t + 6) (subst (λ (b : ChangeList). MARK < at + length (batch_text b) + 6) same written.1)
+  passes written = lt-ltb MAX_RECORD_END (at + change_size s t + 6) (subst (λ (b : ChangeList). MAX_RECORD_END < at + length (batch_text b) + 6) same written.1)
 
   within : IsWritten false stored.rows batch payload → passes_mark at s t ≡ false
-  within written = le-ltb MARK (at + change_size s t + 6) (subst (λ (b : ChangeList). at + length (batch_text b) + 6 ≤ MARK) same written.1)
+  within written = le-ltb MAX_RECORD_END (at + change_size s t + 6) (subst (λ (b : ChangeList). at + length (batch_text b) + 6 ≤ MAX_RECORD_END) same written.1)
 
   whole_length : IsWritten true stored.rows batch payload → length payload ≡ length (spelling t)
   whole_length written = ap length (written.0 ∙ ap (λ (rs : List StoreRow). batch_text (whole_of rs)) gives) ∙ whole_size t

@@ -1,6 +1,6 @@
 -- What the opening of a store writes, and where the next record begins then. Where its rows are the old form of a state, a migration puts the row of participation anew.
 use Rattle.std.specs.Prelude.{◌≡◌, ℕ, Bool, nat_lt, ◌+◌, List, length, if◌then◌else◌}
-use Rattle.pair_store.specs.declared.mark.TheConstants.{MARK}
+use Rattle.pair_store.specs.declared.mark.TheConstants.{MAX_RECORD_END}
 use Rattle.pair_store.specs.Repair.{repair_cost}
 use Rattle.row_store.specs.Rows.{HasPlace}
 use Rattle.client_state.specs.declared.client_state.ClientState.{ClientState}
@@ -10,7 +10,7 @@ use Rattle.client_store.specs.Store.{StandsFor}
 
 -- the record of a migration, of 9 bytes, would end at this place, with the gate behind it, past the mark: byte 33,554,432. Then the whole state is written, on the other side
 abbrev pub passes_mark : ℕ → Bool
-passes_mark place = nat_lt MARK (place + 15)
+passes_mark place = nat_lt MAX_RECORD_END (place + 15)
 
 -- how many bytes the migration to this state writes, where the next record begins at this place
 unfoldable pub migration_bytes : ℕ → ClientState → ℕ

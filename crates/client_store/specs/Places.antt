@@ -1,6 +1,6 @@
 -- What a change of state writes, and where the next record begins then.
 use Rattle.std.specs.Prelude.{ℕ, Bool, false, nat_lt, ◌+◌, length, if◌then◌else◌}
-use Rattle.pair_store.specs.declared.mark.TheConstants.{MARK}
+use Rattle.pair_store.specs.declared.mark.TheConstants.{MAX_RECORD_END}
 use Rattle.row_batches.specs.Batch.{ChangeList, batch_text}
 use Rattle.row_batches.specs.Between.{between}
 use Rattle.client_state.specs.declared.client_state.ClientState.{ClientState}
@@ -16,7 +16,7 @@ change_size s t = length (batch_text (row_changes s t))
 
 -- a record of them at this place would end, with the gate behind it, past the mark: byte 33,554,432
 abbrev pub passes_mark : ℕ → ClientState → ClientState → Bool
-passes_mark place s t = nat_lt MARK (place + change_size s t + 6)
+passes_mark place s t = nat_lt MAX_RECORD_END (place + change_size s t + 6)
 
 -- then the whole of t is written, on the other side
 abbrev pub makes_checkpoint : ℕ → ClientState → ClientState → Bool

@@ -14,11 +14,9 @@ use client_state::{
 use fml_types::Manifest;
 use pref_bindings::Bindings;
 use row_batches::Batch;
+use state_codec::MAX_STATE_BYTES;
 use std::alloc::{AllocError, Global};
 use std::marker::Model;
-
-/// The most bytes of a state's spelling.
-const MAX_STATE_BYTES: u128 = 16_777_216;
 
 /// A state that may be stored, and how many bytes its spelling has. Contracts see it as the state.
 ///
@@ -91,7 +89,7 @@ impl SizedState {
         ensures { IfOk result (λ next. IsSized (state_after change.now self.now) next) }
     {
         let sizes = sizes_after(self.sizes, &self.state, change);
-        if sizes.total > MAX_STATE_BYTES {
+        if sizes.total > MAX_STATE_BYTES as u128 {
             return Ok(Err(sizes.total));
         }
         let state = self.state.with(change)?;

@@ -13,7 +13,7 @@ use std::str;
 use uuid::Uuid;
 
 /// The most times that an event is said to have come.
-const COUNT_LIMIT: u64 = 1_000_000;
+const MAX_COUNT: u64 = 1_000_000;
 
 /// The words behind `manifest`: the name of its first file, and the channel, both in UTF-8.
 pub(crate) fn manifest_file(
@@ -241,7 +241,7 @@ fn count_in(word: &[u8]) -> Result<u32, LineFault>
     ensures { result ≡ count_in word.now }
 {
     match read_number(word) {
-        Some(count) if 1 <= count && count <= COUNT_LIMIT => Ok(count as u32),
+        Some(count) if 1 <= count && count <= MAX_COUNT => Ok(count as u32),
         _ => Err(LineFault::BadWords),
     }
 }

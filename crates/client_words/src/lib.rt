@@ -13,5 +13,5 @@ mod texts;
 
 pub use answer::Answer;
 pub use command::Command;
-pub use line::{LINE_LIMIT, LineFault, bytes_at, read_command};
+pub use line::{LineFault, MAX_LINE_LEN, bytes_at, read_command};
 pub use texts::{answer_text, hyphenated, line_text};

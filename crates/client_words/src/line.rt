@@ -13,7 +13,7 @@ use plain_text::words;
 use std::alloc::{AllocError, Global};
 
 /// The most bytes of a line, without its end.
-pub const LINE_LIMIT: usize = 4096;
+pub const MAX_LINE_LEN: usize = 4096;
 
 /// Why a line has no command, in the order in which the causes are tested.
 #[derive(Clone, Copy, Debug, PartialEq, Eq)]
@@ -57,7 +57,7 @@ pub fn read_command(alloc: Global, line: &[u8]) -> Result<Command, LineFault>
     ensures value { (result ≡ command_of line.now) ⊎ (result ≡ Err LineFault.OutOfMemory) }
     ensures kept { IfOk result IsCommand }
 {
-    if line.len() > LINE_LIMIT {
+    if line.len() > MAX_LINE_LEN {
         return Err(LineFault::LineTooLong);
     }
     if line.is_empty() {

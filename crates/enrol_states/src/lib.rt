@@ -21,7 +21,7 @@ pub use exclusive::is_exclusive;
 pub use laws::equal_states_are_one;
 pub use participation::{Part, participate};
 pub use soundness::is_consistent;
-pub use state::{LAST_MOMENT, MAX_OPTED_OUT, MAX_RECIPES, Row, State, id_fits, slug_fits};
+pub use state::{MAX_OPTED_OUT, MAX_RECIPES, Row, State, id_fits, slug_fits};
 pub use status::{DisqualifiedReason, EnrolledReason, ErrorCause, NotEnrolledReason, Status};
 pub use transitions::{candidate, ended};
 pub use verdict::{Outcome, Verdict};

@@ -11,9 +11,9 @@ ghost use Rattle.enrol_states.specs.Consistent.{IsConsistent, AreKept, ArePendin
 ghost use Rattle.enrol_states.specs.SoundParts.{AreValidIf, HasMoments, HasOptOuts, HasFeatures, HasRecipes, IsRowOf, HasRows, MayBeEnrolled};
 
 use crate::exclusive::is_exclusive;
-use crate::state::{LAST_MOMENT, MAX_OPTED_OUT, MAX_RECIPES, Row, State, id_fits, slug_fits};
+use crate::state::{MAX_OPTED_OUT, MAX_RECIPES, Row, State, id_fits, slug_fits};
 use crate::status::Status;
-use plain_text::{Slug, is_name};
+use plain_text::{LAST_MOMENT, Slug, is_name};
 use recipe_reader::Recipes;
 use sequences::Text;
 use std::alloc::{AllocError, Global};

@@ -14,9 +14,6 @@ use sequences::{SharedList, Text};
 use std::alloc::{AllocError, Global};
 use uuid::Uuid;
 
-/// The last second of the year 9999, since 1970. No moment is above it.
-pub const LAST_MOMENT: u64 = 253_402_300_799;
-
 /// The most slugs that are opted out.
 pub const MAX_OPTED_OUT: usize = 4_096;
 

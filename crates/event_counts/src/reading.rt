@@ -13,14 +13,11 @@ use crate::name_counts::NameCounts;
 use crate::ring::Ring;
 use crate::rows::{TAG, VALUE_LEN};
 use crate::shared_counts::SharedCounts;
-use plain_text::is_name;
+use plain_text::{LAST_MOMENT, is_name};
 use row_batches::StoreRow;
 use sequences::{Sequence, SharedList, Text};
 use std::alloc::{AllocError, Global};
 use std::str;
-
-// The last second of the year 9999.
-const LAST_MOMENT: u64 = 253_402_300_799;
 
 /// The counts that have these rows. `NotCounts` comes exactly where no counts have them.
 pub fn counts_of(alloc: Global, rows: &[StoreRow]) -> Result<Counts, CountsFault>

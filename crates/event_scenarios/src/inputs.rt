@@ -1,10 +1,8 @@
 //! Numbers of a row's text.
 ghost use Rattle.std.specs.Prelude.{◌≤◌, IfOk};
 
+use plain_text::LAST_MOMENT;
 use row_tables::Fault;
-
-// The last second of the year 9999.
-const LAST_MOMENT: u64 = 253_402_300_799;
 
 pub(crate) fn number(text: &str) -> Result<u64, Fault> {
     row_tables::number(text).ok_or(Fault::NoRow)

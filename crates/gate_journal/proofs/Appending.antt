@@ -8,7 +8,7 @@ use Rattle.host_model.specs.Hosts.{IsDurable, KeepsAll, MeetsAll, OnSideOf}
 use Rattle.host_model.specs.Images.{overwritten, Torn, IsAfter}
 use Rattle.host_model.specs.Sides.{other}
 use Rattle.host_model.proofs.Meeting.{then_met, met_weaker, on_side_weaker, on_side_from}
-use Rattle.gate_journal.specs.declared.format.TheConstants.{SIDE_END}
+use Rattle.gate_journal.specs.declared.format.TheConstants.{MAX_SIDE_END}
 use Rattle.gate_journal.specs.Frame.{payload_in}
 use Rattle.gate_journal.specs.Journal.{Stands, StandsWithGate, IsBeforeOrAfter}
 use Rattle.gate_journal.specs.OpenSide.{OpenSide}
@@ -47,7 +47,7 @@ place_of-push payloads next =
     omega (arith, ap length (records-push payloads next), length-append (records payloads) (1 ∷ framed next), length-framed next)
 
 -- an open side with a gate that isn't open
-pub is_kept : (generation : ℕ) (payloads : List (List ℕ)) (gate : ℕ) (rest image : List ℕ) → generation ≤ 2 → place_of payloads < SIDE_END → gate ≢ 1
+pub is_kept : (generation : ℕ) (payloads : List (List ℕ)) (gate : ℕ) (rest image : List ℕ) → generation ≤ 2 → place_of payloads < MAX_SIDE_END → gate ≢ 1
     → image ≡ opened generation payloads ++ gate ∷ rest → IsKept generation payloads image
 is_kept generation payloads gate rest image known fits closed is = record {
   side = record { rest = gate ∷ rest; bytes = is; ended = closed; known = known; fits = fits };
@@ -58,11 +58,11 @@ is_kept generation payloads gate rest image known fits closed is = record {
 abbrev pub IsStaged : ℕ → List (List ℕ) → List ℕ → List ℕ → Type 0
 IsStaged generation payloads next image = Staged (opened generation payloads) (framed next ++ 0 ∷ []) image
 
-module _ (generation : ℕ) (payloads : List (List ℕ)) (next : List ℕ) (place : ℕ) (at_place : place ≡ place_of payloads) (known : generation ≤ 2) (fits : place + length next + 5 < SIDE_END) where
+module _ (generation : ℕ) (payloads : List (List ℕ)) (next : List ℕ) (place : ℕ) (at_place : place ≡ place_of payloads) (known : generation ≤ 2) (fits : place + length next + 5 < MAX_SIDE_END) where
   at_front : length (opened generation payloads) ≡ place
   at_front = length-opened generation payloads ∙ sym at_place
 
-  here : place_of payloads < SIDE_END
+  here : place_of payloads < MAX_SIDE_END
   here = omega arith
 
   -- the first write leaves the payloads as they are, where there is a gate
@@ -103,8 +103,8 @@ module _ (generation : ℕ) (payloads : List (List ℕ)) (next : List ℕ) (plac
       next_kept stage.tail new (is ∙ ap (λ (d : List ℕ). overwritten d place (1 ∷ [])) stage.bytes ∙ written_gate (opened generation payloads) place at_front stage.gate 1 _)
 
 -- what is met up to the end of the first write, and of the second. The journal is seen as its fields, and as now
-module _ {H : Type 0} (h : Ghosts H) (journal now : OpenSide) (seen : journal ≡ now) (start : H) (payloads : List (List ℕ)) (next : List ℕ) (fits_now : now.place + length next + 5 < SIDE_END) (stands_now : StandsWithGate h now start payloads) (n : ℕ) where
-  fits : journal.place + length next + 5 < SIDE_END
+module _ {H : Type 0} (h : Ghosts H) (journal now : OpenSide) (seen : journal ≡ now) (start : H) (payloads : List (List ℕ)) (next : List ℕ) (fits_now : now.place + length next + 5 < MAX_SIDE_END) (stands_now : StandsWithGate h now start payloads) (n : ℕ) where
+  fits : journal.place + length next + 5 < MAX_SIDE_END
   fits = omega (arith, fits_now, ap (λ (j : OpenSide). j.place) seen)
 
   was : StandsWithGate h journal start payloads
@@ -135,7 +135,7 @@ module _ {H : Type 0} (h : Ghosts H) (journal now : OpenSide) (seen : journal �
       (λ c after. kept_either journal.generation payloads next journal.place stands.place stands.side.known fits (h.reads mid side) c stage (subst (λ (d : List ℕ). Torn journal.place 1 d c) (only after.0 after.1) after.2))))
 
 -- and once both are on the disk
-pub appended : {H : Type 0} (h : Ghosts H) (journal now : OpenSide) → journal ≡ now → (start mid new : H) (payloads : List (List ℕ)) (next written : List ℕ) (end : ℕ) → end ≡ now.place + length next + 5 → end < SIDE_END
+pub appended : {H : Type 0} (h : Ghosts H) (journal now : OpenSide) → journal ≡ now → (start mid new : H) (payloads : List (List ℕ)) (next written : List ℕ) (end : ℕ) → end ≡ now.place + length next + 5 → end < MAX_SIDE_END
     → Stands h now start payloads → written ≡ framed next ++ 0 ∷ [] → h.reads mid journal.side ≡ overwritten (h.reads start journal.side) (journal.place + 1) written
     → h.reads new journal.side ≡ overwritten (h.reads mid journal.side) journal.place (1 ∷ []) → IsDurable h new journal.side
     → StandsWithGate h (record { side = journal.side; generation = journal.generation; place = end }) new (payloads ++ next ∷ [])
@@ -143,7 +143,7 @@ appended h journal now seen start mid new payloads next written end end_is fits_
     let stands = subst (λ (j : OpenSide). Stands h j start payloads) (sym seen) stands_now in
     let side = journal.side in
     let same : journal.place ≡ now.place = ap (λ (j : OpenSide). j.place) seen in
-    let fits : journal.place + length next + 5 < SIDE_END = omega (arith, same, end_is, fits_now) in
+    let fits : journal.place + length next + 5 < MAX_SIDE_END = omega (arith, same, end_is, fits_now) in
     let stage = staged journal.generation payloads next journal.place stands.place stands.side.known fits (h.reads start side) written (h.reads mid side) stands.side framed_is is in
     let done = kept_done journal.generation payloads next journal.place stands.place stands.side.known fits (h.reads mid side) (h.reads new side) stage is_new in
     let place : end ≡ place_of (payloads ++ next ∷ []) = omega (arith, end_is, same, stands.place, place_of-push payloads next) in

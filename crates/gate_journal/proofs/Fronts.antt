@@ -2,7 +2,7 @@
 use Rattle.std.proofs.Common.{◌≡◌, ℕ, zero, suc, ◌+◌, ◌-◌, ◌<◌, ◌≤◌, List, [], ◌∷◌, ◌++◌, length, min, take, drop, sym, ◌∙◌, ap, subst, arith, append_assoc, length-append, length-drop, length-take, take-append-drop}
 use Rattle.std.proofs.lemmas.List.{append-nil, drop_all, take_all, take_at, take_min, length-take-le}
 use Rattle.std.proofs.Math.Seq.{take-append-add}
-use Rattle.gate_journal.specs.declared.format.TheConstants.{SIDE_END}
+use Rattle.gate_journal.specs.declared.format.TheConstants.{MAX_SIDE_END}
 use Rattle.gate_journal.specs.Records.{opened, place_of, IsClosed, IsOpen, IsNoJournal}
 use Rattle.gate_journal.proofs.Appending.{length-opened}
 
@@ -57,16 +57,16 @@ read_front limit count len reads items new shown len_is long count_is is shown_i
     shown_is ∙ ap (λ (l : List ℕ). take count l) (whole ∙ is) ∙ take_at (take count reads) (drop count items) count some
     ∙ ap (λ (n : ℕ). take n reads) (omega (arith, count_is, long)) ∙ take_min limit reads
 
-pub no_journal_front : (image : List ℕ) → IsNoJournal image → IsNoJournal (take SIDE_END image)
+pub no_journal_front : (image : List ℕ) → IsNoJournal image → IsNoJournal (take MAX_SIDE_END image)
 no_journal_front image none = record {
-  first = take (SIDE_END - 1) none.first;
-  starts = ap (λ (l : List ℕ). take SIDE_END l) none.starts ∙ take-append-add (1 ∷ []) none.first (SIDE_END - 1);
-  no_journal = λ generation payloads side. none.no_journal generation payloads (open_by_front SIDE_END generation payloads image side.fits side);
+  first = take (MAX_SIDE_END - 1) none.first;
+  starts = ap (λ (l : List ℕ). take MAX_SIDE_END l) none.starts ∙ take-append-add (1 ∷ []) none.first (MAX_SIDE_END - 1);
+  no_journal = λ generation payloads side. none.no_journal generation payloads (open_by_front MAX_SIDE_END generation payloads image side.fits side);
 }
 
-pub no_journal_by_front : (image : List ℕ) → IsNoJournal (take SIDE_END image) → IsNoJournal image
+pub no_journal_by_front : (image : List ℕ) → IsNoJournal (take MAX_SIDE_END image) → IsNoJournal image
 no_journal_by_front image none = record {
-  first = none.first ++ drop SIDE_END image;
-  starts = sym (take-append-drop SIDE_END image) ∙ ap (λ (l : List ℕ). l ++ drop SIDE_END image) none.starts;
-  no_journal = λ generation payloads side. none.no_journal generation payloads (open_front SIDE_END generation payloads image side.fits side);
+  first = none.first ++ drop MAX_SIDE_END image;
+  starts = sym (take-append-drop MAX_SIDE_END image) ∙ ap (λ (l : List ℕ). l ++ drop MAX_SIDE_END image) none.starts;
+  no_journal = λ generation payloads side. none.no_journal generation payloads (open_front MAX_SIDE_END generation payloads image side.fits side);
 }

@@ -9,14 +9,14 @@ use Rattle.host_model.specs.Images.{overwritten, Torn, IsAfter, Follows}
 use Rattle.host_model.specs.Moments.{Elapses}
 use Rattle.host_model.specs.Sides.{other}
 use Rattle.host_model.proofs.Meeting.{started, goes_on, then_met, met_at_start, met_on_side, on_side_from}
-use Rattle.gate_journal.specs.declared.format.TheConstants.{SIDE_END}
+use Rattle.gate_journal.specs.declared.format.TheConstants.{MAX_SIDE_END}
 use Rattle.gate_journal.specs.Journal.{IsShutOn, IsShutOrHas}
 use Rattle.gate_journal.specs.Records.{framed, header, made_on, place_of, IsKept, IsShut}
 use Rattle.gate_journal.proofs.Gates.{torn_gate, written_gate, written_after, shut_after}
 use Rattle.gate_journal.proofs.Appending.{length-framed, is_kept}
 use Rattle.gate_journal.proofs.Writes.{behind_write}
 
-module _ (generation : ℕ) (payload : List ℕ) (known : generation ≤ 2) (fits : length payload + 15 ≤ SIDE_END) where
+module _ (generation : ℕ) (payload : List ℕ) (known : generation ≤ 2) (fits : length payload + 15 ≤ MAX_SIDE_END) where
   -- a whole journal behind a first byte that is not open
   pub record IsMade (image : List ℕ) : Type 0 where
     pub first : ℕ
@@ -41,7 +41,7 @@ module _ (generation : ℕ) (payload : List ℕ) (known : generation ≤ 2) (fit
   -- with its first byte open
   made_kept : (tail image : List ℕ) → image ≡ 1 ∷ (header generation ++ 1 ∷ (framed payload ++ 0 ∷ [] ++ tail)) → IsKept generation (payload ∷ []) image
   made_kept tail image is =
-      let size : place_of (payload ∷ []) < SIDE_END = omega (arith, length-framed payload, length-append (1 ∷ framed payload) []) in
+      let size : place_of (payload ∷ []) < MAX_SIDE_END = omega (arith, length-framed payload, length-append (1 ∷ framed payload) []) in
       is_kept generation (payload ∷ []) 0 tail image known size (omega arith)
       (is ∙ ap (λ (l : List ℕ). 1 ∷ (header generation ++ 1 ∷ l)) (append_assoc (framed payload) (0 ∷ []) tail ∙ ap (λ (l : List ℕ). l ++ 0 ∷ tail) (sym (append-nil (framed payload)))))
 

@@ -3,7 +3,7 @@ use Rattle.std.proofs.Common.{◌≡◌, ℕ, zero, suc, get_or, ◌+◌, ◌-�
 use Rattle.std.proofs.lemmas.List.{append-nil, take_at, take_all, drop_at, length-take-le}
 use Rattle.std.proofs.lemmas.Nat.{from_be_bytes-to_be_bytes_4}
 use Rattle.std.specs.Int.{w32, to_be_bytes, from_be_bytes}
-use Rattle.gate_journal.specs.declared.format.TheConstants.{SIDE_END}
+use Rattle.gate_journal.specs.declared.format.TheConstants.{MAX_SIDE_END}
 use Rattle.gate_journal.specs.Reading.{HasNoRecord, HasNoRecords}
 use Rattle.gate_journal.specs.Records.{framed, records, opened, place_of, IsClosed, HasOneReading}
 use Rattle.gate_journal.proofs.Appending.{length-framed, records-push, place_of-push}
@@ -21,7 +21,7 @@ place_of-cons : (payload : List ℕ) (payloads : List (List ℕ)) → place_of (
 place_of-cons payload payloads = omega (arith, length-append (1 ∷ framed payload) (records payloads), length-framed payload)
 
 -- what place says of each payload
-pub AllFit-place : (payloads : List (List ℕ)) → place_of payloads < SIDE_END → AllFit payloads
+pub AllFit-place : (payloads : List (List ℕ)) → place_of payloads < MAX_SIDE_END → AllFit payloads
 AllFit-place [] fits = tt
 AllFit-place (payload ∷ payloads) fits = (omega (arith, place_of-cons payload payloads), AllFit-place payloads (omega (arith, place_of-cons payload payloads)))
 
@@ -50,7 +50,7 @@ pub record Longer (payloads all : List (List ℕ)) (left rest : List ℕ) : Type
   pub payloads_are : all ≡ payloads ++ more
   pub left_is : left ≡ records more ++ rest
 
-pub records_longer : (payloads all : List (List ℕ)) (left rest : List ℕ) → AllFit payloads → place_of all < SIDE_END → IsClosed rest → records payloads ++ left ≡ records all ++ rest → Longer payloads all left rest
+pub records_longer : (payloads all : List (List ℕ)) (left rest : List ℕ) → AllFit payloads → place_of all < MAX_SIDE_END → IsClosed rest → records payloads ++ left ≡ records all ++ rest → Longer payloads all left rest
 records_longer [] all left rest fit fits closed same = record { more = all; payloads_are = refl; left_is = same }
 records_longer (payload ∷ payloads) [] left rest fit fits closed same = absurd (subst IsClosed (sym same) closed refl)
 records_longer (payload ∷ payloads) (first ∷ all) left rest fit fits closed same =
@@ -83,10 +83,10 @@ not_whole payloads left bytes split fit none all rest fits is closed = by_more l
     by_more : (more : List (List ℕ)) → all ≡ payloads ++ more → 1 ∷ left ≡ records more ++ rest → ⊥
     by_more [] are left_is = subst IsClosed (sym left_is) closed refl
     by_more (payload ∷ more) are left_is =
-        let small : length payload < 2 ^ 32 = in_sum payloads (subst (λ (l : List (List ℕ)). place_of l < SIDE_END) are fits) in
+        let small : length payload < 2 ^ 32 = in_sum payloads (subst (λ (l : List (List ℕ)). place_of l < MAX_SIDE_END) are fits) in
         none payload (records more ++ rest) small (ap (λ (l : List ℕ). drop 1 l) left_is ∙ append_assoc (framed payload) (records more) rest)
       where
-        in_sum : (before : List (List ℕ)) → place_of (before ++ payload ∷ more) < SIDE_END → length payload < 2 ^ 32
+        in_sum : (before : List (List ℕ)) → place_of (before ++ payload ∷ more) < MAX_SIDE_END → length payload < 2 ^ 32
         in_sum [] sum = omega (arith, place_of-cons payload more)
         in_sum (b ∷ before) sum = in_sum before (omega (arith, place_of-cons b (before ++ payload ∷ more)))
 
@@ -119,7 +119,7 @@ place_of-front (payload ∷ payloads) more = omega (arith, place_of-cons payload
 
 -- a record that ends too late
 pub too_late : (payloads : List (List ℕ)) (next left behind bytes : List ℕ) → bytes ≡ records payloads ++ left → left ≡ 1 ∷ (framed next ++ behind) → AllFit payloads → length next < 2 ^ 32
-    → SIDE_END ≤ place_of payloads + length next + 5 → HasNoRecords bytes
+    → MAX_SIDE_END ≤ place_of payloads + length next + 5 → HasNoRecords bytes
 too_late payloads next left behind bytes split next_is fit next_fits late all rest fits is closed =
     absurd (omega (arith, fits, late, place_of-push payloads next, place_of-front (payloads ++ next ∷ []) longer.more, ap place_of longer.payloads_are))
   where
@@ -151,7 +151,7 @@ four_fit a b c d fa fb fc fd (suc (suc zero)) = fc
 four_fit a b c d fa fb fc fd (suc (suc (suc zero))) = fd
 four_fit a b c d fa fb fc fd (suc (suc (suc (suc i)))) = omega arith
 
-same_records : (payloads others : List (List ℕ)) (left rest : List ℕ) → place_of payloads < SIDE_END → place_of others < SIDE_END → IsClosed left → IsClosed rest → records payloads ++ left ≡ records others ++ rest → payloads ≡ others
+same_records : (payloads others : List (List ℕ)) (left rest : List ℕ) → place_of payloads < MAX_SIDE_END → place_of others < MAX_SIDE_END → IsClosed left → IsClosed rest → records payloads ++ left ≡ records others ++ rest → payloads ≡ others
 same_records payloads others left rest fits other_fits closed_left closed same = by_more longer.more longer.payloads_are longer.left_is
   where
     longer : Longer payloads others left rest

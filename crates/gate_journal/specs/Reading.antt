@@ -1,6 +1,6 @@
 -- What the parts of a reader find.
 use Rattle.std.specs.Prelude.{◌≡◌, ◌<◌, ◌≤◌, ◌^◌, ℕ, List, ◌∷◌, ◌++◌, length}
-use Rattle.gate_journal.specs.declared.format.TheConstants.{SIDE_END}
+use Rattle.gate_journal.specs.declared.format.TheConstants.{MAX_SIDE_END}
 use Rattle.gate_journal.specs.declared.reading.Next.{Next}
 use Rattle.gate_journal.specs.declared.reading.Next.TheVariants.{End, Cut, Record}
 use Rattle.gate_journal.specs.Records.{framed, records, header, place_of, IsClosed}
@@ -26,8 +26,8 @@ pub record HasRecords (payloads : List (List ℕ)) (bytes : List ℕ) : Type 0 w
   pub rest : List ℕ
   pub split : bytes ≡ records payloads ++ rest
   pub ended : IsClosed rest
-  pub fits : place_of payloads < SIDE_END
+  pub fits : place_of payloads < MAX_SIDE_END
 
 -- and no payloads
 abbrev pub HasNoRecords : List ℕ → Type 0
-HasNoRecords bytes = (payloads : List (List ℕ)) (rest : List ℕ) → place_of payloads < SIDE_END → bytes ≡ records payloads ++ rest → IsClosed rest → ⊥
+HasNoRecords bytes = (payloads : List (List ℕ)) (rest : List ℕ) → place_of payloads < MAX_SIDE_END → bytes ≡ records payloads ++ rest → IsClosed rest → ⊥

@@ -1,7 +1,7 @@
 -- The bytes of a side: a first byte, a header, and records behind gates.
 use Rattle.std.specs.Prelude.{◌≡◌, ◌≢◌, ◌<◌, ◌≤◌, ℕ, ◌+◌, List, [], ◌∷◌, ◌++◌, length, drop}
 use Rattle.std.specs.Int.{w32, to_be_bytes}
-use Rattle.gate_journal.specs.declared.format.TheConstants.{SIDE_END}
+use Rattle.gate_journal.specs.declared.format.TheConstants.{MAX_SIDE_END}
 
 -- a payload behind its length in four bytes
 unfoldable pub framed : List ℕ → List ℕ
@@ -53,7 +53,7 @@ pub record IsOpen (generation : ℕ) (payloads : List (List ℕ)) (image : List 
   pub bytes : image ≡ opened generation payloads ++ rest
   pub ended : IsClosed rest
   pub known : generation ≤ 2
-  pub fits : place_of payloads < SIDE_END
+  pub fits : place_of payloads < MAX_SIDE_END
 
 -- and it has a byte at that gate
 pub record IsKept (generation : ℕ) (payloads : List (List ℕ)) (image : List ℕ) : Type 0 where

@@ -8,7 +8,7 @@ pub(crate) const OPEN: u8 = 1;
 pub(crate) const CLOSED: u8 = 0;
 
 /// Where a side's records end at most, with the gate behind them.
-pub const SIDE_END: u64 = 67_108_864;
+pub const MAX_SIDE_END: u64 = 67_108_864;
 
 /// Where the first gate is: behind the first byte, `NIMBUS1` and the generation.
 pub(crate) const FIRST_GATE: u64 = 9;

@@ -10,7 +10,7 @@ ghost use Rattle.gate_journal.specs.Opening.{OpensInPhases};
 ghost use Rattle.gate_journal.specs.Records.{made_on, recorded, place_of, IsClosed, IsOpen, IsNoJournal};
 
 use crate::faults::{AppendFault, OpenFault};
-use crate::format::{CLOSED, FIRST_GATE, OPEN, SIDE_END};
+use crate::format::{CLOSED, FIRST_GATE, MAX_SIDE_END, OPEN};
 use crate::frame::Frame;
 use crate::reading::{is_open, read_header, read_records, read_side, without_header};
 use crate::writing::write_synced;
@@ -33,13 +33,13 @@ pub struct Journal {
 impl Model for Journal {
     ghost use Rattle.std.specs.Prelude.{◌<◌, ◌≤◌};
     ghost use Rattle.gate_journal.specs.OpenSide.{OpenSide};
-    ghost use Rattle.gate_journal.specs.declared.format.TheConstants.{SIDE_END};
+    ghost use Rattle.gate_journal.specs.declared.format.TheConstants.{MAX_SIDE_END};
 
     ghost Value = { OpenSide };
 
     ghost view = { λ j. record { side = j.side; generation = j.generation; place = j.place } };
 
-    ghost invariant = { λ j. (j.generation ≤ 2) × (j.place < SIDE_END) };
+    ghost invariant = { λ j. (j.generation ≤ 2) × (j.place < MAX_SIDE_END) };
 }
 
 impl Journal {
@@ -68,7 +68,7 @@ impl Journal {
         first: &Frame,
     ) -> Result<Journal, DiskFailed>
         requires known { generation ≤ 2 }
-        requires fits { length first.now + 15 ≤ SIDE_END }
+        requires fits { length first.now + 15 ≤ MAX_SIDE_END }
         requires shut { H.tells → IsShutOn H.Host host.old side }
 
         ensures made { H.tells → IfOk result (λ journal. StandsWithGate H.Host journal host.new (first.now ∷ [])) }
@@ -184,7 +184,7 @@ impl Journal {
 
         ensures place { OnOk result (self.new ≡ record self.old { place = self.old.place + length next.now + 5 }) }
         ensures same { OnErr result (self.new ≡ self.old) }
-        ensures full { IsErrOf result AppendFault.SideFull ↔ (SIDE_END < self.old.place + length next.now + 6) }
+        ensures full { IsErrOf result AppendFault.SideFull ↔ (MAX_SIDE_END < self.old.place + length next.now + 6) }
         ensures full_same { IsErrOf result AppendFault.SideFull → host.new ≡ host.old }
 
         ensures cost { H.tells → HasCost (length next.now + 6) (H.written host.old) (H.written host.new) result }
@@ -194,7 +194,7 @@ impl Journal {
         ensures say_faults { H.say_faults host.new ≡ H.say_faults host.old }
     {
         let end = self.end_after(next);
-        if end > SIDE_END {
+        if end > MAX_SIDE_END {
             return Err(AppendFault::SideFull);
         }
         let gate = self.place;

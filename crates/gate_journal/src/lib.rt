@@ -14,7 +14,7 @@ mod reading;
 mod writing;
 
 pub use faults::{AppendFault, OpenFault};
-pub use format::SIDE_END;
+pub use format::MAX_SIDE_END;
 pub use frame::{Frame, FrameFault, MAX_PAYLOAD};
 pub use journal::Journal;
 pub use laws::one_reading;

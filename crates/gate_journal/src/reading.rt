@@ -6,7 +6,7 @@ ghost use Rattle.host_model.specs.Causes.{HasCause, Rose};
 ghost use Rattle.host_model.specs.Hosts.{MeetsAll, NowOf, StillAll};
 
 use crate::faults::OpenFault;
-use crate::format::{CLOSED, FIRST_GATE, OPEN, SIDE_END};
+use crate::format::{CLOSED, FIRST_GATE, MAX_SIDE_END, OPEN};
 use host_model::{DiskFailed, Host, Side};
 use sequences::Sequence;
 use std::alloc::{AllocError, Global};
@@ -87,7 +87,7 @@ pub(crate) fn read_records(
                 rest: behind,
             } => {
                 let end = place + payload.len() as u64 + 5;
-                if end >= SIDE_END {
+                if end >= MAX_SIDE_END {
                     return Ok(None);
                 }
                 let copy = Sequence::from_vec(payload.to_vec(alloc)?);
@@ -135,8 +135,8 @@ pub(crate) fn read_side<H: Host>(
     host: &mut H,
     side: Side,
 ) -> Result<Vec<u8>, OpenFault>
-    ensures bytes { H.tells → IfOk result (λ bytes. bytes.items ≡ take SIDE_END (H.reads host.old side)) }
-    ensures most { IfOk result (λ bytes. length bytes.items ≤ SIDE_END) }
+    ensures bytes { H.tells → IfOk result (λ bytes. bytes.items ≡ take MAX_SIDE_END (H.reads host.old side)) }
+    ensures most { IfOk result (λ bytes. length bytes.items ≤ MAX_SIDE_END) }
     ensures still { H.tells → StillAll H.Host host.old host.new }
     ensures any_moment { H.tells → MeetsAll H.Host host.old host.new (NowOf H.Host host.old) }
     ensures cause { IsErrOf result OpenFault.DiskFault → Rose (H.disk_faults host.old) (H.disk_faults host.new) }
@@ -145,7 +145,7 @@ pub(crate) fn read_side<H: Host>(
     ensures say_faults { H.say_faults host.new ≡ H.say_faults host.old }
     ensures no_other { (IsErrOf result OpenFault.Closed → ⊥) × (IsErrOf result OpenFault.NotAJournal → ⊥) }
 {
-    let len = host.len(side)?.min(SIDE_END);
+    let len = host.len(side)?.min(MAX_SIDE_END);
     let mut bytes = vec![in alloc; 0; len as usize]?;
     let count = host.read(side, 0, &mut bytes)?;
     bytes.truncate(count);

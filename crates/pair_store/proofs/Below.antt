@@ -9,7 +9,7 @@ use Rattle.host_model.specs.Images.{Torn, IsAfter}
 use Rattle.host_model.specs.Sides.{other, on}
 use Rattle.host_model.proofs.Meeting.{then_met, met_weaker}
 use Rattle.gate_journal.specs.Journal.{SameButFirst}
-use Rattle.pair_store.specs.declared.mark.TheConstants.{MARK}
+use Rattle.pair_store.specs.declared.mark.TheConstants.{MAX_RECORD_END}
 use Rattle.pair_store.specs.Moments.{SameBehind, StaysBelow}
 use Rattle.pair_store.specs.Repair.{MayBeShut}
 use Rattle.pair_store.proofs.Beside.{both_sides}
@@ -24,13 +24,13 @@ drop_later place mark old new within same =
 module _ {H : Type 0} (h : Ghosts H) (start : H) where
   -- what is on the disk now
   pub now_below : (l r u : List ℕ) → NowOf h start l r u → StaysBelow h start l r u
-  now_below l r u now = (both_sides (λ s. SameBehind MARK (h.images start s) (on s l r)) Left (l, now.0, refl) (r, now.1, refl), now.2)
+  now_below l r u now = (both_sides (λ s. SameBehind MAX_RECORD_END (h.images start s) (on s l r)) Left (l, now.0, refl) (r, now.1, refl), now.2)
 
   -- a write on one side that ends at the mark at most
-  pub range_below : (side : Side) (at n : ℕ) → at + n ≤ MARK → (l r u : List ℕ) → OnSideOf h start side (IsAfter (Torn at n) (h.images start side)) l r u → StaysBelow h start l r u
+  pub range_below : (side : Side) (at n : ℕ) → at + n ≤ MAX_RECORD_END → (l r u : List ℕ) → OnSideOf h start side (IsAfter (Torn at n) (h.images start side)) l r u → StaysBelow h start l r u
   range_below side at n within l r u met = (
-    both_sides (λ s. SameBehind MARK (h.images start s) (on s l r)) side
-        (met.0.0, met.0.1, drop_later (at + n) MARK met.0.0 (on side l r) within met.0.2.after) (on (other side) l r, met.1, refl),
+    both_sides (λ s. SameBehind MAX_RECORD_END (h.images start s) (on s l r)) side
+        (met.0.0, met.0.1, drop_later (at + n) MAX_RECORD_END met.0.0 (on side l r) within met.0.2.after) (on (other side) l r, met.1, refl),
     met.2,
   )
 
@@ -38,23 +38,23 @@ module _ {H : Type 0} (h : Ghosts H) (start : H) where
   pub first_below : (side : Side) (l r u : List ℕ) → OnSideOf h start side (SameButFirst (h.images start side)) l r u → StaysBelow h start l r u
   first_below side l r u met =
       let old = met.0.0 in
-      let same : drop MARK (on side l r) ≡ drop MARK old = elim met.0.2 [
-        | inl is ↦ ap (λ (c : List ℕ). drop MARK c) is
-        | inr first ↦ ap (λ (c : List ℕ). drop MARK c) first.1 ∙ drop_later 1 MARK old (first.0 ∷ drop 1 old) (omega arith) refl
+      let same : drop MAX_RECORD_END (on side l r) ≡ drop MAX_RECORD_END old = elim met.0.2 [
+        | inl is ↦ ap (λ (c : List ℕ). drop MAX_RECORD_END c) is
+        | inr first ↦ ap (λ (c : List ℕ). drop MAX_RECORD_END c) first.1 ∙ drop_later 1 MAX_RECORD_END old (first.0 ∷ drop 1 old) (omega arith) refl
       ] in (
-        both_sides (λ s. SameBehind MARK (h.images start s) (on s l r)) side (old, met.0.1, same) (on (other side) l r, met.1, refl),
+        both_sides (λ s. SameBehind MAX_RECORD_END (h.images start s) (on s l r)) side (old, met.0.1, same) (on (other side) l r, met.1, refl),
         met.2,
       )
 
   pub shut_below : (is_open : Bool) (side : Side) (l r u : List ℕ) → OnSideOf h start side (MayBeShut is_open (h.images start side)) l r u → StaysBelow h start l r u
   shut_below true side l r u met = first_below side l r u met
   shut_below false side l r u met = (
-    both_sides (λ s. SameBehind MARK (h.images start s) (on s l r)) side (on side l r, met.0, refl) (on (other side) l r, met.1, refl),
+    both_sides (λ s. SameBehind MAX_RECORD_END (h.images start s) (on s l r)) side (on side l r, met.0, refl) (on (other side) l r, met.1, refl),
     met.2,
   )
 
   -- and each of them as a run
-  pub range_met : (new : H) (side : Side) (at n : ℕ) → at + n ≤ MARK → MeetsAll h start new (OnSideOf h start side (IsAfter (Torn at n) (h.images start side))) → MeetsAll h start new (StaysBelow h start)
+  pub range_met : (new : H) (side : Side) (at n : ℕ) → at + n ≤ MAX_RECORD_END → MeetsAll h start new (OnSideOf h start side (IsAfter (Torn at n) (h.images start side))) → MeetsAll h start new (StaysBelow h start)
   range_met new side at n within run = met_weaker h.moment h.might start new _ _ run (range_below side at n within)
 
   pub first_met : (new : H) (side : Side) → MeetsAll h start new (OnSideOf h start side (SameButFirst (h.images start side))) → MeetsAll h start new (StaysBelow h start)
@@ -75,7 +75,7 @@ module _ {H : Type 0} (h : Ghosts H) (start : H) where
     text_at_mid : h.said mid ≡ h.said start
     text_at_mid = (at_mid (h.reads mid Left) (h.reads mid Right) (image Left) (image Right)).1
 
-    side_at_mid : (s : Side) (c : List ℕ) → h.images mid s c → SameBehind MARK (h.images start s) c
+    side_at_mid : (s : Side) (c : List ℕ) → h.images mid s c → SameBehind MAX_RECORD_END (h.images start s) c
     side_at_mid Left c left = (at_mid c (h.reads mid Right) left (image Right)).0 Left
     side_at_mid Right c right = (at_mid (h.reads mid Left) c (image Left) right).0 Right
 

@@ -10,7 +10,7 @@ use Rattle.gate_journal.specs.Journal.{IsShutOrHas, SameButFirst}
 use Rattle.gate_journal.specs.Opening.{HasSameImages, IsSettledOn, IsUnsynced, SyncsAndReads}
 use Rattle.pair_store.specs.declared.faults.PairFault.{PairFault}
 use Rattle.pair_store.specs.declared.faults.PairFault.TheVariants.{DiskFault}
-use Rattle.pair_store.specs.declared.mark.TheConstants.{MARK}
+use Rattle.pair_store.specs.declared.mark.TheConstants.{MAX_RECORD_END}
 use Rattle.pair_store.specs.Pair.{HasList, HasKeptList}
 use Rattle.pair_store.specs.Repair.{IsRepaired, IsUnwritten}
 
@@ -28,7 +28,7 @@ SameBehind place images image = (old : List ℕ) × images old × (drop place im
 
 -- no byte at or past the mark is written
 abbrev pub StaysBelow : {H : Type 0} → Ghosts H → H → List ℕ → List ℕ → List ℕ → Type 0
-StaysBelow h start l r u = ((side : Side) → SameBehind MARK (h.images start side) (on side l r)) × (u ≡ h.said start)
+StaysBelow h start l r u = ((side : Side) → SameBehind MAX_RECORD_END (h.images start side) (on side l r)) × (u ≡ h.said start)
 
 -- the images of the start, or those that a repair leaves of what reads gave
 abbrev pub IsOpening : {H : Type 0} → Ghosts H → H → List ℕ → List ℕ → List ℕ → Type 0

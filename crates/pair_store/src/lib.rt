@@ -17,5 +17,5 @@ mod store;
 
 pub use faults::PairFault;
 pub use laws::one_list;
-pub use mark::{MARK, MAX_WHOLE};
+pub use mark::{MAX_RECORD_END, MAX_WHOLE};
 pub use store::PairStore;

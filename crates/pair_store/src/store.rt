@@ -12,7 +12,7 @@ ghost use Rattle.pair_store.specs.Store.{PairStands, PairStandsWithGate, IsAppen
 
 use crate::choice::chosen;
 use crate::faults::PairFault;
-use crate::mark::{MARK, MAX_WHOLE};
+use crate::mark::{MAX_RECORD_END, MAX_WHOLE};
 use crate::reading::found_both;
 use crate::records::Records;
 use crate::repair::shut_side;
@@ -148,14 +148,14 @@ impl PairStore {
     /// Whether the next record would end, with the gate behind it, past byte 33,554,432. Then the next change is a
     /// checkpoint.
     pub fn wants_checkpoint(&self, next: &Frame) -> bool
-        ensures { IsTrue result ↔ (MARK < self.now.place + length next.now + 6) }
+        ensures { IsTrue result ↔ (MAX_RECORD_END < self.now.place + length next.now + 6) }
     {
-        self.journal.end_after(next) > MARK
+        self.journal.end_after(next) > MAX_RECORD_END
     }
 
     /// Adds a payload. At `Ok` each image has it.
     pub fn append<H: Host>(&mut self, host: &mut H, next: &Frame) -> Result<(), DiskFailed>
-        requires room { self.old.place + length next.now + 6 ≤ MARK }
+        requires room { self.old.place + length next.now + 6 ≤ MAX_RECORD_END }
         requires stands { H.tells → (payloads : List (List ℕ)) × PairStands H.Host self.old host.old payloads }
 
         ensures acknowledged { H.tells → (payloads : List (List ℕ)) → PairStands H.Host self.old host.old payloads

@@ -9,7 +9,7 @@ mod slug;
 mod spans;
 
 pub use laws::{moments_read_back, written_moment_reads_back};
-pub use moments::read_moment;
+pub use moments::{LAST_MOMENT, read_moment};
 pub use names::is_name;
 pub use numbers::read_number;
 pub use slug::{Slug, SlugFault, slug_of};

@@ -24,7 +24,7 @@ use Rattle.host_model.specs.Sides.{other}
 use Rattle.host_model.proofs.Meeting.{met_weaker}
 use Rattle.pair_store.specs.declared.faults.PairFault.{PairFault}
 use Rattle.pair_store.specs.declared.faults.PairFault.TheVariants.{NoStore, BadStore, DiskFault, OutOfMemory}
-use Rattle.pair_store.specs.declared.mark.TheConstants.{MARK, MAX_WHOLE}
+use Rattle.pair_store.specs.declared.mark.TheConstants.{MAX_RECORD_END, MAX_WHOLE}
 use Rattle.pair_store.specs.Moments.{KeepsEither, OpensInPhases}
 use Rattle.pair_store.specs.Pair.{HasList}
 use Rattle.pair_store.specs.Store.{HasFailed, PairStandsWithGate}
@@ -76,9 +76,9 @@ pub whole_fits : (is_whole : Bool) (store : StoredRows) (batch : ChangeList) (pa
 whole_fits true store batch payload written fits is = subst (λ (p : List ℕ). length p ≤ MAX_WHOLE) (sym written.0) fits
 whole_fits false store batch payload written fits is = absurd cc
 
-pub record_fits : (is_whole : Bool) (store : StoredRows) (batch : ChangeList) (payload : List ℕ) → IsWritten is_whole store batch payload → is_whole ≡ false → place store + length payload + 6 ≤ MARK
+pub record_fits : (is_whole : Bool) (store : StoredRows) (batch : ChangeList) (payload : List ℕ) → IsWritten is_whole store batch payload → is_whole ≡ false → place store + length payload + 6 ≤ MAX_RECORD_END
 record_fits true store batch payload written is = absurd cc
-record_fits false store batch payload written is = subst (λ (p : List ℕ). place store + length p + 6 ≤ MARK) (sym written.0) written.1
+record_fits false store batch payload written is = subst (λ (p : List ℕ). place store + length p + 6 ≤ MAX_RECORD_END) (sym written.0) written.1
 
 -- the pair's moments, seen as rows
 pub either_rows : {H : Type 0} (h : Ghosts H) (start new : H) (payloads after : List (List ℕ)) (before_rows after_rows : List StoreRow) → Fold payloads [] before_rows → Fold after [] after_rows

@@ -2,7 +2,7 @@
 use Rattle.std.specs.Prelude.{◌≡◌, ◌<◌, ◌≤◌, ◌+◌, ℕ, Bool, true, false, List, [], ◌∷◌, ◌++◌, length, if◌then◌else◌}
 use Rattle.gate_journal.specs.OpenSide.{OpenSide}
 use Rattle.host_model.specs.declared.host.Host.{Ghosts}
-use Rattle.pair_store.specs.declared.mark.TheConstants.{MARK, MAX_WHOLE}
+use Rattle.pair_store.specs.declared.mark.TheConstants.{MAX_RECORD_END, MAX_WHOLE}
 use Rattle.pair_store.specs.Store.{IsAppended, IsTurned}
 use Rattle.row_batches.specs.Batch.{ChangeList, IsBatch, applied, batch_text, whole_of}
 use Rattle.row_store.specs.Store.{StoredRows, place}
@@ -15,12 +15,12 @@ pub record ReadyRows : Type 0 where
 
 -- a record of the batch would end, with the gate behind it, past the mark
 abbrev pub PassesMark : StoredRows → ChangeList → Type 0
-PassesMark store batch = MARK < place store + length (batch_text batch) + 6
+PassesMark store batch = MAX_RECORD_END < place store + length (batch_text batch) + 6
 
 -- what is written: the whole map after the batch exactly where the record would pass the mark
 abbrev pub IsWritten : Bool → StoredRows → ChangeList → List ℕ → Type 0
 IsWritten true store batch payload = (payload ≡ batch_text (whole_of (applied batch store.rows))) × PassesMark store batch
-IsWritten false store batch payload = (payload ≡ batch_text batch) × (place store + length (batch_text batch) + 6 ≤ MARK)
+IsWritten false store batch payload = (payload ≡ batch_text batch) × (place store + length (batch_text batch) + 6 ≤ MAX_RECORD_END)
 
 -- a store has the room for it, and the rows and the place for which it was made
 pub record IsReadyFor (store : StoredRows) (ready : ReadyRows) : Type 0 where

@@ -3,7 +3,7 @@ ghost use Rattle.std.specs.Prelude.{◌≡◌, ◌≤◌, ◌+◌, ℕ, List, if
 ghost use Rattle.gate_journal.specs.Costs.{HasCost};
 ghost use Rattle.host_model.specs.Causes.{HasCause};
 ghost use Rattle.host_model.specs.Hosts.{MeetsAll};
-ghost use Rattle.pair_store.specs.declared.mark.TheConstants.{MARK, MAX_WHOLE};
+ghost use Rattle.pair_store.specs.declared.mark.TheConstants.{MAX_RECORD_END, MAX_WHOLE};
 ghost use Rattle.pair_store.specs.Moments.{KeepsEither, StaysBelow};
 ghost use Rattle.pair_store.specs.Store.{PairStands, PairStandsWithGate};
 ghost use Rattle.row_store.specs.Ready.{payloads_after, IsCommitted};
@@ -20,7 +20,7 @@ pub(crate) fn write_payload<H: Host>(
     is_whole: bool,
 ) -> Result<(), DiskFailed>
     requires whole { IsTrue is_whole → length frame.now ≤ MAX_WHOLE }
-    requires record { is_whole ≡ false → pair.old.place + length frame.now + 6 ≤ MARK }
+    requires record { is_whole ≡ false → pair.old.place + length frame.now + 6 ≤ MAX_RECORD_END }
     requires stands { H.tells → (payloads : List (List ℕ)) × PairStands H.Host pair.old host.old payloads }
     ensures acknowledged { H.tells → (payloads : List (List ℕ)) → PairStands H.Host pair.old host.old payloads
         → OnOk result (PairStandsWithGate H.Host pair.new host.new (payloads_after is_whole payloads frame.now)) }

@@ -7,7 +7,7 @@ use Rattle.host_model.specs.Hosts.{MeetsAll, NowOf}
 use Rattle.host_model.specs.Moments.{IsSaying, Elapses, KeepsSide}
 use Rattle.host_model.specs.Sides.{on}
 use Rattle.host_model.proofs.Meeting.{started, goes_on, then_met, met_weaker}
-use Rattle.pair_store.specs.declared.mark.TheConstants.{MARK}
+use Rattle.pair_store.specs.declared.mark.TheConstants.{MAX_RECORD_END}
 use Rattle.pair_store.specs.Moments.{IsOpening, SameBehind, StaysBelow}
 use Rattle.session_run.specs.Writes.{IsBelowMark, WritesNoMore}
 
@@ -19,11 +19,11 @@ met_now h old new P run counts tells l r left right = run.each l r (h.said new) 
 module _ {H : Type 0} (h : Ghosts H) (old mid new : H) where
   -- of what is so at mid, each image is one of the start behind the mark
   module _ (left : h.images mid Left (h.reads mid Left)) (right : h.images mid Right (h.reads mid Right)) (now_below : (l r : List ℕ) → h.images mid Left l → h.images mid Right r → IsBelowMark h old l r (h.said mid)) where
-    each_below : (side : Side) (c : List ℕ) → h.images mid side c → SameBehind MARK (h.images old side) c
+    each_below : (side : Side) (c : List ℕ) → h.images mid side c → SameBehind MAX_RECORD_END (h.images old side) c
     each_below Left c image = now_below c (h.reads mid Right) image right Left
     each_below Right c image = now_below (h.reads mid Left) c left image Right
 
-    chained : (side : Side) (c : List ℕ) → SameBehind MARK (h.images mid side) c → SameBehind MARK (h.images old side) c
+    chained : (side : Side) (c : List ℕ) → SameBehind MAX_RECORD_END (h.images mid side) c → SameBehind MAX_RECORD_END (h.images old side) c
     chained side c (before, image, same) = let first = each_below side before image in (first.0, first.1, same ∙ first.2)
 
   -- one call after the other
@@ -33,7 +33,7 @@ module _ {H : Type 0} (h : Ghosts H) (old mid new : H) where
       then_met h.moment h.might old mid new (IsBelowMark h old) (IsBelowMark h mid) (IsBelowMark h old) first second (λ l r u met. met)
       (λ l r u met side. below_on side l r (met side))
     where
-      below_on : (side : Side) (l r : List ℕ) → SameBehind MARK (h.images mid side) (on side l r) → SameBehind MARK (h.images old side) (on side l r)
+      below_on : (side : Side) (l r : List ℕ) → SameBehind MAX_RECORD_END (h.images mid side) (on side l r) → SameBehind MAX_RECORD_END (h.images old side) (on side l r)
       below_on side l r met = chained left right now_below side (on side l r) met
 
 module _ {H : Type 0} (h : Ghosts H) (old new : H) where
@@ -41,10 +41,10 @@ module _ {H : Type 0} (h : Ghosts H) (old new : H) where
   pub below_of : MeetsAll h old new (StaysBelow h old) → MeetsAll h old new (IsBelowMark h old)
   below_of run = met_weaker h.moment h.might old new _ (IsBelowMark h old) run (λ l r u met. met.0)
 
-  same_there : (side : Side) (c : List ℕ) → h.images old side c → SameBehind MARK (h.images old side) c
+  same_there : (side : Side) (c : List ℕ) → h.images old side c → SameBehind MAX_RECORD_END (h.images old side) c
   same_there side c image = (c, image, refl)
 
-  pub at_each : (l r : List ℕ) → h.images old Left l → h.images old Right r → (side : Side) → SameBehind MARK (h.images old side) (on side l r)
+  pub at_each : (l r : List ℕ) → h.images old Left l → h.images old Right r → (side : Side) → SameBehind MAX_RECORD_END (h.images old side) (on side l r)
   at_each l r left right Left = same_there Left l left
   at_each l r left right Right = same_there Right r right
 

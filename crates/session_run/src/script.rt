@@ -7,7 +7,7 @@ use host_model::{Source, SourceFailed};
 use std::alloc::Global;
 
 /// The most bytes of a script.
-const SCRIPT_LIMIT: usize = 1_048_576;
+const MAX_SCRIPT_LEN: usize = 1_048_576;
 
 /// How many bytes are asked for at once, at most.
 const PIECE: usize = 4096;
@@ -48,7 +48,7 @@ pub(crate) fn read_script<S: Source>(alloc: Global, source: &mut S) -> Result<Ve
     let mut script = Vec::new(alloc);
     let mut piece = [0u8; PIECE];
     loop {
-        let room = SCRIPT_LIMIT - script.len();
+        let room = MAX_SCRIPT_LEN - script.len();
         let bytes = match read_piece(source, &mut piece[..PIECE.min(room + 1)]) {
             Ok(bytes) => bytes,
             Err(_) => return Err(ScriptFault::SourceFault),

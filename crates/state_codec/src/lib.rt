@@ -23,7 +23,7 @@ pub use old_form::{migration, needs_migration};
 pub use reading::read_state;
 pub use recipe_lists::RecipeLists;
 pub use row_batches::StoreRow;
-pub use row_reading::{state_of, state_of_parts};
+pub use row_reading::{MAX_STATE_BYTES, state_of, state_of_parts};
 pub use rows::{first_rows_of, later_rows_of, rows_of};
 pub use size::{StateSizes, sizes_after, sizes_of, state_size};
 pub use state_values::CodecFault;

@@ -4,7 +4,7 @@ ghost use Rattle.enrol_states.specs.declared.state.State.{State};
 ghost use Rattle.state_codec.specs.Forms.{IsSpelled, MakesForm};
 ghost use Rattle.state_codec.specs.Sound.{IsSound};
 
-use crate::row_reading::{MAX_SIZE, state_of};
+use crate::row_reading::{MAX_STATE_BYTES, state_of};
 use enrol_states::State;
 use row_batches::{Batch, BatchFault, RowMap, batch_of};
 use state_values::CodecFault;
@@ -15,7 +15,7 @@ pub fn read_state(alloc: Global, bytes: &[u8]) -> Result<State, CodecFault>
     ensures state { IfOk result (λ s. IsSound s × IsSpelled s bytes.now) }
     ensures not_a_state { IsErrOf result CodecFault.NotAState → (s : State) → IsSound s → IsSpelled s bytes.now → ⊥ }
 {
-    if bytes.len() > MAX_SIZE {
+    if bytes.len() > MAX_STATE_BYTES {
         return Err(CodecFault::NotAState);
     }
     match batch_of(alloc, bytes) {

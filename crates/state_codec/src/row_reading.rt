@@ -19,7 +19,7 @@ use state_values::CodecFault;
 use std::alloc::{AllocError, Global};
 
 /// The most bytes that a state is spelled in.
-pub(crate) const MAX_SIZE: usize = 16_777_216;
+pub const MAX_STATE_BYTES: usize = 16_777_216;
 
 /// The sound state that has exactly these rows, in this order, or of which they are the old form. `NotAState` comes exactly
 /// where there is none.
@@ -82,7 +82,7 @@ fn has_rows(
     if !is_consistent(alloc, state)? {
         return Ok(false);
     }
-    if state_size(state) > MAX_SIZE as u128 {
+    if state_size(state) > MAX_STATE_BYTES as u128 {
         return Ok(false);
     }
     are_parts(alloc, state, first, later)

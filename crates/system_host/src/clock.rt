@@ -2,11 +2,9 @@
 ghost use Rattle.std.specs.Prelude.{◌≡◌, ◌≤◌, ◌/◌, min, IfOk, OnErr};
 ghost use Rattle.std.specs.Time.{system_time_nanos};
 
+use plain_text::LAST_MOMENT;
 use std::io;
 use std::time::{SystemTime, UNIX_EPOCH};
-
-/// The last second of the year 9999, in seconds since 1970.
-const LAST_MOMENT: u64 = 253_402_300_799;
 
 /// The whole seconds since 1970 that the clock reads, at most those of the last second of the year 9999. They are 0
 /// where the clock can't be read, as before 1970.

@@ -10,12 +10,11 @@ use app_context::{
     shared_attributes,
 };
 use enrol_states::{
-    DisqualifiedReason, EnrolledReason, ErrorCause, LAST_MOMENT, NotEnrolledReason, Row, State,
-    Status,
+    DisqualifiedReason, EnrolledReason, ErrorCause, NotEnrolledReason, Row, State, Status,
 };
 use jexl_value::{Attributes, Value};
 use json_tree::{Tree, read};
-use plain_text::{Slug, read_number, slug_of};
+use plain_text::{LAST_MOMENT, Slug, read_number, slug_of};
 use row_tables::{displayed, halves, word};
 use sequences::{SharedList, Text};
 use std::alloc::{AllocError, Global};

@@ -9,8 +9,8 @@ use Rattle.state_codec.proofs.Forms.{form_rule, spelled_size, text_of_form}
 use Rattle.state_codec.proofs.Spelled.{made_spelled, spelled_makes, if_ok_weaker}
 use Rattle.state_codec.proofs.reading.read_state.Goals as goal
 
-pub returns-then-bytes-gt-MAX_SIZE-clause-not_a_state : goal.returns-then-bytes-gt-MAX_SIZE-clause-not_a_state
-returns-then-bytes-gt-MAX_SIZE-clause-not_a_state c _ s sound is = omega (arith, spelled_size s c.args.bytes.now is, sound.size, c.if-bytes-gt-MAX_SIZE.true)
+pub returns-then-bytes-gt-MAX_STATE_BYTES-clause-not_a_state : goal.returns-then-bytes-gt-MAX_STATE_BYTES-clause-not_a_state
+returns-then-bytes-gt-MAX_STATE_BYTES-clause-not_a_state c _ s sound is = omega (arith, spelled_size s c.args.bytes.now is, sound.size, c.if-bytes-gt-MAX_STATE_BYTES.true)
 
 pub returns-in-Ok-clause-state : goal.returns-in-Ok-clause-state
 returns-in-Ok-clause-state c =
