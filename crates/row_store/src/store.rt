@@ -29,11 +29,10 @@ use crate::faults::RowMakeFault;
 use crate::folding::fold_rows;
 use crate::ready::Ready;
 use crate::writing::write_payload;
-use gate_journal::{Frame, FrameFault};
+use gate_journal::{Frame, FrameFault, Payloads};
 use host_model::{DiskFailed, Host};
 use pair_store::{PairFault, PairStore};
 use row_batches::{Batch, BatchFault, RowMap, StoreRow};
-use sequences::Sequence;
 use std::alloc::{AllocError, Global};
 use std::marker::Model;
 
@@ -284,12 +283,12 @@ fn frame_of(alloc: Global, payload: &[u8]) -> Result<Frame, AllocError>
 }
 
 // The rows that the payloads make.
-fn rows_of(alloc: Global, payloads: Sequence<Sequence<u8>>) -> Result<RowMap, PairFault>
+fn rows_of(alloc: Global, payloads: Payloads) -> Result<RowMap, PairFault>
     ensures rows { IfOk result (λ map. Fold payloads [] map.rows) }
     ensures none { IsErrOf result PairFault.BadStore → (rows : List StoreRow) → Fold payloads [] rows → ⊥ }
     ensures no_other { (IsErrOf result PairFault.NoStore → ⊥) × (IsErrOf result PairFault.DiskFault → ⊥) }
 {
-    match fold_rows(alloc, payloads) {
+    match fold_rows(alloc, &payloads) {
         Ok(rows) => Ok(rows),
         Err(BatchFault::NotABatch) => Err(PairFault::BadStore),
         Err(BatchFault::OutOfMemory) => Err(PairFault::OutOfMemory),
