@@ -53,6 +53,14 @@ impl Journal {
         self.generation
     }
 
+    /// Where the next record begins, which is the place of the gate that ends the records.
+    pub fn place(&self) -> u64
+        ensures place { result ≡ self.now.place }
+        ensures within { result < MAX_SIDE_END }
+    {
+        self.place
+    }
+
     /// Where the next record would end, with the gate behind it.
     pub fn end_after(&self, next: &Frame) -> u64
         ensures { result ≡ self.now.place + length next.now + 6 }

@@ -141,12 +141,12 @@ impl PairStore {
         Ok(store_of(choice.records))
     }
 
-    /// Whether the next record would end, with the gate behind it, past byte 33,554,432. Then the next change is a
-    /// checkpoint.
-    pub fn wants_checkpoint(&self, next: &Frame) -> bool
-        ensures { IsTrue result ↔ (MAX_RECORD_END < self.now.place + length next.now + 6) }
+    /// Whether the record of a payload of so many bytes would end, with the gate behind it, past byte 33,554,432. Then the
+    /// next change is a checkpoint.
+    pub fn wants_checkpoint(&self, bytes: u64) -> bool
+        ensures { IsTrue result ↔ (MAX_RECORD_END < self.now.place + bytes + 6) }
     {
-        self.journal.end_after(next) > MAX_RECORD_END
+        bytes.saturating_add(self.journal.place() + 6) > MAX_RECORD_END
     }
 
     /// Adds a payload. At `Ok` each image has it.

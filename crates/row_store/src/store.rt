@@ -13,7 +13,7 @@ ghost use Rattle.pair_store.specs.Pair.{HasNoList, HasNoStore};
 ghost use Rattle.pair_store.specs.Repair.{repair_cost, shut_first, IsLeftByOpening, IsUnwritten};
 ghost use Rattle.pair_store.specs.Store.{store_made, IsClosedOn, HasFailed, PairStandsWithGate};
 ghost use Rattle.row_batches.specs.declared.store_row.StoreRow.{StoreRow};
-ghost use Rattle.row_batches.specs.Batch.{applied, IsBatch, batch_text, whole_of};
+ghost use Rattle.row_batches.specs.Batch.{applied, batch_text, whole_of};
 ghost use Rattle.row_batches.specs.Batches.{HaveRoom};
 ghost use Rattle.row_batches.specs.Rows.{AreRows, value_of};
 ghost use Rattle.row_store.specs.Folding.{Fold};
@@ -212,7 +212,7 @@ impl RowStore {
     }
 }
 
-// The batch with what is written of it.
+// The batch with what is written of it: its bytes, or those of the whole map. The batch's size tells which, before bytes are made.
 fn ready_for(
     alloc: Global,
     pair: &PairStore,
@@ -222,13 +222,10 @@ fn ready_for(
     requires size { length (batch_text batch.now) ≤ MAX_PAYLOAD }
     requires whole_size { length (batch_text (whole_of (applied batch.now rows.old.rows))) ≤ MAX_WHOLE }
     ensures batch { IfOk result (λ ready. ready.batch ≡ batch.now) }
-    ensures rules { IfOk result (λ _. IsBatch batch.now) }
     ensures written { IfOk result (λ ready. IsWritten ready.is_whole (record { records = pair.now; rows = rows.old.rows; room = rows.old.room }) batch.now ready.payload) }
     ensures same { rows.new ≡ rows.old }
 {
-    let bytes = batch.bytes(alloc)?;
-    let frame = frame_of(alloc, &bytes)?;
-    if pair.wants_checkpoint(&frame) {
+    if pair.wants_checkpoint(batch.size() as u64) {
         let whole = whole_bytes(alloc, rows, batch)?;
         Ok(Ready {
             batch: copy_of(alloc, batch)?,
@@ -236,9 +233,10 @@ fn ready_for(
             is_whole: true,
         })
     } else {
+        let bytes = batch.bytes(alloc)?;
         Ok(Ready {
             batch: copy_of(alloc, batch)?,
-            frame,
+            frame: frame_of(alloc, &bytes)?,
             is_whole: false,
         })
     }
