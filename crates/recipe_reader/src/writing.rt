@@ -1,6 +1,6 @@
 // A recipe as a record.
 ghost use Rattle.std.specs.Prelude.{◌≡◌, ◌≤◌, ◌++◌, ◌∷◌, [], Ok, IfOk, OnOk, map, pos};
-ghost use Rattle.json_tree.specs.Json.{IsAbove, depth, items_of, list, text, whole};
+ghost use Rattle.json_tree.specs.Json.{IsAbove, depth, items_of, list, members_of, object, text, whole};
 ghost use Rattle.json_tree.specs.Bytes.{max_depth};
 ghost use Rattle.json_tree.specs.Tree.{json_of};
 ghost use Rattle.recipe_reader.specs.Records.{IsValid, recipe_of, record_json, bucket_json, branch_json, feature_json, text_or_null};
@@ -24,29 +24,32 @@ fn whole_record(alloc: Global, recipe: &Recipe) -> Result<Tree, AllocError>
     ensures { IfOk result (λ t. json_of t ≡ record_json recipe.now) }
 {
     let mut members = Members::new(alloc);
-    put_optional(alloc, &mut members, "appName", &recipe.app_name)?;
+    put_parts(alloc, &mut members, recipe)?;
+    Ok(Tree::Object(members))
+}
+
+/// Puts the members of the recipe's record into an object without members.
+fn put_parts(alloc: Global, members: &mut Members, recipe: &Recipe) -> Result<(), AllocError>
+    requires { members.old ≡ [] }
+    ensures { OnOk result (object (members_of members.new) ≡ record_json recipe.now) }
+{
+    put_optional(alloc, members, "appName", &recipe.app_name)?;
     let branches = branch_records(alloc, recipe.branches.as_slice())?;
-    put(alloc, &mut members, "branches", branches)?;
+    put(alloc, members, "branches", branches)?;
     let bucket = bucket_record(alloc, &recipe.bucket)?;
-    put(alloc, &mut members, "bucketConfig", bucket)?;
-    put_optional(alloc, &mut members, "channel", &recipe.channel)?;
+    put(alloc, members, "bucketConfig", bucket)?;
+    put_optional(alloc, members, "channel", &recipe.channel)?;
     put(
         alloc,
-        &mut members,
+        members,
         "isEnrollmentPaused",
         Tree::Truth(recipe.paused),
     )?;
-    put(
-        alloc,
-        &mut members,
-        "isRollout",
-        Tree::Truth(recipe.rollout),
-    )?;
-    put_optional(alloc, &mut members, "publishedDate", &recipe.published)?;
-    put_text(alloc, &mut members, "schemaVersion", "1")?;
-    put_text(alloc, &mut members, "slug", recipe.slug.text())?;
-    put_optional(alloc, &mut members, "targeting", &recipe.targeting)?;
-    Ok(Tree::Object(members))
+    put(alloc, members, "isRollout", Tree::Truth(recipe.rollout))?;
+    put_optional(alloc, members, "publishedDate", &recipe.published)?;
+    put_text(alloc, members, "schemaVersion", "1")?;
+    put_text(alloc, members, "slug", recipe.slug.text())?;
+    put_optional(alloc, members, "targeting", &recipe.targeting)
 }
 
 fn bucket_record(alloc: Global, bucket: &Bucket) -> Result<Tree, AllocError>
