@@ -213,10 +213,9 @@ fn feature_of(alloc: Global, entry: &Tree) -> Result<FeatureValue, RecordFault>
     if !is_name(id.as_bytes()) {
         return Err(BAD);
     }
-    let value = value_of(alloc, present(entry.get("value")))?;
     Ok(FeatureValue {
         feature: Text::new(alloc, id)?,
-        value,
+        value: value_of(alloc, present(entry.get("value")))?,
     })
 }
 
