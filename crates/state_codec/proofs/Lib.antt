@@ -17,5 +17,6 @@ pub mod KeyOrder
 pub mod Letters
 pub mod Items
 pub mod Joined
+pub mod ListParts
 pub mod SameRows
 pub mod Changed

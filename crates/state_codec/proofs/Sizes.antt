@@ -9,7 +9,7 @@ use Rattle.recipe_reader.specs.declared.recipe.Recipe.{Recipe}
 use Rattle.enrol_states.specs.declared.state.State.{State}
 use Rattle.state_codec.specs.Forms.{old_spelling}
 use Rattle.state_values.specs.Values.{hyphenated, participation, bit}
-use Rattle.state_codec.specs.Sizes.{recipes_size}
+use Rattle.state_codec.specs.Sizes.{recipes_size, rows_size, slugs_size}
 use Rattle.state_codec.specs.Sound.{IsSound}
 use Rattle.state_codec.specs.Spelling.{row, key_row, recipe_row, status_row, status_rows, last_rows, pending_recipes, first_rows, later_rows, rows_with, spelling}
 use Rattle.state_values.specs.Statuses.{number}
@@ -83,3 +83,9 @@ live_short s is = omega (arith, length-spelling s, is.size)
 
 pub pending_short : (s : State) → IsSound s → recipes_size (pending_recipes s.pending) ≤ 2 ^ 24
 pending_short s is = omega (arith, length-spelling s, is.size)
+
+pub opted_out_short : (s : State) → IsSound s → slugs_size s.opted_out ≤ 2 ^ 24
+opted_out_short s is = omega (arith, length-spelling s, is.size)
+
+pub rows_short : (s : State) → IsSound s → rows_size s.rows ≤ 2 ^ 24
+rows_short s is = omega (arith, length-spelling s, is.size)

@@ -1,15 +1,14 @@
 // The batches of a state's rows: the one that makes them, whose bytes are the state's spelling, and the one that changes them to
 // the next state's.
-ghost use Rattle.std.specs.Prelude.{◌≡◌, ◌≤◌, ◌<◌, ◌+◌, ◌^◌, ◌++◌, [], All, length, IfOk, OnOk};
+ghost use Rattle.std.specs.Prelude.{◌≡◌, ◌≤◌, ◌<◌, ◌+◌, ◌^◌, ◌++◌, [], length, IfOk, OnOk};
 ghost use Rattle.enrol_states.specs.Consistent.{IsConsistent};
-ghost use Rattle.enrol_states.specs.Statuses.{IsStatus};
 ghost use Rattle.row_batches.specs.Batch.{applied, batch_text, whole_of};
 ghost use Rattle.row_batches.specs.Between.{put_where_differs, changes_between, between};
 ghost use Rattle.state_codec.specs.RecipeLists.{HasLists};
 ghost use Rattle.state_codec.specs.Sound.{IsSound};
 ghost use Rattle.state_values.specs.Values.{participation};
 ghost use Rattle.state_codec.specs.Spelling.{status_rows, last_rows, pending_recipes, rows_behind_recipes, first_rows, later_rows, rows_of, spelling};
-ghost use Rattle.state_codec.specs.RecipeChanges.{live_changes, pending_changes};
+ghost use Rattle.state_codec.specs.RecipeChanges.{client_row_changes, live_changes, opted_out_changes, pending_changes};
 
 use crate::recipe_lists::RecipeLists;
 use crate::row_kind::RowKind;
@@ -62,8 +61,8 @@ pub fn change_between(alloc: Global, old: &State, new: &State) -> Result<Batch, 
     change_after(alloc, old, new, RecipeLists::MayDiffer)
 }
 
-// The batch of `change_between`, where it is known which lists of recipes are as before: these aren't looked at, so the cost
-// is that of the other lists, which are walked once.
+// The batch of `change_between`, where it is known which lists are as before, and in which parts others may differ. What is as
+// before isn't looked at, so the cost is that of the rest, which is walked once.
 fn change_after(
     alloc: Global,
     old: &State,
@@ -155,7 +154,7 @@ fn add_later(
 {
     add_row(changes, id_row(alloc, old.id)?, id_row(alloc, new.id)?)?;
     add_recipes(alloc, changes, old, new, recipes)?;
-    add_behind_recipes(alloc, changes, old, new)
+    add_behind_recipes(alloc, changes, old, new, recipes)
 }
 
 // Adds the changes of the rows of recipes.
@@ -173,7 +172,7 @@ fn add_recipes(
     ensures { OnOk result (changes.new ≡ changes.old ++ (live_changes old.now new.now ++ pending_changes old.now new.now)) }
 {
     match recipes {
-        RecipeLists::AsBefore => Ok(()),
+        RecipeLists::AsBefore | RecipeLists::AllBut { .. } => Ok(()),
         RecipeLists::LiveAsBefore => add_pending(alloc, changes, old, new),
         RecipeLists::MayDiffer => {
             add_changes(
@@ -210,26 +209,45 @@ fn add_pending(
 }
 
 // Adds the changes of the rows behind those of recipes.
-#[tactic(auto, using(row_batches::proofs::ItemWalks::all_fit))]
 fn add_behind_recipes(
     alloc: Global,
     changes: &mut Sequence<RowChange>,
     old: &State,
     new: &State,
+    recipes: RecipeLists,
 ) -> Result<(), AllocError>
-    requires old_statuses { All (λ row. IsStatus row.status) old.now.rows }
-    requires new_statuses { All (λ row. IsStatus row.status) new.now.rows }
+    requires old_state { IsConsistent old.now }
+    requires new_state { IsConsistent new.now }
+    requires recipes { HasLists recipes old.now new.now }
     ensures { OnOk result (changes.new ≡ changes.old ++ changes_between (rows_behind_recipes (participation old.now) old.now) (rows_behind_recipes (participation new.now) new.now)) }
 {
+    add_opted_out(alloc, changes, old, new, recipes)?;
+    add_statuses(alloc, changes, old, new, recipes)?;
+    add_last(alloc, changes, old, new)
+}
+
+// Adds the changes of the rows of the slugs that are opted out.
+#[tactic(auto, using(row_batches::proofs::ItemWalks::all_fit))]
+fn add_opted_out(
+    alloc: Global,
+    changes: &mut Sequence<RowChange>,
+    old: &State,
+    new: &State,
+    recipes: RecipeLists,
+) -> Result<(), AllocError>
+    requires old_state { IsConsistent old.now }
+    requires new_state { IsConsistent new.now }
+    requires recipes { HasLists recipes old.now new.now }
+    ensures { OnOk result (changes.new ≡ changes.old ++ opted_out_changes old.now new.now) }
+{
+    let part = recipes.opted_out_part(old, new);
     add_changes(
         alloc,
         changes,
         &RowKind::OptedOut,
-        old.opted_out.as_slice(),
-        new.opted_out.as_slice(),
-    )?;
-    add_statuses(alloc, changes, old, new)?;
-    add_last(alloc, changes, old, new)
+        part.of_old(old.opted_out.as_slice()),
+        part.of_new(new.opted_out.as_slice()),
+    )
 }
 
 // Adds the changes of the rows of participation, of whether recipes are pending, and of the statuses.
@@ -238,9 +256,11 @@ fn add_statuses(
     changes: &mut Sequence<RowChange>,
     old: &State,
     new: &State,
+    recipes: RecipeLists,
 ) -> Result<(), AllocError>
-    requires old_statuses { All (λ row. IsStatus row.status) old.now.rows }
-    requires new_statuses { All (λ row. IsStatus row.status) new.now.rows }
+    requires old_state { IsConsistent old.now }
+    requires new_state { IsConsistent new.now }
+    requires recipes { HasLists recipes old.now new.now }
     ensures { OnOk result (changes.new ≡ changes.old ++ changes_between (status_rows (participation old.now) old.now) (status_rows (participation new.now) new.now)) }
 {
     let old_participation = participation_row(alloc, old)?;
@@ -249,12 +269,29 @@ fn add_statuses(
     let was_pending = flag_row(alloc, RowKind::IsPending, old.pending.is_some())?;
     let is_pending = flag_row(alloc, RowKind::IsPending, new.pending.is_some())?;
     add_row(changes, was_pending, is_pending)?;
+    add_client_rows(alloc, changes, old, new, recipes)
+}
+
+// Adds the changes of the rows of the statuses.
+fn add_client_rows(
+    alloc: Global,
+    changes: &mut Sequence<RowChange>,
+    old: &State,
+    new: &State,
+    recipes: RecipeLists,
+) -> Result<(), AllocError>
+    requires old_state { IsConsistent old.now }
+    requires new_state { IsConsistent new.now }
+    requires recipes { HasLists recipes old.now new.now }
+    ensures { OnOk result (changes.new ≡ changes.old ++ client_row_changes old.now new.now) }
+{
+    let part = recipes.row_part(old, new);
     add_changes(
         alloc,
         changes,
         &RowKind::Status,
-        old.rows.as_slice(),
-        new.rows.as_slice(),
+        part.of_old(old.rows.as_slice()),
+        part.of_new(new.rows.as_slice()),
     )
 }
 
