@@ -41,7 +41,7 @@ pub fn whole_batch(alloc: Global, state: &ClientState) -> Result<Batch, AllocErr
 
 /// The batch from the rows of a state to those that it has after a change: a put for each row that is new or differs, a delete for
 /// each that is gone, and nothing else. A row is made only where it changes. Parts that the change doesn't have aren't looked at,
-/// and of the enrolment no list of recipes that is as before.
+/// and of the enrolment no list, or part of one, that is said to be as before.
 pub fn changes_to(
     alloc: Global,
     old: &ClientState,

@@ -51,7 +51,8 @@ pub fn sizes_of(state: &ClientState) -> ClientSizes
 }
 
 /// The sizes of the state after a change, by those of the state before. Parts that the change doesn't have aren't looked at, and of
-/// the enrolment's recipes only those are counted that are gone, new or differ. It takes no memory.
+/// the enrolment's recipes only those are counted that are gone, new or differ. Of its opted-out slugs and of its rows only those
+/// are counted that may differ. It takes no memory.
 pub fn sizes_after(before: ClientSizes, old: &ClientState, change: &StateChange) -> ClientSizes
     requires before { IsSizeOf old.now before }
     requires old_state { IsSound old.now }

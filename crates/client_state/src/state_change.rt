@@ -18,7 +18,7 @@ pub struct StateChange {
     pub preferences: Option<Prefs>,
 }
 
-/// The next enrolment, and which of its lists of recipes are those of before.
+/// The next enrolment, and which of its lists are those of before.
 #[derive(Drop)]
 pub struct NextEnrolment {
     pub state: State,
@@ -38,7 +38,7 @@ impl StateChange {
         }
     }
 
-    /// A change to this enrolment, of which the lists of recipes are as before as far as it is said. It takes no memory.
+    /// A change to this enrolment, of which the lists are as before as far as it is said. It takes no memory.
     pub fn of_enrolment(state: State, recipes: RecipeLists) -> StateChange
         ensures { result ≡ of_enrolment state recipes }
     {
