@@ -1,5 +1,5 @@
 -- The changes between the rows of two states are a batch, and the text of all rows after it is the spelling of the next state.
-use Rattle.std.proofs.Common.{◌≡◌, ◌≤◌, ◌<◌, ◌^◌, ◌+◌, false, List, Option, Some, None, length, sym, ap, ◌∙◌, subst}
+use Rattle.std.proofs.Common.{◌≡◌, ◌≤◌, ◌<◌, ◌^◌, ◌+◌, false, List, Option, Some, None, length, sym, ap, subst}
 use Rattle.std.specs.Option.{unwrap_or}
 use Rattle.enrol_states.specs.Consistent as states
 use Rattle.enrol_states.specs.declared.state.State.{State}
@@ -62,10 +62,6 @@ pub is_batch : (s t : ClientState) (changes : List RowChange) → IsConsistent s
 is_batch s t changes s_is t_is s_fits t_fits are =
     subst (λ (cs : List RowChange). IsBatch (of_list cs)) (sym are)
     (between_rule (rows_of s) (rows_of t) (rows_rise s s_is) (rows_rise t t_is) (rows_room s s_is s_fits) (rows_room t t_is t_fits))
-
-pub batch_between : (s t : ClientState) (batch : ChangeList) (changes : List RowChange) → batch ≡ record { clear = false; changes = changes } → changes ≡ changes_between (rows_of s) (rows_of t)
-    → batch ≡ between (rows_of s) (rows_of t)
-batch_between s t batch changes is same = is ∙ ap of_list same
 
 pub gives_rows : (s t : ClientState) (batch : ChangeList) → IsConsistent s → IsConsistent t → batch ≡ between (rows_of s) (rows_of t) → applied batch (rows_of s) ≡ rows_of t
 gives_rows s t batch s_is t_is is = applied_between (rows_of s) (rows_of t) batch (rows_rise s s_is) (rows_rise t t_is) is

@@ -1,5 +1,5 @@
 -- How many bytes a state is spelled in: those of its enrolment, and those of the rows of its events, its outbox and its preferences.
-use Rattle.std.proofs.Common.{◌≡◌, ◌+◌, ◌≤◌, ◌^◌, ℕ, length, sym, subst, arith}
+use Rattle.std.proofs.Common.{◌≡◌, ◌+◌, ◌≤◌, ◌^◌, [], ◌∷◌, List, ℕ, length, refl, sym, subst, arith}
 use Rattle.row_batches.specs.Batch.{batch_text, puts_text, whole_of}
 use Rattle.row_batches.proofs.Sizes.{puts_size-append}
 use Rattle.event_counts.specs.Rows as count_rows
@@ -18,7 +18,7 @@ use Rattle.client_state.specs.declared.sizes.ClientSizes.{ClientSizes}
 use Rattle.client_state.specs.Sizes.{IsSizeOf}
 use Rattle.client_state.specs.Sound.{IsSound}
 use Rattle.client_state.specs.Spelling.{rows_with, spelling}
-use Rattle.client_state.proofs.Divided.{from_outbox, from_later, from_holds, from_events}
+use Rattle.client_state.proofs.Divided.{Section, joined, sections}
 
 -- the bytes of the puts of the events' rows
 abbrev pub events_size : ClientState → ℕ
@@ -32,23 +32,21 @@ outbox_size s = length (puts_text (change_rows.rows_of s.outbox))
 abbrev pub preferences_size : ClientState → ℕ
 preferences_size s = length (puts_text (preference_rows.rows_of s.preferences))
 
+-- the bytes of the puts of sections
+abbrev size_in : List Section → ℕ → ClientState → ℕ
+size_in [] byte s = length (puts_text (value_rows s.preferences))
+size_in (x ∷ xs) byte s = length (puts_text (x.rows byte s)) + size_in xs byte s
+
+joined_size : (xs : List Section) (byte : ℕ) (s : ClientState) → length (puts_text (joined xs byte s)) ≡ size_in xs byte s
+joined_size [] byte s = refl
+joined_size (x ∷ xs) byte s = omega (arith, puts_size-append (x.rows byte s) (joined xs byte s), joined_size xs byte s)
+
 pub length-with : (byte : ℕ) (s : ClientState) → length (batch_text (whole_of (rows_with byte s))) ≡ length (batch_text (whole_of (codec.rows_with byte s.enrolment))) + events_size s + outbox_size s + preferences_size s
 unfolding rows_with codec.rows_with
 length-with byte s =
-    let first = first_rows s.enrolment in
-    let later = later_rows byte s.enrolment in
-    let holds = hold_rows s.preferences in
-    let values = value_rows s.preferences in
-    omega (
-      arith,
-      puts_size-append first (from_events s byte),
-      puts_size-append (count_rows.rows_of s.events) (from_holds s byte),
-      puts_size-append holds (from_later s byte),
-      puts_size-append later (from_outbox s),
-      puts_size-append (change_rows.rows_of s.outbox) values,
-      puts_size-append first later,
-      puts_size-append holds values,
-    )
+    let enrolment = puts_size-append (first_rows s.enrolment) (later_rows byte s.enrolment) in
+    let preferences = puts_size-append (hold_rows s.preferences) (value_rows s.preferences) in
+    omega (arith, joined_size sections byte s, enrolment, preferences)
 
 pub length-spelling : (s : ClientState) → length (spelling s) ≡ length (codec.spelling s.enrolment) + events_size s + outbox_size s + preferences_size s
 unfolding spelling codec.spelling

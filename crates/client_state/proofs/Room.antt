@@ -3,9 +3,8 @@ use Rattle.std.proofs.Common.{◌≤◌, ◌<◌, ◌^◌, ◌∷◌, [], List, 
 use Rattle.std.specs.Prelude.{nat_lt, if◌then◌else◌}
 use Rattle.std.specs.List.{AllByRecursion}
 use Rattle.plain_text.specs.Names.{is_name}
-use Rattle.row_batches.specs.Batch.{batch_text, puts_text, whole_of}
+use Rattle.row_batches.specs.Batch.{batch_text, whole_of}
 use Rattle.row_batches.specs.Batches.{HaveRoom}
-use Rattle.row_batches.specs.declared.store_row.StoreRow.{StoreRow}
 use Rattle.event_counts.specs.Rows as count_rows
 use Rattle.event_counts.specs.Sound.{IsSoundName}
 use Rattle.event_counts.specs.declared.name_counts.NameCounts.{NameCounts}
@@ -24,7 +23,6 @@ use Rattle.state_codec.proofs.Room.{HaveShortKeys, short-append, first_short, la
 use Rattle.client_state.specs.declared.client_state.ClientState.{ClientState}
 use Rattle.client_state.specs.Sound.{IsConsistent}
 use Rattle.client_state.specs.Spelling.{rows_with, rows_of, spelling}
-use Rattle.client_state.proofs.Divided.{from_outbox, from_later, from_holds, from_events}
 
 events_short : (ns : List NameCounts) → AllByRecursion IsSoundName ns → HaveShortKeys (count_rows.rows_of ns)
 events_short [] sound = tt
@@ -60,17 +58,14 @@ values_short (p ∷ ps) are = (omega (arith, name_short p.name are.0.name), valu
 keys_short : (byte : ℕ) (s : ClientState) → IsConsistent s → HaveShortKeys (rows_with byte s)
 unfolding rows_with
 keys_short byte s is =
-    let last = short-append (change_rows.rows_of s.outbox) (value_rows s.preferences) (outbox_short s.outbox) (values_short s.preferences is.preferences.each) in
-    let later = short-append (later_rows byte s.enrolment) (from_outbox s) (later_short byte s.enrolment is.enrolment) last in
-    let holds = short-append (hold_rows s.preferences) (from_later s byte) (holds_short s.preferences is.preferences.each) later in
-    let events = short-append (count_rows.rows_of s.events) (from_holds s byte) (events_short s.events is.events.names) holds in
-    short-append (first_rows s.enrolment) (from_events s byte) (first_short s.enrolment is.enrolment) events
-
-puts_fit : (rows : List StoreRow) → length (batch_text (whole_of rows)) < 2 ^ 32 → length (puts_text rows) < 2 ^ 32
-puts_fit rows fits = omega (arith, fits)
+    short-append (first_rows s.enrolment) _ (first_short s.enrolment is.enrolment)
+    (short-append (count_rows.rows_of s.events) _ (events_short s.events is.events.names)
+    (short-append (hold_rows s.preferences) _ (holds_short s.preferences is.preferences.each)
+    (short-append (later_rows byte s.enrolment) _ (later_short byte s.enrolment is.enrolment)
+    (short-append (change_rows.rows_of s.outbox) _ (outbox_short s.outbox) (values_short s.preferences is.preferences.each)))))
 
 pub with_room : (byte : ℕ) (s : ClientState) → IsConsistent s → length (batch_text (whole_of (rows_with byte s))) < 2 ^ 32 → HaveRoom (rows_with byte s)
-with_room byte s is fits = room_of (rows_with byte s) (keys_short byte s is) (puts_fit (rows_with byte s) fits)
+with_room byte s is fits = room_of (rows_with byte s) (keys_short byte s is) (omega (arith, fits))
 
 pub rows_room : (s : ClientState) → IsConsistent s → length (spelling s) < 2 ^ 32 → HaveRoom (rows_of s)
 unfolding spelling

@@ -42,6 +42,7 @@ pub fn whole_batch(alloc: Global, state: &ClientState) -> Result<Batch, AllocErr
 /// The batch from the rows of a state to those that it has after a change: a put for each row that is new or differs, a delete for
 /// each that is gone, and nothing else. A row is made only where it changes. Parts that the change doesn't have aren't looked at,
 /// and of the enrolment no list, or part of one, that is said to be as before.
+#[tactic(auto, using(crate::proofs::Changed::change_consistent, crate::proofs::Changed::gives_rows, crate::proofs::Changed::gives_whole, crate::proofs::Changed::is_short))]
 pub fn changes_to(
     alloc: Global,
     old: &ClientState,
@@ -63,6 +64,7 @@ pub fn changes_to(
 }
 
 // The changes from the rows of a state to those that it has after a change.
+#[tactic(auto, using(crate::proofs::Joined::all_between))]
 fn row_changes(
     alloc: Global,
     old: &ClientState,
@@ -72,30 +74,36 @@ fn row_changes(
     requires change { IsWholeChangeOf old.now change.now }
     ensures { IfOk result (λ changes. changes ≡ changes_between (rows_of old.now) (rows_of (state_after change.now old.now))) }
 {
-    let first = first_row_changes(alloc, &old.enrolment, &change.enrolment)?;
+    let (first, later) = enrolment_changes(alloc, &old.enrolment, &change.enrolment)?;
     let events = event_changes(alloc, &old.events, &change.events)?;
-    let holds = hold_changes(alloc, &old.preferences, &change.preferences)?;
-    let later = later_row_changes(alloc, &old.enrolment, &change.enrolment)?;
     let outbox = outbox_changes(alloc, &old.outbox, &change.outbox)?;
-    let values = value_changes(alloc, &old.preferences, &change.preferences)?;
+    let (holds, values) = preference_changes(alloc, &old.preferences, &change.preferences)?;
     joined(first, events, holds, later, outbox, values)
 }
 
-// The changes of the enrolment's first rows.
-fn first_row_changes(
+// The changes of the enrolment's first rows, and of its later ones.
+#[tactic(auto, using(state_codec::proofs::Joined::between_itself))]
+fn enrolment_changes(
     alloc: Global,
     old: &State,
     next: &Option<NextEnrolment>,
-) -> Result<Sequence<RowChange>, AllocError>
-    ensures { IfOk result (λ changes. changes ≡ changes_between (first_rows old.now) (first_rows (enrolment_after next.now old.now))) }
+) -> Result<(Sequence<RowChange>, Sequence<RowChange>), AllocError>
+    requires old_state { states.IsConsistent old.now }
+    requires next { IsNextIf old.now next.now }
+    ensures first { IfOk result (λ changes. changes.0 ≡ changes_between (first_rows old.now) (first_rows (enrolment_after next.now old.now))) }
+    ensures later { IfOk result (λ changes. changes.1 ≡ changes_between (later_rows (participation old.now) old.now) (later_rows (participation (enrolment_after next.now old.now)) (enrolment_after next.now old.now))) }
 {
     match next {
-        Some(next) => first_changes(alloc, old, &next.state),
-        None => Ok(Sequence::new(alloc)),
+        Some(next) => Ok((
+            first_changes(alloc, old, &next.state)?,
+            later_changes(alloc, old, &next.state, next.recipes)?,
+        )),
+        None => Ok((Sequence::new(alloc), Sequence::new(alloc))),
     }
 }
 
 // The changes of the counts' rows.
+#[tactic(auto, using(state_codec::proofs::Joined::between_itself))]
 fn event_changes(
     alloc: Global,
     old: &Counts,
@@ -109,37 +117,8 @@ fn event_changes(
     }
 }
 
-// The changes of the rows of holds.
-fn hold_changes(
-    alloc: Global,
-    old: &Prefs,
-    next: &Option<Prefs>,
-) -> Result<Sequence<RowChange>, AllocError>
-    ensures { IfOk result (λ changes. changes ≡ changes_between (hold_rows old.now) (hold_rows (unwrap_or next.now old.now))) }
-{
-    match next {
-        Some(next) => old.hold_changes_to(alloc, next),
-        None => Ok(Sequence::new(alloc)),
-    }
-}
-
-// The changes of the enrolment's later rows.
-fn later_row_changes(
-    alloc: Global,
-    old: &State,
-    next: &Option<NextEnrolment>,
-) -> Result<Sequence<RowChange>, AllocError>
-    requires old_state { states.IsConsistent old.now }
-    requires next { IsNextIf old.now next.now }
-    ensures { IfOk result (λ changes. changes ≡ changes_between (later_rows (participation old.now) old.now) (later_rows (participation (enrolment_after next.now old.now)) (enrolment_after next.now old.now))) }
-{
-    match next {
-        Some(next) => later_changes(alloc, old, &next.state, next.recipes),
-        None => Ok(Sequence::new(alloc)),
-    }
-}
-
 // The changes of the outbox's rows.
+#[tactic(auto, using(state_codec::proofs::Joined::between_itself))]
 fn outbox_changes(
     alloc: Global,
     old: &Outbox,
@@ -154,16 +133,21 @@ fn outbox_changes(
     }
 }
 
-// The changes of the rows of preferences' values.
-fn value_changes(
+// The changes of the rows of holds, and of those of values.
+#[tactic(auto, using(state_codec::proofs::Joined::between_itself))]
+fn preference_changes(
     alloc: Global,
     old: &Prefs,
     next: &Option<Prefs>,
-) -> Result<Sequence<RowChange>, AllocError>
-    ensures { IfOk result (λ changes. changes ≡ changes_between (value_rows old.now) (value_rows (unwrap_or next.now old.now))) }
+) -> Result<(Sequence<RowChange>, Sequence<RowChange>), AllocError>
+    ensures holds { IfOk result (λ changes. changes.0 ≡ changes_between (hold_rows old.now) (hold_rows (unwrap_or next.now old.now))) }
+    ensures values { IfOk result (λ changes. changes.1 ≡ changes_between (value_rows old.now) (value_rows (unwrap_or next.now old.now))) }
 {
     match next {
-        Some(next) => old.value_changes_to(alloc, next),
-        None => Ok(Sequence::new(alloc)),
+        Some(next) => Ok((
+            old.hold_changes_to(alloc, next)?,
+            old.value_changes_to(alloc, next)?,
+        )),
+        None => Ok((Sequence::new(alloc), Sequence::new(alloc))),
     }
 }
