@@ -2,6 +2,7 @@
 ghost use Rattle.client_state.specs.Laws.{EmptyPartsHaveNoRows, EqualStatesAreOne, FormsOfEnrolmentsStand, IsOneToOne, IsFormOfOne, IsSpelledByOne};
 
 /// Two sound states that have one spelling are one state. It takes no memory.
+#[tactic(auto, using(crate::proofs::OneState::one_spelling, crate::proofs::OneState::equal_are_one))]
 pub fn one_spelling()
     ensures one { IsOneToOne }
     ensures equal { EqualStatesAreOne }
@@ -15,6 +16,7 @@ pub fn one_state()
 
 /// An empty part has no row: the rows of an enrolment alone, and their old form, are those of the state with empty parts. It takes
 /// no memory.
+#[tactic(auto, using(crate::proofs::Empty::rows_of_enrolment))]
 pub fn empty_parts()
     ensures rows { EmptyPartsHaveNoRows }
     ensures forms { FormsOfEnrolmentsStand }

@@ -15,6 +15,7 @@ use row_batches::{Batch, StoreRow};
 use std::alloc::{AllocError, Global};
 
 /// Whether the row `p` is 0 or 1, as it is in the old form of a state alone. It takes no memory.
+#[tactic(auto, using(crate::proofs::Forms::old_where, crate::proofs::Forms::new_where))]
 pub fn needs_migration(rows: &[StoreRow]) -> bool
     ensures row { result ≡ needs_migration rows.now }
     ensures old { IsTrue result → (s : ClientState) → IsForm s rows.now → IsOldForm s rows.now }
@@ -24,6 +25,7 @@ pub fn needs_migration(rows: &[StoreRow]) -> bool
 }
 
 /// The batch that makes the rows of a state of their old form: a put of the row `p`. It has 9 bytes.
+#[tactic(auto, using(crate::proofs::Migrating::migrated, crate::proofs::Migrating::rows_migrated, crate::proofs::Migrating::text_migrated))]
 pub fn migration(alloc: Global, state: &ClientState) -> Result<Batch, AllocError>
     requires { IsConsistent state.now }
     ensures put { IfOk result (λ batch. batch ≡ record { clear = false; changes = Put (row (codes "p") (participation state.now.enrolment ∷ [])) ∷ [] }) }
