@@ -15,10 +15,10 @@ use Rattle.row_batches.proofs.Joining.{Precede}
 use Rattle.event_counts.specs.Rows as count_rows
 use Rattle.change_outbox.specs.Rows as change_rows
 use Rattle.pref_bindings.specs.Rows.{hold_rows, value_rows}
-use Rattle.state_codec.specs.Spelling.{first_rows, later_rows}
+use Rattle.state_codec.specs.Encoding.{first_rows, later_rows}
 use Rattle.state_codec.proofs.Letters.{all_append, first_all, later_all}
 use Rattle.client_state.specs.Sections.{is_below, count_below, divided, ends}
-use Rattle.client_state.specs.Spelling.{rows_with}
+use Rattle.client_state.specs.Encoding.{rows_with}
 use Rattle.client_state.specs.declared.client_state.ClientState.{ClientState}
 use Rattle.client_state.proofs.Letters.{events_all, holds_all, outbox_all, values_all}
 

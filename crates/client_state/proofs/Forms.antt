@@ -13,15 +13,15 @@ use Rattle.row_batches.proofs.Walks.{whole_rule}
 use Rattle.event_counts.specs.Rows as count_rows
 use Rattle.change_outbox.specs.Rows as change_rows
 use Rattle.pref_bindings.specs.Rows.{hold_rows, value_rows}
-use Rattle.state_values.specs.Values.{bit, participation}
+use Rattle.state_values.specs.Values.{bit, participation_byte}
 use Rattle.state_codec.specs.Forms.{IsLaterForm, is_old}
-use Rattle.state_codec.specs.Spelling.{first_rows, later_rows}
+use Rattle.state_codec.specs.Encoding.{first_rows, later_rows}
 use Rattle.state_codec.proofs.Forms.{later_is_new, later_is_old}
 use Rattle.state_codec.proofs.Letters.{first_all}
 use Rattle.client_state.specs.declared.client_state.ClientState.{ClientState}
-use Rattle.client_state.specs.Forms.{IsForm, IsOldForm, IsSpelled, needs_migration, old_rows, old_spelling}
+use Rattle.client_state.specs.Forms.{IsForm, IsOldForm, IsEncoded, needs_migration, old_rows, old_encoding}
 use Rattle.client_state.specs.Sound.{IsConsistent, IsSound}
-use Rattle.client_state.specs.Spelling.{rows_with, rows_of, spelling}
+use Rattle.client_state.specs.Encoding.{rows_with, rows_of, encoding}
 use Rattle.client_state.proofs.KeyOrder.{with_rise}
 use Rattle.client_state.proofs.Letters.{events_all, holds_all, outbox_all, values_all}
 use Rattle.client_state.proofs.Room.{with_room}
@@ -35,7 +35,7 @@ pub record WithByte (s : ClientState) (rows : List StoreRow) : Type 0 where
   pub later : IsLaterForm s.enrolment (later_rows byte s.enrolment)
 
 pub byte_of : (s : ClientState) (rows : List StoreRow) → IsForm s rows → WithByte s rows
-byte_of s rows (inl is) = record { byte = participation s.enrolment; same = is; later = inl refl }
+byte_of s rows (inl is) = record { byte = participation_byte s.enrolment; same = is; later = inl refl }
 byte_of s rows (inr old) = record { byte = bit s.enrolment.experiments; same = old.same; later = inr (record { one_flag = old.one_flag; same = refl }) }
 
 -- ---- both are batches
@@ -43,11 +43,11 @@ byte_of s rows (inr old) = record { byte = bit s.enrolment.experiments; same = o
 pub form_rises : (s : ClientState) (rows : List StoreRow) → IsConsistent s → IsForm s rows → AreRows rows
 form_rises s rows is form = let with_byte = byte_of s rows form in subst AreRows (sym with_byte.same) (with_rise with_byte.byte s is)
 
-pub form_size : (s : ClientState) (rows : List StoreRow) → IsForm s rows → length (batch_text (whole_of rows)) ≡ length (spelling s)
-unfolding spelling
+pub form_size : (s : ClientState) (rows : List StoreRow) → IsForm s rows → length (batch_text (whole_of rows)) ≡ length (encoding s)
+unfolding encoding
 form_size s rows form =
     let with_byte = byte_of s rows form in
-    ap (λ (rs : List StoreRow). length (batch_text (whole_of rs))) with_byte.same ∙ length-byte with_byte.byte (participation s.enrolment) s
+    ap (λ (rs : List StoreRow). length (batch_text (whole_of rs))) with_byte.same ∙ length-byte with_byte.byte (participation_byte s.enrolment) s
 
 pub form_room : (s : ClientState) (rows : List StoreRow) → IsSound s → IsForm s rows → HaveRoom rows
 form_room s rows sound form =
@@ -60,14 +60,14 @@ form_rule s rows sound form = whole_rule rows (form_rises s rows sound.consisten
 
 -- ---- their bytes
 
--- a form of the state that these bytes spell
+-- a form of the state that these bytes encode
 pub record Text (s : ClientState) (bytes : List ℕ) : Type 0 where
   pub rows : List StoreRow
   pub form : IsForm s rows
   pub text : bytes ≡ batch_text (whole_of rows)
 
-pub text_of_form : (s : ClientState) (bytes : List ℕ) → IsSpelled s bytes → Text s bytes
-unfolding spelling old_spelling
+pub text_of_form : (s : ClientState) (bytes : List ℕ) → IsEncoded s bytes → Text s bytes
+unfolding encoding old_encoding
 text_of_form s bytes (inl is) = record { rows = rows_of s; form = inl refl; text = is }
 text_of_form s bytes (inr old) = record { rows = old_rows s; form = inr (record { one_flag = old.one_flag; same = refl }); text = old.same }
 
@@ -93,8 +93,8 @@ with_byte byte s =
     ∙ none_old (value_rows s.preferences) (values_all none s.preferences (λ rest value. refl)))
     ∙ or-false (needs_migration later)
 
-pub spelled_is_new : (s : ClientState) → needs_migration (rows_of s) ≡ false
-spelled_is_new s = with_byte (participation s.enrolment) s ∙ later_is_new s.enrolment
+pub encoded_is_new : (s : ClientState) → needs_migration (rows_of s) ≡ false
+encoded_is_new s = with_byte (participation_byte s.enrolment) s ∙ later_is_new s.enrolment
 
 pub old_is_old : (s : ClientState) → needs_migration (old_rows s) ≡ true
 old_is_old s = with_byte (bit s.enrolment.experiments) s ∙ later_is_old s.enrolment
@@ -103,13 +103,13 @@ true_false : (b : Bool) → b ≡ true → b ≡ false → ⊥
 true_false b is other = absurd cc
 
 pub old_where : (rows : List StoreRow) (s : ClientState) → needs_migration rows ≡ true → IsForm s rows → IsOldForm s rows
-old_where rows s needs (inl is) = absurd (true_false (needs_migration rows) needs (ap needs_migration is ∙ spelled_is_new s))
+old_where rows s needs (inl is) = absurd (true_false (needs_migration rows) needs (ap needs_migration is ∙ encoded_is_new s))
 old_where rows s needs (inr old) = old
 
 pub new_where : (rows : List StoreRow) (s : ClientState) → needs_migration rows ≡ false → IsForm s rows → rows ≡ rows_of s
 new_where rows s none (inl is) = is
 new_where rows s none (inr old) = absurd (true_false (needs_migration rows) (ap needs_migration old.same ∙ old_is_old s) none)
 
--- rows are spelled or an old form, and never both
+-- rows are encoded or an old form, and never both
 pub apart : (s t : ClientState) (rows : List StoreRow) → rows ≡ rows_of s → IsOldForm t rows → ⊥
-apart s t rows is old = true_false (needs_migration rows) (ap needs_migration old.same ∙ old_is_old t) (ap needs_migration is ∙ spelled_is_new s)
+apart s t rows is old = true_false (needs_migration rows) (ap needs_migration old.same ∙ old_is_old t) (ap needs_migration is ∙ encoded_is_new s)

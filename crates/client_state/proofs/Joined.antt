@@ -5,7 +5,7 @@ use Rattle.row_batches.specs.declared.change.RowChange.{RowChange}
 use Rattle.row_batches.proofs.Joining.{between-append}
 use Rattle.pref_bindings.specs.Rows.{value_rows}
 use Rattle.client_state.specs.declared.client_state.ClientState.{ClientState}
-use Rattle.client_state.specs.Spelling.{rows_with}
+use Rattle.client_state.specs.Encoding.{rows_with}
 use Rattle.client_state.proofs.Divided.{AreDivided, Section, are_divided, before, joined, sections}
 
 module _ (b c : ℕ) (s t : ClientState) where

@@ -10,10 +10,10 @@ use Rattle.change_outbox.proofs.Order as outbox_order
 use Rattle.pref_bindings.specs.Rows.{hold_rows, value_rows}
 use Rattle.pref_bindings.proofs.RowOrder as preference_order
 use Rattle.state_codec.proofs.KeyOrder.{rise_append, first_rise, later_rise}
-use Rattle.state_values.specs.Values.{participation}
+use Rattle.state_values.specs.Values.{participation_byte}
 use Rattle.client_state.specs.declared.client_state.ClientState.{ClientState}
 use Rattle.client_state.specs.Sound.{IsConsistent}
-use Rattle.client_state.specs.Spelling.{rows_with, rows_of}
+use Rattle.client_state.specs.Encoding.{rows_with, rows_of}
 use Rattle.client_state.proofs.Divided.{AreDivided, Section, are_divided, before, joined, sections}
 
 above_front : (key : List ℕ) (rows behind : List StoreRow) → AreAbove key (map key_of (rows ++ behind)) → AreAbove key (map key_of rows)
@@ -40,4 +40,4 @@ with_rise byte s is =
     joined_rise 0 sections byte s are_divided (first_rise s.enrolment is.enrolment, (events, (preferences.0, (later_rise byte s.enrolment is.enrolment, (outbox, tt))))) preferences.1
 
 pub rows_rise : (s : ClientState) → IsConsistent s → AreRows (rows_of s)
-rows_rise s is = with_rise (participation s.enrolment) s is
+rows_rise s is = with_rise (participation_byte s.enrolment) s is

@@ -5,19 +5,19 @@ use Rattle.std.specs.Cmp.Lexicographic.{bytes_decides}
 use Rattle.row_batches.specs.Batch.{whole_of}
 use Rattle.row_batches.specs.declared.store_row.StoreRow.{StoreRow}
 use Rattle.row_batches.proofs.Cleared.{one_whole}
-use Rattle.row_batches.proofs.OneSpelling.{one_spelling as batch_spelling}
+use Rattle.row_batches.proofs.OneEncoding.{one_encoding as batch_encoding}
 use Rattle.event_counts.proofs.SameRows.{one_list_of_rows}
 use Rattle.change_outbox.proofs.OneList.{one_list}
 use Rattle.pref_bindings.proofs.OneList.{one_list as one_list_of_preferences}
 use Rattle.state_codec.specs.Forms.{AreParts, IsLaterForm}
-use Rattle.state_codec.specs.Spelling.{first_rows, later_rows}
+use Rattle.state_codec.specs.Encoding.{first_rows, later_rows}
 use Rattle.state_codec.proofs.Forms.{parts_read}
-use Rattle.state_codec.proofs.Spelled.{one_state}
+use Rattle.state_codec.proofs.Encoded.{one_state}
 use Rattle.client_state.specs.declared.client_state.ClientState.{ClientState}
-use Rattle.client_state.specs.Forms.{IsForm, IsSpelled}
+use Rattle.client_state.specs.Forms.{IsForm, IsEncoded}
 use Rattle.client_state.specs.Sections.{AreSoundParts, divided, ends}
 use Rattle.client_state.specs.Sound.{IsSound}
-use Rattle.client_state.specs.Spelling.{spelling, state_eq}
+use Rattle.client_state.specs.Encoding.{encoding, state_eq}
 use Rattle.client_state.proofs.Divided.{lists, own_sections, sections}
 use Rattle.client_state.proofs.Forms.{Text, byte_of, form_rises, form_rule, text_of_form}
 use Rattle.client_state.proofs.SectionsRead.{sound_parts}
@@ -50,17 +50,17 @@ one_form rows s t s_is t_is s_has t_has = one_of_parts rows s t (sound_parts s s
 
 one_text : (bytes : List ℕ) (s t : ClientState) → IsSound s → IsSound t → Text s bytes → Text t bytes → s ≡ t
 one_text bytes s t s_is t_is a b =
-    let whole : whole_of a.rows ≡ whole_of b.rows = batch_spelling (whole_of a.rows) (whole_of b.rows) (form_rule s a.rows s_is a.form) (form_rule t b.rows t_is b.form) (sym a.text ∙ b.text) in
+    let whole : whole_of a.rows ≡ whole_of b.rows = batch_encoding (whole_of a.rows) (whole_of b.rows) (form_rule s a.rows s_is a.form) (form_rule t b.rows t_is b.form) (sym a.text ∙ b.text) in
     let rows : a.rows ≡ b.rows = one_whole a.rows b.rows (form_rises s a.rows s_is.consistent a.form) (form_rises t b.rows t_is.consistent b.form) whole in
     one_form a.rows s t s_is t_is a.form (subst (IsForm t) (sym rows) b.form)
 
-pub one_spelled : (bytes : List ℕ) (s t : ClientState) → IsSound s → IsSound t → IsSpelled s bytes → IsSpelled t bytes → s ≡ t
-one_spelled bytes s t s_is t_is s_has t_has = one_text bytes s t s_is t_is (text_of_form s bytes s_has) (text_of_form t bytes t_has)
+pub one_encoded : (bytes : List ℕ) (s t : ClientState) → IsSound s → IsSound t → IsEncoded s bytes → IsEncoded t bytes → s ≡ t
+one_encoded bytes s t s_is t_is s_has t_has = one_text bytes s t s_is t_is (text_of_form s bytes s_has) (text_of_form t bytes t_has)
 
-pub one_spelling : (s t : ClientState) → IsSound s → IsSound t → spelling s ≡ spelling t → s ≡ t
-one_spelling s t s_is t_is same = one_spelled (spelling s) s t s_is t_is (inl refl) (inl same)
+pub one_encoding : (s t : ClientState) → IsSound s → IsSound t → encoding s ≡ encoding t → s ≡ t
+one_encoding s t s_is t_is same = one_encoded (encoding s) s t s_is t_is (inl refl) (inl same)
 
--- so the test of spellings tells sound states apart
+-- so the test of encodings tells sound states apart
 pub equal_are_one : (s t : ClientState) → IsSound s → IsSound t → IsTrue (state_eq s t) ↔ (s ≡ t)
 equal_are_one s t s_is t_is =
-    (λ equal. one_spelling s t s_is t_is ((bytes_decides (spelling s) (spelling t)).0 equal), λ same. (bytes_decides (spelling s) (spelling t)).1 (ap spelling same))
+    (λ equal. one_encoding s t s_is t_is ((bytes_decides (encoding s) (encoding t)).0 equal), λ same. (bytes_decides (encoding s) (encoding t)).1 (ap encoding same))

@@ -1,4 +1,4 @@
--- The rows of a state that isn't spelled in 4 GiB have room in a batch.
+-- The rows of a state that isn't encoded in 4 GiB have room in a batch.
 use Rattle.std.proofs.Common.{◌≤◌, ◌<◌, ◌^◌, ◌∷◌, [], List, ℕ, Bool, true, false, IsTrue, Option, Some, None, map, length, arith}
 use Rattle.std.specs.Prelude.{nat_lt, if◌then◌else◌}
 use Rattle.std.specs.List.{AllByRecursion}
@@ -17,12 +17,12 @@ use Rattle.pref_bindings.specs.Preferences.{IsPreference}
 use Rattle.pref_bindings.specs.Rows.{hold_row, hold_rows, value_rows}
 use Rattle.pref_bindings.specs.declared.preference.Hold.{Hold}
 use Rattle.pref_bindings.specs.declared.preference.Preference.{Preference}
-use Rattle.state_values.specs.Values.{participation}
-use Rattle.state_codec.specs.Spelling.{first_rows, later_rows}
+use Rattle.state_values.specs.Values.{participation_byte}
+use Rattle.state_codec.specs.Encoding.{first_rows, later_rows}
 use Rattle.state_codec.proofs.Room.{HaveShortKeys, short-append, first_short, later_short, room_of}
 use Rattle.client_state.specs.declared.client_state.ClientState.{ClientState}
 use Rattle.client_state.specs.Sound.{IsConsistent}
-use Rattle.client_state.specs.Spelling.{rows_with, rows_of, spelling}
+use Rattle.client_state.specs.Encoding.{rows_with, rows_of, encoding}
 
 events_short : (ns : List NameCounts) → AllByRecursion IsSoundName ns → HaveShortKeys (count_rows.rows_of ns)
 events_short [] sound = tt
@@ -67,6 +67,6 @@ keys_short byte s is =
 pub with_room : (byte : ℕ) (s : ClientState) → IsConsistent s → length (batch_text (whole_of (rows_with byte s))) < 2 ^ 32 → HaveRoom (rows_with byte s)
 with_room byte s is fits = room_of (rows_with byte s) (keys_short byte s is) (omega (arith, fits))
 
-pub rows_room : (s : ClientState) → IsConsistent s → length (spelling s) < 2 ^ 32 → HaveRoom (rows_of s)
-unfolding spelling
-rows_room s is fits = with_room (participation s.enrolment) s is fits
+pub rows_room : (s : ClientState) → IsConsistent s → length (encoding s) < 2 ^ 32 → HaveRoom (rows_of s)
+unfolding encoding
+rows_room s is fits = with_room (participation_byte s.enrolment) s is fits

@@ -1,15 +1,15 @@
 -- Rows are a form of a state exactly where their sections are those of its parts.
 use Rattle.std.proofs.Common.{◌≡◌, ◌∷◌, [], List, ℕ, inl, inr, get_or, sym, ap, ◌∙◌, subst}
 use Rattle.row_batches.specs.declared.store_row.StoreRow.{StoreRow}
-use Rattle.state_values.specs.Values.{bit, participation}
+use Rattle.state_values.specs.Values.{bit, participation_byte}
 use Rattle.state_codec.specs.Forms.{IsLaterForm}
-use Rattle.state_codec.specs.Spelling.{later_rows}
+use Rattle.state_codec.specs.Encoding.{later_rows}
 use Rattle.client_state.specs.declared.client_state.ClientState.{ClientState}
 use Rattle.client_state.specs.declared.sections.Sections.{Sections}
 use Rattle.client_state.specs.Forms.{IsForm}
 use Rattle.client_state.specs.Sections.{AreSoundParts, HasSections, divided, ends, lists_of}
 use Rattle.client_state.specs.Sound.{IsSound}
-use Rattle.client_state.specs.Spelling.{rows_with}
+use Rattle.client_state.specs.Encoding.{rows_with}
 use Rattle.client_state.proofs.Divided.{lists, of_sections, own_sections, sections as own}
 use Rattle.client_state.proofs.Forms.{byte_of}
 use Rattle.client_state.proofs.Lengths.{enrolment_sound}
@@ -37,7 +37,7 @@ rows_are byte s rows sections are has later =
     of_sections byte s rows (sym are ∙ (λ i. first i ∷ events i ∷ holds i ∷ later i ∷ outbox i ∷ values i ∷ []))
 
 form_by : (s : ClientState) (rows : List StoreRow) (sections : Sections) → lists_of sections ≡ divided ends rows → HasSections s sections → IsLaterForm s.enrolment sections.later.now → IsForm s rows
-form_by s rows sections are has (inl is) = inl (rows_are (participation s.enrolment) s rows sections are has is)
+form_by s rows sections are has (inl is) = inl (rows_are (participation_byte s.enrolment) s rows sections are has is)
 form_by s rows sections are has (inr old) = inr (record { one_flag = old.one_flag; same = rows_are (bit s.enrolment.experiments) s rows sections are has old.same })
 
 pub sections_form : (s : ClientState) (rows : List StoreRow) (sections : Sections) → lists_of sections ≡ divided ends rows → HasSections s sections → IsForm s rows

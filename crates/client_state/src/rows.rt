@@ -2,7 +2,7 @@
 ghost use Rattle.std.specs.Prelude.{◌≡◌, ◌++◌, IfOk};
 ghost use Rattle.row_batches.specs.Rows.{AreRows};
 ghost use Rattle.client_state.specs.Sound.{IsConsistent};
-ghost use Rattle.client_state.specs.Spelling.{rows_of};
+ghost use Rattle.client_state.specs.Encoding.{rows_of};
 
 use crate::client_state::ClientState;
 use row_batches::StoreRow;
@@ -11,7 +11,7 @@ use state_codec::{first_rows_of, later_rows_of};
 use std::alloc::{AllocError, Global};
 
 /// The rows of the state.
-#[tactic(auto, using(crate::proofs::KeyOrder::rows_rise), unfolding(crate::specs::Spelling::rows_with))]
+#[tactic(auto, using(crate::proofs::KeyOrder::rows_rise), unfolding(crate::specs::Encoding::rows_with))]
 pub(crate) fn rows_of(alloc: Global, state: &ClientState) -> Result<Sequence<StoreRow>, AllocError>
     requires { IsConsistent state.now }
     ensures rows { IfOk result (λ rows. rows ≡ rows_of state.now) }

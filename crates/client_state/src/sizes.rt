@@ -1,4 +1,4 @@
-// How many bytes a client's state is spelled in.
+// How many bytes a client's state is encoded in.
 ghost use Rattle.std.specs.Prelude.{◌≡◌, ◌≤◌, ◌+◌, ◌^◌, List, length};
 ghost use Rattle.std.specs.Option.{unwrap_or};
 ghost use Rattle.row_batches.specs.Batch.{puts_text};
@@ -22,12 +22,12 @@ use event_counts::Counts;
 use pref_bindings::Prefs;
 use state_codec::StateSizes;
 
-/// How many bytes a client's state is spelled in, and how many of them its parts take.
+/// How many bytes a client's state is encoded in, and how many of them its parts take.
 #[derive(Clone, Copy)]
 pub struct ClientSizes {
-    /// Of the whole spelling.
+    /// Of the whole encoding.
     pub total: u128,
-    /// Of the spelling of the enrolment.
+    /// Of the encoding of the enrolment.
     pub enrolment: StateSizes,
     /// Of the rows of counts.
     pub events: u128,

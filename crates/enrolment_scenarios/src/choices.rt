@@ -6,7 +6,7 @@ use crate::inputs::{recipes, slug};
 use crate::shown::{parts_text, state_text, status_text};
 use anyhow::{Context, Result, bail, ensure};
 use enrol_states::{
-    MAX_RECIPES, OptInFault, OptOutFault, Part, State, is_exclusive, opt_in, opt_out, participate,
+    Kinds, MAX_RECIPES, OptInFault, OptOutFault, State, is_exclusive, opt_in, opt_out, participate,
     reset,
 };
 use plain_text::{Slug, read_number};
@@ -96,14 +96,14 @@ fn without(alloc: Global, state: &State, name: &str) -> Result<State>
 }
 
 // Participation in a part is off or on: of one kind where the line names it, as in `rollouts off`.
-fn switch(line: &str) -> Option<(Part, bool)> {
+fn switch(line: &str) -> Option<(Kinds, bool)> {
     match line {
-        "off" => Some((Part::Both, false)),
-        "on" => Some((Part::Both, true)),
-        "experiments off" => Some((Part::Experiments, false)),
-        "experiments on" => Some((Part::Experiments, true)),
-        "rollouts off" => Some((Part::Rollouts, false)),
-        "rollouts on" => Some((Part::Rollouts, true)),
+        "off" => Some((Kinds::Both, false)),
+        "on" => Some((Kinds::Both, true)),
+        "experiments off" => Some((Kinds::Experiments, false)),
+        "experiments on" => Some((Kinds::Experiments, true)),
+        "rollouts off" => Some((Kinds::Rollouts, false)),
+        "rollouts on" => Some((Kinds::Rollouts, true)),
         _ => None,
     }
 }

@@ -6,7 +6,7 @@ use Rattle.row_batches.specs.Batch.{ChangeList, IsBatch, batch_text, applied, wh
 use Rattle.row_batches.specs.Batches.{HaveRoom}
 use Rattle.row_batches.specs.Rows.{AreRows}
 use Rattle.row_batches.specs.declared.store_row.StoreRow.{StoreRow}
-use Rattle.row_batches.proofs.OneSpelling.{one_spelling}
+use Rattle.row_batches.proofs.OneEncoding.{one_encoding}
 use Rattle.row_batches.proofs.Walks.{whole_rule, applied_whole}
 use Rattle.row_batches.proofs.Found.{rise_applied, room_applied}
 use Rattle.row_batches.specs.RowRoom.{AreSoundRows}
@@ -34,7 +34,7 @@ use Rattle.pair_store.proofs.Standing.{each_has_kept_list}
 use Rattle.pair_store.proofs.Unique.{one_list}
 
 same_batch : (payload : List ℕ) (b c : ChangeList) → IsBatchOf payload b → IsBatchOf payload c → b ≡ c
-same_batch payload b c b_is c_is = one_spelling b c b_is.rules c_is.rules (sym b_is.bytes ∙ c_is.bytes)
+same_batch payload b c b_is c_is = one_encoding b c b_is.rules c_is.rules (sym b_is.bytes ∙ c_is.bytes)
 
 pub one_fold : (payloads : List (List ℕ)) (before after other : List StoreRow) → Fold payloads before after → Fold payloads before other → after ≡ other
 one_fold [] before after other first second = sym first ∙ second

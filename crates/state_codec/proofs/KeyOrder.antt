@@ -12,8 +12,8 @@ use Rattle.enrol_states.proofs.Ordered.{map_itself}
 use Rattle.enrol_states.specs.declared.state.Row.{Row}
 use Rattle.row_batches.specs.Rows.{key_of, AreRows}
 use Rattle.row_batches.proofs.Joining.{Precede}
-use Rattle.state_values.specs.Values.{hyphenated, participation}
-use Rattle.state_codec.specs.Spelling.{row, key_row, recipe_row, status_row, status_rows, last_rows, pending_recipes, rows_behind_recipes, first_rows, later_rows, rows_with, rows_of}
+use Rattle.state_values.specs.Values.{hyphenated, participation_byte}
+use Rattle.state_codec.specs.Encoding.{row, key_row, recipe_row, status_row, status_rows, last_rows, pending_recipes, rows_behind_recipes, first_rows, later_rows, rows_with, rows_of}
 use Rattle.row_batches.specs.declared.store_row.StoreRow.{StoreRow}
 
 -- the key is below those of all these rows
@@ -177,4 +177,4 @@ module _ (byte : ℕ) (s : State) where
       (all_below (key_row (99 ∷ [])) s.coenrolling from_id features_below)
 
 pub rows_rise : (s : State) → IsConsistent s → AreRows (rows_of s)
-rows_rise s is = with_rise (participation s) s is
+rows_rise s is = with_rise (participation_byte s) s is

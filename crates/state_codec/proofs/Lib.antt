@@ -10,7 +10,7 @@ pub mod OneState
 pub mod Forms
 pub mod Migrating
 pub mod Fresh
-pub mod Spelled
+pub mod Encoded
 pub mod Valids
 pub mod Added
 pub mod KeyOrder

@@ -3,7 +3,7 @@ use Rattle.std.specs.Prelude.{List, map, codes}
 use Rattle.enrol_states.specs.declared.state.State.{State}
 use Rattle.row_batches.specs.Between.{changes_between}
 use Rattle.row_batches.specs.declared.change.RowChange.{RowChange}
-use Rattle.state_codec.specs.Spelling.{key_row, recipe_row, status_row, pending_recipes}
+use Rattle.state_codec.specs.Encoding.{key_row, recipe_row, status_row, pending_recipes}
 
 abbrev pub live_changes : State → State → List RowChange
 live_changes s t = changes_between (map (recipe_row (codes "l")) s.live) (map (recipe_row (codes "l")) t.live)

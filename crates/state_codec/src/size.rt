@@ -1,12 +1,12 @@
-// How many bytes a state is spelled in.
+// How many bytes a state is encoded in.
 ghost use Rattle.std.specs.Prelude.{◌≡◌, ◌≤◌, ◌<◌, ◌+◌, ◌^◌, ◌*◌, All, IsTrue, map, codes, length};
 ghost use Rattle.plain_text.specs.Names.{is_name};
 ghost use Rattle.enrol_states.specs.Consistent.{IsConsistent};
 ghost use Rattle.row_batches.specs.Batch.{puts_text};
-ghost use Rattle.state_codec.specs.Forms.{old_spelling};
+ghost use Rattle.state_codec.specs.Forms.{old_encoding};
 ghost use Rattle.state_codec.specs.RecipeLists.{HasLists};
 ghost use Rattle.state_codec.specs.Sizes.{recipes_size, rows_size, slugs_size, IsSizeOf};
-ghost use Rattle.state_codec.specs.Spelling.{spelling, key_row, pending_recipes};
+ghost use Rattle.state_codec.specs.Encoding.{encoding, key_row, pending_recipes};
 ghost use Rattle.state_codec.specs.Sound.{IsSound, HaveRecords, AreRecords};
 
 use crate::changes::pending_recipes;
@@ -24,10 +24,10 @@ pub(crate) const PUT: u128 = 7;
 /// the version without its value.
 const FRAME: u128 = 103;
 
-/// How many bytes a state is spelled in, and how many of them its lists take.
+/// How many bytes a state is encoded in, and how many of them its lists take.
 #[derive(Clone, Copy)]
 pub struct StateSizes {
-    /// Of the whole spelling.
+    /// Of the whole encoding.
     pub total: u128,
     /// Of the rows of live recipes.
     pub live: u128,
@@ -39,11 +39,11 @@ pub struct StateSizes {
     pub rows: u128,
 }
 
-/// How many bytes the state's spelling has, and its old form. It is counted without a text, and takes no memory.
+/// How many bytes the state's encoding has, and its old form. It is counted without a text, and takes no memory.
 pub fn state_size(state: &State) -> u128
     requires { IsConsistent state.now }
-    ensures size { result ≡ length (spelling state.now) }
-    ensures old_size { result ≡ length (old_spelling state.now) }
+    ensures size { result ≡ length (encoding state.now) }
+    ensures old_size { result ≡ length (old_encoding state.now) }
     ensures records { HaveRecords state.now }
 {
     sizes_of(state).total
@@ -165,10 +165,10 @@ fn status_rows_size(before: u128, old: &State, new: &State, recipes: RecipeLists
     before - removed + added
 }
 
-// How many bytes the spelling has beside the rows of recipes, of opted-out slugs and of statuses.
+// How many bytes the encoding has beside the rows of recipes, of opted-out slugs and of statuses.
 fn size_without_lists(state: &State) -> u128
     requires { All (λ name. IsTrue (is_name name)) state.now.coenrolling }
-    ensures size { length (spelling state.now)
+    ensures size { length (encoding state.now)
         ≡ result + (recipes_size state.now.live + recipes_size (pending_recipes state.now.pending)) + (slugs_size state.now.opted_out + rows_size state.now.rows) }
     ensures bound { result < 2 ^ 80 }
 {

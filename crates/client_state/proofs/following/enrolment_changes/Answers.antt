@@ -1,6 +1,6 @@
 -- The part's rows rise, and their changes are those of all rows.
 use Rattle.std.proofs.Common.{◌≡◌, List, ap, ap₂, subst, sym, ◌∙◌}
-use Rattle.state_codec.proofs.Spelled.{if_ok_weaker}
+use Rattle.state_codec.proofs.Encoded.{if_ok_weaker}
 use Rattle.enrol_states.specs.Order.{Rise}
 use Rattle.enrol_states.specs.State.{slugs_of}
 use Rattle.enrol_states.specs.declared.state.Row.{Row}

@@ -2,7 +2,7 @@
 use Rattle.std.proofs.Common.{◌∷◌, [], List, ℕ, ◌∙◌, ap}
 use Rattle.state_codec.specs.ListParts.{part_of_new, part_of_old}
 use Rattle.state_codec.specs.Sizes.{slugs_size}
-use Rattle.state_codec.specs.Spelling.{key_row}
+use Rattle.state_codec.specs.Encoding.{key_row}
 use Rattle.state_codec.proofs.ListParts.{removed_short, size_after}
 use Rattle.state_codec.proofs.size.opted_out_size.Goals as goal
 

@@ -3,7 +3,7 @@ use Rattle.std.proofs.Common.{List, ◌∙◌, ap}
 use Rattle.enrol_states.specs.declared.state.Row.{Row}
 use Rattle.state_codec.specs.ListParts.{part_of_new, part_of_old}
 use Rattle.state_codec.specs.Sizes.{rows_size}
-use Rattle.state_codec.specs.Spelling.{status_row}
+use Rattle.state_codec.specs.Encoding.{status_row}
 use Rattle.state_codec.proofs.ListParts.{removed_short, size_after}
 use Rattle.state_codec.proofs.size.status_rows_size.Goals as goal
 

@@ -3,19 +3,19 @@ use Rattle.std.proofs.Common.{◌≡◌, ◌≤◌, ◌+◌, List, [], ℕ, Bool
 use Rattle.std.specs.Prelude.{IfOk, if◌then◌else◌}
 use Rattle.enrol_states.specs.Consistent.{IsConsistent}
 use Rattle.enrol_states.specs.declared.state.State.{State}
-use Rattle.state_codec.specs.Forms.{IsForm, IsSpelled, MakesForm}
+use Rattle.state_codec.specs.Forms.{IsForm, IsEncoded, MakesForm}
 use Rattle.state_codec.specs.Reading.{state_in}
-use Rattle.state_codec.specs.Spelling.{rows_of, spelling}
+use Rattle.state_codec.specs.Encoding.{rows_of, encoding}
 use Rattle.state_codec.specs.Sound.{IsSound}
 use Rattle.row_batches.specs.Batch.{ChangeList, IsBatch, applied, batch_text, whole_of}
 use Rattle.row_batches.specs.Between.{changes_between, between}
 use Rattle.row_batches.specs.Rows.{after_changes}
 use Rattle.row_batches.specs.declared.change.RowChange.{RowChange}
 use Rattle.row_batches.proofs.Cleared.{cleared_is_whole}
-use Rattle.row_batches.proofs.OneSpelling.{one_spelling as batch_spelling}
+use Rattle.row_batches.proofs.OneEncoding.{one_encoding as batch_encoding}
 use Rattle.row_batches.proofs.Walks.{made_of_none}
 use Rattle.row_batches.specs.declared.store_row.StoreRow.{StoreRow}
-use Rattle.state_codec.proofs.Forms.{Text, form_rises, form_rule, form_spelled, text_of_form}
+use Rattle.state_codec.proofs.Forms.{Text, form_rises, form_rule, form_encoded, text_of_form}
 
 -- the rows that a batch makes of any, where it begins with a clear
 pub made_rows : (batch : ChangeList) (before after rows : List StoreRow) → batch.clear ≡ true → after ≡ applied batch before → rows ≡ after → rows ≡ after_changes batch.changes []
@@ -31,16 +31,16 @@ form_made s batch rows is made m =
     let same : rows ≡ m.rows = made ∙ ap (λ (b : ChangeList). after_changes b.changes []) m.whole ∙ made_of_none m.rows (form_rises s m.rows is m.form) in
     subst (IsForm s) (sym same) m.form
 
--- a batch of bytes that are spelled makes the form, and bytes of such a batch are spelled
+-- a batch of bytes that are encoded makes the form, and bytes of such a batch are encoded
 pub text_makes : (s : State) (bytes : List ℕ) (batch : ChangeList) → bytes ≡ batch_text batch → IsBatch batch → IsSound s → Text s bytes → MakesForm s batch
 text_makes s bytes batch text rules sound t =
-    record { rows = t.rows; form = t.form; whole = batch_spelling batch (whole_of t.rows) rules (form_rule s t.rows sound t.form) (sym text ∙ t.text) }
+    record { rows = t.rows; form = t.form; whole = batch_encoding batch (whole_of t.rows) rules (form_rule s t.rows sound t.form) (sym text ∙ t.text) }
 
-pub spelled_makes : (s : State) (bytes : List ℕ) (batch : ChangeList) → bytes ≡ batch_text batch → IsBatch batch → IsSound s → IsSpelled s bytes → MakesForm s batch
-spelled_makes s bytes batch text rules sound is = text_makes s bytes batch text rules sound (text_of_form s bytes is)
+pub encoded_makes : (s : State) (bytes : List ℕ) (batch : ChangeList) → bytes ≡ batch_text batch → IsBatch batch → IsSound s → IsEncoded s bytes → MakesForm s batch
+encoded_makes s bytes batch text rules sound is = text_makes s bytes batch text rules sound (text_of_form s bytes is)
 
-pub made_spelled : (s : State) (bytes : List ℕ) (batch : ChangeList) → bytes ≡ batch_text batch → MakesForm s batch → IsSpelled s bytes
-made_spelled s bytes batch text m = form_spelled s bytes m.rows m.form (text ∙ ap batch_text m.whole)
+pub made_encoded : (s : State) (bytes : List ℕ) (batch : ChangeList) → bytes ≡ batch_text batch → MakesForm s batch → IsEncoded s bytes
+made_encoded s bytes batch text m = form_encoded s bytes m.rows m.form (text ∙ ap batch_text m.whole)
 
 pub not_read : (first later : List StoreRow) (s : State) → state_in first later ≡ None → state_in first later ≡ Some s → ⊥
 not_read first later s none some = cc
@@ -54,13 +54,13 @@ if_ok_weaker P Q (Err e) more is = is
 
 -- ---- the batch from one state to the next
 
-pub whole_text : (s t : State) (batch : ChangeList) → applied batch (rows_of s) ≡ rows_of t → batch_text (whole_of (applied batch (rows_of s))) ≡ spelling t
-unfolding spelling
+pub whole_text : (s t : State) (batch : ChangeList) → applied batch (rows_of s) ≡ rows_of t → batch_text (whole_of (applied batch (rows_of s))) ≡ encoding t
+unfolding encoding
 whole_text s t batch gives = ap (λ (rows : List StoreRow). batch_text (whole_of rows)) gives
 
 pub short_text : (s t : State) (size : ℕ) (olds news : List StoreRow) → olds ≡ rows_of s → news ≡ rows_of t → size ≤ length (batch_text (whole_of olds)) + length (batch_text (whole_of news))
-    → size ≤ length (spelling s) + length (spelling t)
-unfolding spelling
+    → size ≤ length (encoding s) + length (encoding t)
+unfolding encoding
 short_text s t size olds news old_are new_are short =
     omega (arith, ap (λ (rows : List StoreRow). length (batch_text (whole_of rows))) old_are, ap (λ (rows : List StoreRow). length (batch_text (whole_of rows))) new_are)
 

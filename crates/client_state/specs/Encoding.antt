@@ -1,9 +1,9 @@
--- The rows of a client's state in the order of their keys, and its spelling: the batch that makes a store of them.
+-- The rows of a client's state in the order of their keys, and its encoding: the batch that makes a store of them.
 use Rattle.std.specs.Prelude.{ℕ, Bool, List, ◌++◌, bytes_eq}
 use Rattle.row_batches.specs.Batch.{batch_text, whole_of}
 use Rattle.row_batches.specs.declared.store_row.StoreRow.{StoreRow}
-use Rattle.state_values.specs.Values.{participation}
-use Rattle.state_codec.specs.Spelling.{first_rows, later_rows}
+use Rattle.state_values.specs.Values.{participation_byte}
+use Rattle.state_codec.specs.Encoding.{first_rows, later_rows}
 use Rattle.event_counts.specs.Rows as count_rows
 use Rattle.change_outbox.specs.Rows as change_rows
 use Rattle.pref_bindings.specs.Rows.{hold_rows, value_rows}
@@ -16,11 +16,11 @@ rows_with byte s =
     ++ (count_rows.rows_of s.events ++ (hold_rows s.preferences ++ (later_rows byte s.enrolment ++ (change_rows.rows_of s.outbox ++ value_rows s.preferences))))
 
 abbrev pub rows_of : ClientState → List StoreRow
-rows_of s = rows_with (participation s.enrolment) s
+rows_of s = rows_with (participation_byte s.enrolment) s
 
-unfoldable pub spelling : ClientState → List ℕ
-spelling s = batch_text (whole_of (rows_of s))
+unfoldable pub encoding : ClientState → List ℕ
+encoding s = batch_text (whole_of (rows_of s))
 
--- whether the states have one spelling; then sound states are the same
+-- whether the states have one encoding; then sound states are the same
 abbrev pub state_eq : ClientState → ClientState → Bool
-state_eq s t = bytes_eq (spelling s) (spelling t)
+state_eq s t = bytes_eq (encoding s) (encoding t)

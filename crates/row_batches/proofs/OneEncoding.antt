@@ -1,8 +1,8 @@
--- Batches that have one spelling are one.
+-- Batches that have one encoding are one.
 use Rattle.std.proofs.Common.{◌≡◌, ◌<◌, ◌++◌, ◌∷◌, [], List, ℕ, Bool, true, false, get_or, drop, ap, ◌∙◌, sym, refl, arith}
 use Rattle.std.specs.List.{AllByRecursion}
 use Rattle.row_batches.specs.Batch.{ChangeList, IsBatch, FitsFields, batch_text, changes_text, clear_text}
-use Rattle.row_batches.specs.Laws.{HasOneSpelling}
+use Rattle.row_batches.specs.Laws.{HasOneEncoding}
 use Rattle.row_batches.specs.declared.change.RowChange.{RowChange}
 use Rattle.row_batches.specs.declared.change.RowChange.TheVariants.{Put, Delete}
 use Rattle.row_batches.proofs.Texts.{same_changes}
@@ -22,8 +22,8 @@ both false false cs ds c_in d_in same = (refl, same_changes cs ds c_in d_in same
 both true false cs ds c_in d_in same = absurd (no_clear ds (changes_text cs) (sym same))
 both false true cs ds c_in d_in same = absurd (no_clear cs (changes_text ds) same)
 
-pub one_spelling : HasOneSpelling
-one_spelling b c b_is c_is same =
+pub one_encoding : HasOneEncoding
+one_encoding b c b_is c_is same =
     let parts = both b.clear c.clear b.changes c.changes b_is.room c_is.room same in
     λ i. record { clear = parts.0 i; changes = parts.1 i }
 

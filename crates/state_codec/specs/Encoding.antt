@@ -1,4 +1,4 @@
--- The rows of a state in the order of their keys, and its spelling: the batch that makes a store of them.
+-- The rows of a state in the order of their keys, and its encoding: the batch that makes a store of them.
 use Rattle.std.specs.Prelude.{ℕ, List, [], ◌∷◌, ◌++◌, map, Option, Some, None, codes}
 use Rattle.std.specs.Option.{is_some}
 use Rattle.row_batches.specs.Batch.{batch_text, whole_of}
@@ -7,7 +7,7 @@ use Rattle.recipe_reader.specs.declared.recipe.Recipe.{Recipe}
 use Rattle.enrol_states.specs.declared.state.State.{State}
 use Rattle.enrol_states.specs.declared.state.Row.{Row}
 use Rattle.state_values.specs.Statuses.{number, status_bytes}
-pub use Rattle.state_values.specs.Values.{hyphenated, recipe_text, bit, participation}
+pub use Rattle.state_values.specs.Values.{hyphenated, recipe_text, bit, participation_byte}
 
 -- the recipes that are pending, if any are
 abbrev pub pending_recipes : Option (List Recipe) → List Recipe
@@ -61,7 +61,7 @@ unfoldable pub rows_with : ℕ → State → List StoreRow
 rows_with byte s = first_rows s ++ later_rows byte s
 
 abbrev pub rows_of : State → List StoreRow
-rows_of s = rows_with (participation s) s
+rows_of s = rows_with (participation_byte s) s
 
-unfoldable pub spelling : State → List ℕ
-spelling s = batch_text (whole_of (rows_of s))
+unfoldable pub encoding : State → List ℕ
+encoding s = batch_text (whole_of (rows_of s))
