@@ -1,4 +1,8 @@
 -- The rows that are written are those of the new state.
+use Rattle.std.proofs.Common.{◌≡◌, OnErr, Result, Ok, Err, ap, ◌∙◌}
+use Rattle.row_store.specs.Store.{StoredRows}
+use Rattle.client_state.specs.declared.client_state.ClientState.{ClientState}
+use Rattle.client_store.specs.Stored.{StoredState}
 use Rattle.client_store.proofs.Storing.{stored_after, met_as_states}
 use Rattle.client_store.proofs.state_store.StateStore.commit.Goals as goal
 
@@ -15,3 +19,15 @@ returns-clause-stored g c = stored_after _ c.args.self.now c.self.view_is c.self
 pub returns-clause-any_moment : goal.returns-clause-any_moment
 returns-clause-any_moment g c tells gated =
     met_as_states _ c.args.self.now c.self.view_is c.self.invariant c.args.change c.requires.change g.H.Host c.args.host.now c.commit.new.host (c.commit.ensures.any_moment tells) gated
+
+-- what holds anyway holds where there is an error
+on_err : {T E P : Type 0} (r : Result T E) → P → OnErr r P
+on_err (Ok x) p = tt
+on_err (Err e) p = p
+
+abbrev with_rows : ClientState → StoredRows → StoredState
+with_rows s rows = record { rows = rows; state = s }
+
+pub returns-in_err-commit-clause-same : goal.returns-in_err-commit-clause-same
+returns-in_err-commit-clause-same g c =
+    on_err c.from_residual.result (ap (with_rows c.self.inside.state) c.in_err-commit.ensures.same ∙ c.self.view_is)
