@@ -127,7 +127,7 @@ impl Client {
     {
         match command {
             Command::Apply => applying(alloc, self.state(), &self.session, table, now),
-            Command::Participate { part, on } => participating(alloc, self.state(), *part, *on),
+            Command::Participate { kinds, on } => participating(alloc, self.state(), *kinds, *on),
             Command::OptOut { slug } => opting_out(alloc, self.state(), slug),
             Command::OptIn { slug, branch } => opting_in(alloc, self.state(), slug, branch),
             Command::Reset { id } => resetting(alloc, self.state(), *id),
