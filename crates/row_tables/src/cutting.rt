@@ -1,7 +1,7 @@
 // What a row's text is cut into, and what stands between parts of what is found.
 use crate::fault::Fault;
-use plain_text::read_number;
-use std::alloc::AllocError;
+use plain_text::{Slug, read_number, slug_of};
+use std::alloc::{AllocError, Global};
 
 /// A text before and behind its first space, or else the whole and an empty one.
 pub fn cut(text: &str) -> (&str, &str) {
@@ -11,6 +11,14 @@ pub fn cut(text: &str) -> (&str, &str) {
 /// A text before and behind its first ` | `.
 pub fn parts(text: &str) -> Result<(&str, &str), Fault> {
     text.split_once(" | ").ok_or(Fault::NoRow)
+}
+
+/// The slug that a text is.
+pub fn slug(alloc: Global, text: &str) -> Result<Slug, Fault> {
+    match slug_of(alloc, text.as_bytes()) {
+        Ok(slug) => Ok(slug),
+        Err(_) => Err(Fault::NoRow),
+    }
 }
 
 /// The number that a word spells.

@@ -14,17 +14,15 @@
 //! Any other line is no row, and counts as one that differs.
 #![tactic(auto)]
 
-mod answers;
 mod cutting;
 mod fault;
 mod judging;
 mod line;
 mod pieces;
-mod tables;
 
-pub use answers::{debugged, displayed, halves, word};
-pub use cutting::{add_between, add_bytes, add_none, add_texts, byte, count, cut, number, parts};
+pub use cutting::{
+    add_between, add_bytes, add_none, add_texts, byte, count, cut, number, parts, slug,
+};
 pub use fault::Fault;
 pub use judging::{Kinds, Question, report_on};
 pub use pieces::Piece;
-pub use tables::{Row, Tables};

@@ -1,0 +1,111 @@
+//! Rows on conflicts: which wishes are granted, where recipes of one kind share features.
+use enrol_conflicts::{Candidate, settle, slugs_rise};
+use recipe_reader::Kind;
+use row_tables::{Fault, add_texts, cut, slug};
+use sequences::{Sequence, Text};
+use std::alloc::{AllocError, Global};
+
+/// The slugs of the wishes that are granted, each with a comma before it, over the names of coenrolling features. Row:
+/// the wishes with `, ` between them, each a slug, `experiment` or `rollout`, the features with `+` between them, `in`
+/// or `out` as the client was enrolled or not, and the moment of publishing or `none`.
+pub(crate) fn find_granted(
+    alloc: Global,
+    coenrolling: &str,
+    input: &str,
+    found: &mut String,
+) -> Result<(), Fault> {
+    let mut wishes = Vec::new(alloc);
+    read_wishes(alloc, input, &mut wishes)?;
+    add_granted(alloc, &wishes, coenrolling, found)
+}
+
+fn add_granted(
+    alloc: Global,
+    wishes: &[Candidate],
+    coenrolling: &str,
+    found: &mut String,
+) -> Result<(), Fault> {
+    let coenrolling = texts(alloc, coenrolling)?;
+    add_settled(alloc, wishes, coenrolling.as_slice(), found)
+}
+
+fn add_settled(
+    alloc: Global,
+    wishes: &[Candidate],
+    coenrolling: &[Text],
+    found: &mut String,
+) -> Result<(), Fault> {
+    if !slugs_rise(wishes) {
+        return Err(Fault::NoRow);
+    }
+    let granted = settle(alloc, wishes, coenrolling)?;
+    Ok(add_slugs(wishes, granted.as_slice(), found)?)
+}
+
+// Adds the slugs of the wishes that are granted, each with a comma before it.
+fn add_slugs(wishes: &[Candidate], granted: &[bool], found: &mut String) -> Result<(), AllocError> {
+    for (wish, is_granted) in wishes.iter().zip(granted) {
+        if *is_granted {
+            add_texts(found, &[", ", wish.slug.text()])?;
+        }
+    }
+    Ok(())
+}
+
+fn read_wishes(alloc: Global, input: &str, wishes: &mut Vec<Candidate>) -> Result<(), Fault> {
+    for text in input.split(", ") {
+        wishes.push(wish(alloc, text)?)?;
+    }
+    Ok(())
+}
+
+fn wish(alloc: Global, text: &str) -> Result<Candidate, Fault> {
+    let (name, rest) = cut(text);
+    let (kind, rest) = cut(rest);
+    let (features, rest) = cut(rest);
+    let (enrolled, published) = cut(rest);
+    let (kind, published) = (kind_of(kind)?, moment_of(published)?);
+    let slug = slug(alloc, name)?;
+    let features = texts(alloc, features)?;
+    Ok(Candidate {
+        slug,
+        kind,
+        features,
+        was_enrolled: enrolled == "in",
+        published,
+    })
+}
+
+fn kind_of(text: &str) -> Result<Kind, Fault> {
+    match text {
+        "experiment" => Ok(Kind::Experiment),
+        "rollout" => Ok(Kind::Rollout),
+        _ => Err(Fault::NoRow),
+    }
+}
+
+fn moment_of(text: &str) -> Result<Option<i64>, Fault> {
+    if text == "none" {
+        return Ok(None);
+    }
+    match text.parse::<i64>() {
+        Ok(moment) => Ok(Some(moment)),
+        Err(_) => Err(Fault::NoRow),
+    }
+}
+
+// The texts between which there is a `+`.
+fn texts(alloc: Global, names: &str) -> Result<Sequence<Text>, AllocError> {
+    let mut texts = Sequence::new(alloc);
+    if !names.is_empty() {
+        add_names(alloc, names, &mut texts)?;
+    }
+    Ok(texts)
+}
+
+fn add_names(alloc: Global, names: &str, texts: &mut Sequence<Text>) -> Result<(), AllocError> {
+    for name in names.split('+') {
+        texts.push(Text::new(alloc, name)?)?;
+    }
+    Ok(())
+}
