@@ -59,7 +59,7 @@ parts_have_slugs bytes row kind slug branch c value text has is =
     let same = same_text kind c.kind slug c.slug branch c.branch (sym text ∙ value ∙ ap (λ (r : StoreRow). r.value) is) in
     (subst IsSlug (sym same.slug_is) has.slug, subst IsSlug (sym same.branch_is) has.branch)
 
--- the number of the next row is the one that it spells
+-- the number of the next row is the one that it encodes
 pub read_next : (bytes : List ℕ) (row : StoreRow) (number next : ℕ) → bytes ≡ row.value → bytes ≡ number_text number → number < 2 ^ 64 → next ≤ last_number → row ≡ next_row next → number ≡ next
 read_next bytes row number next value text fits most is = same_numbers number next fits (omega (arith, most)) (sym text ∙ value ∙ ap (λ (r : StoreRow). r.value) is)
 

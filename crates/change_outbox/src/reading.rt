@@ -134,7 +134,7 @@ pub(crate) struct Parts<'a> {
     pub branch: &'a [u8],
 }
 
-// The parts of a change that the bytes spell.
+// The parts of a change that the bytes encode.
 fn parts_of(bytes: &[u8]) -> Option<Parts<'_>>
     ensures some { IfSome result (λ parts. bytes.now ≡ change_text parts.kind parts.slug.now parts.branch.now) }
     ensures none { IsNone result → (kind : ChangeKind) (slug branch : List ℕ) → bytes.now ≡ change_text kind slug branch → ⊥ }

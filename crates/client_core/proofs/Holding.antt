@@ -3,7 +3,7 @@ use Rattle.std.proofs.Common.{◌≡◌}
 use Rattle.host_model.specs.declared.host.Host.{Ghosts}
 use Rattle.host_model.specs.declared.side.Side.{Side}
 use Rattle.host_model.specs.Moments.{KeepsSide}
-use Rattle.client_store.specs.OpenStore.{IsSettled, AllKept, AllStand}
+use Rattle.client_store.specs.OpenStore.{AreDurable, AllKept, AllStand}
 use Rattle.client_store.proofs.Holding as stores
 use Rattle.client_core.specs.declared.client.Client.{Client}
 use Rattle.client_core.specs.Clients.{state_of, end_of, IsOpenOn, HasGateOn, IsSameClient}
@@ -15,7 +15,7 @@ module _ {H : Type 0} (h : Ghosts H) (client : Client) (host : H) (open_on : IsO
   pub all_kept : HasGateOn h client host → AllKept h host (state_of client)
   all_kept gated = stores.all_kept h client.store host open_on gated
 
-  pub settled : IsSettled h host
+  pub settled : AreDurable h host
   settled = stores.settled h client.store host open_on
 
 -- and one with the same rows

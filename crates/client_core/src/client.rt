@@ -8,9 +8,9 @@ ghost use Rattle.pair_store.specs.Moments.{StaysBelow};
 ghost use Rattle.row_store.specs.Moments.{KeepsEitherRows};
 ghost use Rattle.row_store.specs.Rows.{HasRows};
 ghost use Rattle.client_state.specs.Sound.{IsConsistent, IsSound};
-ghost use Rattle.client_state.specs.Spelling.{rows_of};
+ghost use Rattle.client_state.specs.Encoding.{rows_of};
 ghost use Rattle.client_store.specs.Moments.{WhileWritten};
-ghost use Rattle.client_store.specs.OpenStore.{IsSettled, AllKept, AllKeptEither, AllStand};
+ghost use Rattle.client_store.specs.OpenStore.{AreDurable, AllKept, AllKeptEither, AllStand};
 ghost use Rattle.client_store.specs.Places.{place_after, bytes_for, makes_checkpoint};
 ghost use Rattle.client_steps.specs.Sessions.{changed_by};
 
@@ -100,7 +100,7 @@ impl Client {
         // After `Ok` each image is what reads give, and stands for the new state. It is kept for it where each was kept,
         // or where the state changed.
         ensures holds { OnOk result (H.tells → IsOpenOn H.Host self.new host.new) }
-        ensures settled { OnOk result (H.tells → IsSettled H.Host host.new) }
+        ensures settled { OnOk result (H.tells → AreDurable H.Host host.new) }
         ensures stands { OnOk result (H.tells → AllStand H.Host host.new (next_state self.old prepared)) }
         ensures kept { OnOk result (H.tells → HasGateOn H.Host self.old host.old → AllKept H.Host host.new (next_state self.old prepared)) }
         ensures kept_where { OnOk result (H.tells → state_of self.old ≢ next_state self.old prepared
@@ -160,7 +160,7 @@ impl Client {
         ensures rows { OnOk result (H.tells → HasRows (H.reads host.new Left) (H.reads host.new Right) (rows_of change.state)) }
 
         ensures holds { OnOk result (H.tells → IsOpenOn H.Host self.new host.new) }
-        ensures settled { OnOk result (H.tells → IsSettled H.Host host.new) }
+        ensures settled { OnOk result (H.tells → AreDurable H.Host host.new) }
         ensures stands { OnOk result (H.tells → AllStand H.Host host.new change.state) }
         ensures kept { OnOk result (H.tells → AllKept H.Host host.new change.state) }
         ensures gate { OnOk result (H.tells → HasGateOn H.Host self.new host.new) }

@@ -11,12 +11,12 @@ ghost use Rattle.pair_store.specs.Repair.{repair_cost, IsLeftByOpening};
 ghost use Rattle.client_state.specs.declared.client_state.ClientState.{ClientState};
 ghost use Rattle.enrol_states.specs.State.{last_moment};
 ghost use Rattle.row_store.specs.Rows.{HasRows, HasPlace};
-ghost use Rattle.client_state.specs.Spelling.{rows_of, spelling};
+ghost use Rattle.client_state.specs.Encoding.{rows_of, encoding};
 ghost use Rattle.client_store.specs.Finds.{MakeFinds, MakeFailed};
 ghost use Rattle.client_store.specs.Makings.{MakePhases};
 ghost use Rattle.client_store.specs.Moments.{IsQuiet, IsLeftAmong};
 ghost use Rattle.client_store.specs.NewStates.{fresh};
-ghost use Rattle.client_store.specs.OpenStore.{AllKept, AllKeptAmong, IsSettled};
+ghost use Rattle.client_store.specs.OpenStore.{AllKept, AllKeptAmong, AreDurable};
 ghost use Rattle.client_store.specs.Places.{making_bytes, place_made};
 ghost use Rattle.client_store.specs.Store.{IsStore, IsAbsent, IsBad};
 
@@ -33,10 +33,10 @@ impl Client {
     pub fn make<H: Host>(alloc: Global, host: &mut H, id: Uuid, now: u64) -> Result<(), MakeFault>
         requires { now ≤ last_moment }
         ensures made { OnOk result (H.tells → AllKept H.Host host.new (fresh id now)) }
-        ensures settled { OnOk result (H.tells → IsSettled H.Host host.new) }
-        ensures spelled { OnOk result (H.tells → HasRows (H.reads host.new Left) (H.reads host.new Right) (rows_of (fresh id now))) }
+        ensures settled { OnOk result (H.tells → AreDurable H.Host host.new) }
+        ensures encoded { OnOk result (H.tells → HasRows (H.reads host.new Left) (H.reads host.new Right) (rows_of (fresh id now))) }
         ensures place { OnOk result (H.tells → HasPlace (H.reads host.new Left) (H.reads host.new Right) (place_made (fresh id now))) }
-        ensures journal { OnOk result (H.tells → H.reads host.new Left ≡ made_on 0 (spelling (fresh id now)) (H.reads host.old Left)) }
+        ensures journal { OnOk result (H.tells → H.reads host.new Left ≡ made_on 0 (encoding (fresh id now)) (H.reads host.old Left)) }
         ensures right { OnOk result (H.tells → H.reads host.new Right ≡ 0 ∷ drop 1 (H.reads host.old Right)) }
 
         // What the pair was that it read, by its answer, and which answer each such pair has.

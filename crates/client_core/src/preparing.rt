@@ -6,7 +6,7 @@ ghost use Rattle.jexl_transforms.specs.Table.{HasStandardNames};
 ghost use Rattle.client_state.specs.Changes.{state_after, IsChangeOf, IsWholeChangeOf};
 ghost use Rattle.client_state.specs.Following.{followed, spends};
 ghost use Rattle.client_state.specs.Sound.{max_size};
-ghost use Rattle.client_state.specs.Spelling.{spelling};
+ghost use Rattle.client_state.specs.Encoding.{encoding};
 ghost use Rattle.client_words.specs.Commands.{IsCommand};
 ghost use Rattle.client_steps.specs.Asked.{asked_outcome, answer_for, changed_outcome, FollowsFrom, IsAnswerOrRefused};
 ghost use Rattle.client_steps.specs.Commands.{names_file, HasAsked};
@@ -233,7 +233,7 @@ impl Client {
 
     // The state is as before.
     fn unchanged(&self, session: SessionChange, answer: Answer) -> Prepared
-        ensures sound { length (spelling (state_of self.now)) ≤ max_size }
+        ensures sound { length (encoding (state_of self.now)) ≤ max_size }
         ensures made { IsMadeOn self.now result }
         ensures step { Leads self.now result (record { state = state_of self.now; session = changed_by (session_of self.now) session; answer = answer }) }
     {

@@ -1,5 +1,5 @@
--- The changes between the rows of two states are a batch, and the text of all rows after it is the spelling of the next state.
-use Rattle.std.proofs.Common.{◌≡◌, ◌≤◌, ◌<◌, ◌^◌, ◌+◌, false, List, Option, Some, None, length, sym, ap, ◌∙◌, subst}
+-- The changes between the rows of two states are a batch, and the text of all rows after it is the encoding of the next state.
+use Rattle.std.proofs.Common.{◌≡◌, ◌≤◌, ◌<◌, ◌^◌, ◌+◌, false, List, Option, Some, None, length, sym, ap, subst}
 use Rattle.std.specs.Option.{unwrap_or}
 use Rattle.enrol_states.specs.Consistent as states
 use Rattle.enrol_states.specs.declared.state.State.{State}
@@ -16,7 +16,7 @@ use Rattle.row_batches.proofs.Sizes.{between_short}
 use Rattle.row_batches.proofs.Walks.{between_rule, applied_between}
 use Rattle.client_state.specs.Changes.{ArePreferencesIf, AreSoundIf, IsNextOutboxIf, IsNextIf, IsWholeChangeOf, enrolment_after, state_after}
 use Rattle.client_state.specs.Sound.{IsConsistent}
-use Rattle.client_state.specs.Spelling.{rows_of, spelling}
+use Rattle.client_state.specs.Encoding.{rows_of, encoding}
 use Rattle.client_state.specs.declared.client_state.ClientState.{ClientState}
 use Rattle.client_state.specs.declared.state_change.NextEnrolment.{NextEnrolment}
 use Rattle.client_state.specs.declared.state_change.StateChange.{StateChange}
@@ -57,24 +57,20 @@ change_consistent s change is of =
 abbrev of_list : List RowChange → ChangeList
 of_list changes = record { clear = false; changes = changes }
 
-pub is_batch : (s t : ClientState) (changes : List RowChange) → IsConsistent s → IsConsistent t → length (spelling s) < 2 ^ 32 → length (spelling t) < 2 ^ 32
+pub is_batch : (s t : ClientState) (changes : List RowChange) → IsConsistent s → IsConsistent t → length (encoding s) < 2 ^ 32 → length (encoding t) < 2 ^ 32
     → changes ≡ changes_between (rows_of s) (rows_of t) → IsBatch (record { clear = false; changes = changes })
 is_batch s t changes s_is t_is s_fits t_fits are =
     subst (λ (cs : List RowChange). IsBatch (of_list cs)) (sym are)
     (between_rule (rows_of s) (rows_of t) (rows_rise s s_is) (rows_rise t t_is) (rows_room s s_is s_fits) (rows_room t t_is t_fits))
 
-pub batch_between : (s t : ClientState) (batch : ChangeList) (changes : List RowChange) → batch ≡ record { clear = false; changes = changes } → changes ≡ changes_between (rows_of s) (rows_of t)
-    → batch ≡ between (rows_of s) (rows_of t)
-batch_between s t batch changes is same = is ∙ ap of_list same
-
 pub gives_rows : (s t : ClientState) (batch : ChangeList) → IsConsistent s → IsConsistent t → batch ≡ between (rows_of s) (rows_of t) → applied batch (rows_of s) ≡ rows_of t
 gives_rows s t batch s_is t_is is = applied_between (rows_of s) (rows_of t) batch (rows_rise s s_is) (rows_rise t t_is) is
 
-pub gives_whole : (s t : ClientState) (batch : ChangeList) → IsConsistent s → IsConsistent t → batch ≡ between (rows_of s) (rows_of t) → batch_text (whole_of (applied batch (rows_of s))) ≡ spelling t
-unfolding spelling
+pub gives_whole : (s t : ClientState) (batch : ChangeList) → IsConsistent s → IsConsistent t → batch ≡ between (rows_of s) (rows_of t) → batch_text (whole_of (applied batch (rows_of s))) ≡ encoding t
+unfolding encoding
 gives_whole s t batch s_is t_is is = ap (λ rows. batch_text (whole_of rows)) (gives_rows s t batch s_is t_is is)
 
-pub is_short : (s t : ClientState) (batch : ChangeList) → batch ≡ between (rows_of s) (rows_of t) → length (batch_text batch) ≤ length (spelling s) + length (spelling t)
-unfolding spelling
+pub is_short : (s t : ClientState) (batch : ChangeList) → batch ≡ between (rows_of s) (rows_of t) → length (batch_text batch) ≤ length (encoding s) + length (encoding t)
+unfolding encoding
 is_short s t batch is =
     subst (λ (b : ChangeList). length (batch_text b) ≤ length (batch_text (whole_of (rows_of s))) + length (batch_text (whole_of (rows_of t)))) (sym is) (between_short (rows_of s) (rows_of t))

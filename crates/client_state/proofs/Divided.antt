@@ -1,55 +1,117 @@
--- Rows are divided by the bytes that begin their keys in one way.
-use Rattle.std.proofs.Common.{◌≡◌, ◌≤◌, ◌<◌, ◌+◌, ◌++◌, ◌∷◌, [], List, ℕ, Bool, true, false, Less, map, length, get_or, take, drop, refl, sym, ap, subst, arith}
-use Rattle.std.specs.Prelude.{◌&&◌, nat_le, nat_lt}
+-- The sections of the rows of states: how they are joined, and that rows are divided into them in one way.
+use Rattle.std.proofs.Common.{◌≡◌, ◌≤◌, ◌+◌, ◌++◌, ◌∷◌, [], List, ℕ, true, false, Less, map, length, get_or, take, drop, refl, sym, ap, ap₂, ◌∙◌, arith}
+use Rattle.std.specs.Prelude.{◌&&◌, nat_le, nat_lt, if◌then◌else◌}
 use Rattle.std.specs.Cmp.{nat_cmp_is}
 use Rattle.std.specs.Cmp.Lexicographic.{slice_cmp}
 use Rattle.std.specs.List.{AllByRecursion}
 use Rattle.std.specs.Ordering.{nat_cmp, ordering_then}
-use Rattle.std.proofs.lemmas.Bool.{leb-true, ltb-true, ltb-false, le-ltb}
-use Rattle.std.proofs.lemmas.List.{take_more}
-use Rattle.enrol_states.specs.declared.state.State.{State}
+use Rattle.std.proofs.lemmas.Bool.{and_parts, leb-true, ltb-true, ltb-false, le-ltb}
+use Rattle.std.proofs.lemmas.List.{take-append-drop}
+use Rattle.std.proofs.Math.Seq.{take-append_seam, drop-append_seam}
 use Rattle.row_batches.specs.Places.{AreAbove}
 use Rattle.row_batches.specs.Rows.{key_cmp, key_of}
 use Rattle.row_batches.specs.declared.store_row.StoreRow.{StoreRow}
 use Rattle.row_batches.proofs.Joining.{Precede}
 use Rattle.event_counts.specs.Rows as count_rows
-use Rattle.event_counts.specs.declared.name_counts.NameCounts.{NameCounts}
-use Rattle.change_outbox.specs.Contents.{Contents}
 use Rattle.change_outbox.specs.Rows as change_rows
 use Rattle.pref_bindings.specs.Rows.{hold_rows, value_rows}
-use Rattle.pref_bindings.specs.declared.preference.Preference.{Preference}
-use Rattle.state_codec.specs.Spelling.{first_rows, later_rows}
+use Rattle.state_codec.specs.Encoding.{first_rows, later_rows}
 use Rattle.state_codec.proofs.Letters.{all_append, first_all, later_all}
-use Rattle.client_state.specs.Sections.{is_below, AreBelow, StartsFrom}
+use Rattle.client_state.specs.Sections.{is_below, count_below, divided, ends}
+use Rattle.client_state.specs.Encoding.{rows_with}
 use Rattle.client_state.specs.declared.client_state.ClientState.{ClientState}
 use Rattle.client_state.proofs.Letters.{events_all, holds_all, outbox_all, values_all}
+
+-- ---- the sections
+
+-- a section of the rows of states, by the byte of participation: their keys are below that of the byte `end`
+pub record Section : Type 0 where
+  pub end : ℕ
+  pub rows : ℕ → ClientState → List StoreRow
+
+-- all but the last, which has the rows of values
+abbrev pub sections : List Section
+sections =
+    record { end = 101; rows = λ byte s. first_rows s.enrolment }
+    ∷ record { end = 102; rows = λ byte s. count_rows.rows_of s.events }
+    ∷ record { end = 105; rows = λ byte s. hold_rows s.preferences }
+    ∷ record { end = 120; rows = λ byte s. later_rows byte s.enrolment }
+    ∷ record { end = 121; rows = λ byte s. change_rows.rows_of s.outbox }
+    ∷ []
+
+-- the rows of these sections of the state, and of the last
+abbrev pub joined : List Section → ℕ → ClientState → List StoreRow
+joined [] byte s = value_rows s.preferences
+joined (x ∷ xs) byte s = x.rows byte s ++ joined xs byte s
+
+-- in lists of their own
+abbrev pub lists : List Section → ℕ → ClientState → List (List StoreRow)
+lists [] byte s = value_rows s.preferences ∷ []
+lists (x ∷ xs) byte s = x.rows byte s ∷ lists xs byte s
+
+-- ---- where they stand
 
 -- none of the rows has a key below that of the byte
 abbrev pub AreFrom : ℕ → List StoreRow → Type 0
 AreFrom end rows = AllByRecursion (λ r. is_below end r.key ≡ false) rows
 
-pub starts_from : (end : ℕ) (rows : List StoreRow) → AreFrom end rows → StartsFrom end rows
-starts_from end [] are = tt
-starts_from end (r ∷ rs) are = are.0
+abbrev AreBelow : ℕ → List StoreRow → Type 0
+AreBelow end rows = AllByRecursion (λ r. is_below end r.key ≡ true) rows
 
--- ---- one division
+-- the row's key is below that of the one byte, and not below that of the other
+abbrev IsWithin : ℕ → ℕ → StoreRow → Type 0
+IsWithin from end r = (is_below from r.key ≡ false) × (is_below end r.key ≡ true)
 
-apart : (b : Bool) → b ≡ true → b ≡ false → ⊥
-apart b is other = absurd cc
+-- the rows of the section, whatever the state is
+pub record Stands (from : ℕ) (x : Section) : Type 0 where
+  pub rise : from ≤ x.end
+  pub within : (byte : ℕ) (s : ClientState) → AllByRecursion (IsWithin from x.end) (x.rows byte s)
 
-pub one_division : (end : ℕ) (front behind start rest : List StoreRow) → AreBelow end front → AreBelow end start → StartsFrom end behind → StartsFrom end rest → front ++ behind ≡ start ++ rest
-    → (front ≡ start) × (behind ≡ rest)
-one_division end [] behind [] rest front_below start_below behind_from rest_from same = (refl, same)
-one_division end [] behind (s ∷ ss) rest front_below start_below behind_from rest_from same =
-    absurd (apart (is_below end s.key) start_below.0 (subst (StartsFrom end) same behind_from))
-one_division end (r ∷ rs) behind [] rest front_below start_below behind_from rest_from same =
-    absurd (apart (is_below end r.key) front_below.0 (subst (StartsFrom end) (sym same) rest_from))
-one_division end (r ∷ rs) behind (s ∷ ss) rest front_below start_below behind_from rest_from same =
-    let head : r ≡ s = ap (λ (l : List StoreRow). get_or l 0 r) same in
-    let tail = one_division end rs behind ss rest front_below.1 start_below.1 behind_from rest_from (ap (λ (l : List StoreRow). drop 1 l) same) in
-    (λ i. head i ∷ tail.0 i, tail.1)
+-- each section stands behind the one before
+abbrev pub AreDivided : ℕ → List Section → Type 0
+AreDivided from [] = (s : ClientState) → AreFrom from (value_rows s.preferences)
+AreDivided from (x ∷ xs) = Stands from x × AreDivided x.end xs
+
+letter_within : (letter : ℕ) → (nat_le 105 letter && nat_lt letter 120) ≡ true → (nat_lt letter 105 ≡ false) × (nat_lt letter 120 ≡ true)
+letter_within letter is = let parts = and_parts (nat_le 105 letter) (nat_lt letter 120) is in (le-ltb letter 105 (leb-true 105 letter parts.0), parts.1)
+
+pub are_divided : AreDivided 0 sections
+are_divided = (
+  record { rise = omega arith; within = λ byte s. first_all (IsWithin 0 101) s.enrolment (λ rest value. (refl, refl)) },
+  (
+    record { rise = omega arith; within = λ byte s. events_all (IsWithin 101 102) s.events (λ rest value. (refl, refl)) },
+    (
+      record { rise = omega arith; within = λ byte s. holds_all (IsWithin 102 105) s.preferences (λ rest value. (refl, refl)) },
+      (
+        record { rise = omega arith; within = λ byte s. later_all (IsWithin 105 120) byte s.enrolment (λ letter rest value is. letter_within letter is) },
+        (
+          record { rise = omega arith; within = λ byte s. outbox_all (IsWithin 120 121) s.outbox (λ rest value. (refl, refl)) },
+          λ s. values_all (λ r. is_below 121 r.key ≡ false) s.preferences (λ rest value. refl),
+        ),
+      ),
+    ),
+  ),
+)
 
 -- ---- the order of keys
+
+each_so : (P Q : StoreRow → Type 0) (rows : List StoreRow) → ((r : StoreRow) → P r → Q r) → AllByRecursion P rows → AllByRecursion Q rows
+each_so P Q [] so are = tt
+each_so P Q (r ∷ rs) so are = (so r are.0, each_so P Q rs so are.1)
+
+key_from : (low from : ℕ) (key : List ℕ) → low ≤ from → is_below from key ≡ false → is_below low key ≡ false
+key_from low from [] most is = absurd cc
+key_from low from (byte ∷ rest) most is = le-ltb byte low (omega (arith, most, ltb-false byte from is))
+
+-- the rows from a section on
+from_on : (low from : ℕ) (xs : List Section) (byte : ℕ) (s : ClientState) → low ≤ from → AreDivided from xs → AreFrom low (joined xs byte s)
+from_on low from [] byte s most are = each_so _ _ (value_rows s.preferences) (λ r is. key_from low from r.key most is) (are s)
+from_on low from (x ∷ xs) byte s most are =
+    all_append (λ r. is_below low r.key ≡ false) (x.rows byte s) (joined xs byte s) (each_so _ _ (x.rows byte s) (λ r is. key_from low from r.key most is.0) (are.0.within byte s))
+    (from_on low x.end xs byte s (omega (arith, most, are.0.rise)) are.1)
+
+below_end : (from : ℕ) (x : Section) (byte : ℕ) (s : ClientState) → Stands from x → AreBelow x.end (x.rows byte s)
+below_end from x byte s stands = each_so _ _ (x.rows byte s) (λ r is. is.1) (stands.within byte s)
 
 key_before : (end : ℕ) (key other : List ℕ) → is_below end key ≡ true → is_below end other ≡ false → key_cmp key other ≡ Less
 key_before end [] [] is from = absurd cc
@@ -62,86 +124,40 @@ keys_behind : (end : ℕ) (key : List ℕ) (behind : List StoreRow) → is_below
 keys_behind end key [] is from = tt
 keys_behind end key (r ∷ rs) is from = (key_before end key r.key is from.0, keys_behind end key rs is from.1)
 
--- rows below the byte come before those that aren't
-pub precede : (end : ℕ) (rows behind : List StoreRow) → AreBelow end rows → AreFrom end behind → Precede rows behind
-precede end [] behind below from = tt
-precede end (r ∷ rs) behind below from = (keys_behind end r.key behind below.0 from, precede end rs behind below.1 from)
+-- the rows of a section in any state come before those behind it in any other
+pub before : (from : ℕ) (x : Section) (xs : List Section) (b c : ℕ) (s t : ClientState) → AreDivided from (x ∷ xs) → Precede (x.rows b s) (joined xs c t)
+before from x xs b c s t are =
+    let behind = from_on x.end x.end xs c t (omega arith) are.1 in each_so _ _ (x.rows b s) (λ r below. keys_behind x.end r.key (joined xs c t) below behind) (below_end from x b s are.0)
 
--- ---- the rows of the parts
+-- ---- one division
 
-pub first_below : (e : State) → AreBelow 101 (first_rows e)
-first_below e = first_all (λ (r : StoreRow). is_below 101 r.key ≡ true) e (λ rest value. refl)
+count_joined : (end : ℕ) (front behind : List StoreRow) → AreBelow end front → AreFrom end behind → count_below end (front ++ behind) ≡ length front
+count_joined end [] [] below from = refl
+count_joined end [] (r ∷ rs) below from = ap (λ c. if c then 1 + count_below end rs else 0) from.0
+count_joined end (r ∷ rs) behind below from =
+    ap (λ c. if c then 1 + count_below end (rs ++ behind) else 0) below.0 ∙ ap (λ n. 1 + n) (count_joined end rs behind below.1 from) ∙ omega arith
 
-pub events_below : (ns : List NameCounts) → AreBelow 102 (count_rows.rows_of ns)
-events_below ns = events_all (λ (r : StoreRow). is_below 102 r.key ≡ true) ns (λ rest value. refl)
+divided_joined : (from : ℕ) (xs : List Section) (byte : ℕ) (s : ClientState) → AreDivided from xs → divided (map (λ (x : Section). x.end) xs) (joined xs byte s) ≡ lists xs byte s
+divided_joined from [] byte s are = refl
+divided_joined from (x ∷ xs) byte s are =
+    let front = x.rows byte s in
+    let behind = joined xs byte s in
+    let count = count_joined x.end front behind (below_end from x byte s are.0) (from_on x.end x.end xs byte s (omega arith) are.1) in
+    ap (λ n. take n (front ++ behind) ∷ divided (map (λ (y : Section). y.end) xs) (drop n (front ++ behind))) count
+    ∙ ap₂ (λ a b. a ∷ divided (map (λ (y : Section). y.end) xs) b) (take-append_seam front behind) (drop-append_seam front behind)
+    ∙ ap (λ l. front ∷ l) (divided_joined x.end xs byte s are.1)
 
-pub holds_below : (ps : List Preference) → AreBelow 105 (hold_rows ps)
-holds_below ps = holds_all (λ (r : StoreRow). is_below 105 r.key ≡ true) ps (λ rest value. refl)
+joined_divided : (xs : List Section) (byte : ℕ) (s : ClientState) (rows : List StoreRow) → divided (map (λ (x : Section). x.end) xs) rows ≡ lists xs byte s → rows ≡ joined xs byte s
+joined_divided [] byte s rows same = ap (λ l. get_or l 0 []) same
+joined_divided (x ∷ xs) byte s rows same =
+    let n = count_below x.end rows in
+    sym (take-append-drop n rows) ∙ ap₂ (λ a b. a ++ b) (ap (λ l. get_or l 0 []) same) (joined_divided xs byte s (drop n rows) (ap (λ l. drop 1 l) same))
 
-right : (a b : Bool) → (a && b) ≡ true → b ≡ true
-right true b is = is
-right false b is = absurd cc
+-- the sections of a state's rows are those of its parts
+pub own_sections : (byte : ℕ) (s : ClientState) → divided ends (rows_with byte s) ≡ lists sections byte s
+unfolding rows_with
+own_sections byte s = divided_joined 0 sections byte s are_divided
 
-pub later_below : (byte : ℕ) (e : State) → AreBelow 120 (later_rows byte e)
-later_below byte e = later_all (λ (r : StoreRow). is_below 120 r.key ≡ true) byte e (λ letter rest value is. right (nat_le 105 letter) (nat_lt letter 120) is)
-
-pub outbox_below : (o : Contents) → AreBelow 121 (change_rows.rows_of o)
-outbox_below o = outbox_all (λ (r : StoreRow). is_below 121 r.key ≡ true) o (λ rest value. refl)
-
-pub values_from : (end : ℕ) (ps : List Preference) → end ≤ 121 → AreFrom end (value_rows ps)
-values_from end ps most = values_all (λ (r : StoreRow). is_below end r.key ≡ false) ps (λ rest value. le-ltb 121 end most)
-
-outbox_from : (end : ℕ) (o : Contents) → end ≤ 120 → AreFrom end (change_rows.rows_of o)
-outbox_from end o most = outbox_all (λ (r : StoreRow). is_below end r.key ≡ false) o (λ rest value. le-ltb 120 end most)
-
-left : (a b : Bool) → (a && b) ≡ true → a ≡ true
-left true b is = refl
-left false b is = absurd cc
-
-letter_from : (end letter : ℕ) → end ≤ 105 → (nat_le 105 letter && nat_lt letter 120) ≡ true → nat_lt letter end ≡ false
-letter_from end letter most is = le-ltb letter end (omega (arith, most, leb-true 105 letter (left (nat_le 105 letter) (nat_lt letter 120) is)))
-
-later_from : (end byte : ℕ) (e : State) → end ≤ 105 → AreFrom end (later_rows byte e)
-later_from end byte e most = later_all (λ (r : StoreRow). is_below end r.key ≡ false) byte e (λ letter rest value is. letter_from end letter most is)
-
-holds_from : (end : ℕ) (ps : List Preference) → end ≤ 104 → AreFrom end (hold_rows ps)
-holds_from end ps most = holds_all (λ (r : StoreRow). is_below end r.key ≡ false) ps (λ rest value. le-ltb 104 end most)
-
-events_from : (end : ℕ) (ns : List NameCounts) → end ≤ 101 → AreFrom end (count_rows.rows_of ns)
-events_from end ns most = events_all (λ (r : StoreRow). is_below end r.key ≡ false) ns (λ rest value. le-ltb 101 end most)
-
--- ---- the rows of a state from those of a part on
-
-from_append : (end : ℕ) (rows behind : List StoreRow) → AreFrom end rows → AreFrom end behind → AreFrom end (rows ++ behind)
-from_append end rows behind are behind_are = all_append (λ (r : StoreRow). is_below end r.key ≡ false) rows behind are behind_are
-
-module _ (s : ClientState) where
-  abbrev pub from_outbox : List StoreRow
-  from_outbox = change_rows.rows_of s.outbox ++ value_rows s.preferences
-
-  abbrev pub from_later : ℕ → List StoreRow
-  from_later byte = later_rows byte s.enrolment ++ from_outbox
-
-  abbrev pub from_holds : ℕ → List StoreRow
-  from_holds byte = hold_rows s.preferences ++ from_later byte
-
-  abbrev pub from_events : ℕ → List StoreRow
-  from_events byte = count_rows.rows_of s.events ++ from_holds byte
-
-  pub behind_later : (end : ℕ) → end ≤ 120 → AreFrom end from_outbox
-  behind_later end most = from_append end (change_rows.rows_of s.outbox) (value_rows s.preferences) (outbox_from end s.outbox most) (values_from end s.preferences (omega (arith, most)))
-
-  pub behind_holds : (end byte : ℕ) → end ≤ 105 → AreFrom end (from_later byte)
-  behind_holds end byte most = from_append end (later_rows byte s.enrolment) from_outbox (later_from end byte s.enrolment most) (behind_later end (omega (arith, most)))
-
-  pub behind_events : (end byte : ℕ) → end ≤ 104 → AreFrom end (from_holds byte)
-  behind_events end byte most = from_append end (hold_rows s.preferences) (from_later byte) (holds_from end s.preferences most) (behind_holds end byte (omega (arith, most)))
-
-  pub behind_first : (end byte : ℕ) → end ≤ 101 → AreFrom end (from_events byte)
-  behind_first end byte most = from_append end (count_rows.rows_of s.events) (from_holds byte) (events_from end s.events most) (behind_events end byte (omega (arith, most)))
-
--- one row more that is below the byte
-pub below_more : (end : ℕ) (rows : List StoreRow) (i : ℕ) (r : StoreRow) → i < length rows → r ≡ get_or rows i r → AreBelow end (take i rows) → is_below end r.key ≡ true → AreBelow end (take (i + 1) rows)
-below_more end rows i r within is before here =
-    subst (AreBelow end) (sym (take_more rows i r within))
-    (all_append (λ (q : StoreRow). is_below end q.key ≡ true) (take i rows) (get_or rows i r ∷ []) before (subst (λ (q : StoreRow). is_below end q.key ≡ true) is here, tt))
+pub of_sections : (byte : ℕ) (s : ClientState) (rows : List StoreRow) → divided ends rows ≡ lists sections byte s → rows ≡ rows_with byte s
+unfolding rows_with
+of_sections byte s rows same = joined_divided sections byte s rows same

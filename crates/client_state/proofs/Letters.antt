@@ -11,7 +11,7 @@ use Rattle.change_outbox.specs.Rows.{change_row, change_text, next_row, next_row
 use Rattle.pref_bindings.specs.Rows.{hold_row, hold_rows, hold_text, value_row, value_rows, value_text}
 use Rattle.pref_bindings.specs.declared.preference.Hold.{Hold}
 use Rattle.pref_bindings.specs.declared.preference.Preference.{Preference}
-use Rattle.state_codec.specs.Spelling.{row}
+use Rattle.state_codec.specs.Encoding.{row}
 use Rattle.state_codec.proofs.Letters.{all_append, all_map}
 
 module _ (P : StoreRow → Type 0) where

@@ -12,5 +12,6 @@ pub mod Changed
 pub mod Migrating
 pub mod Ended
 pub mod HoldersAfter
+pub mod PartChanges
 pub mod Followed
 pub mod EnrolledHolders

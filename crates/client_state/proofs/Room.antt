@@ -1,11 +1,10 @@
--- The rows of a state that isn't spelled in 4 GiB have room in a batch.
+-- The rows of a state that isn't encoded in 4 GiB have room in a batch.
 use Rattle.std.proofs.Common.{◌≤◌, ◌<◌, ◌^◌, ◌∷◌, [], List, ℕ, Bool, true, false, IsTrue, Option, Some, None, map, length, arith}
 use Rattle.std.specs.Prelude.{nat_lt, if◌then◌else◌}
 use Rattle.std.specs.List.{AllByRecursion}
 use Rattle.plain_text.specs.Names.{is_name}
-use Rattle.row_batches.specs.Batch.{batch_text, puts_text, whole_of}
+use Rattle.row_batches.specs.Batch.{batch_text, whole_of}
 use Rattle.row_batches.specs.Batches.{HaveRoom}
-use Rattle.row_batches.specs.declared.store_row.StoreRow.{StoreRow}
 use Rattle.event_counts.specs.Rows as count_rows
 use Rattle.event_counts.specs.Sound.{IsSoundName}
 use Rattle.event_counts.specs.declared.name_counts.NameCounts.{NameCounts}
@@ -18,13 +17,12 @@ use Rattle.pref_bindings.specs.Preferences.{IsPreference}
 use Rattle.pref_bindings.specs.Rows.{hold_row, hold_rows, value_rows}
 use Rattle.pref_bindings.specs.declared.preference.Hold.{Hold}
 use Rattle.pref_bindings.specs.declared.preference.Preference.{Preference}
-use Rattle.state_values.specs.Values.{participation}
-use Rattle.state_codec.specs.Spelling.{first_rows, later_rows}
+use Rattle.state_values.specs.Values.{participation_byte}
+use Rattle.state_codec.specs.Encoding.{first_rows, later_rows}
 use Rattle.state_codec.proofs.Room.{HaveShortKeys, short-append, first_short, later_short, room_of}
 use Rattle.client_state.specs.declared.client_state.ClientState.{ClientState}
 use Rattle.client_state.specs.Sound.{IsConsistent}
-use Rattle.client_state.specs.Spelling.{rows_with, rows_of, spelling}
-use Rattle.client_state.proofs.Divided.{from_outbox, from_later, from_holds, from_events}
+use Rattle.client_state.specs.Encoding.{rows_with, rows_of, encoding}
 
 events_short : (ns : List NameCounts) → AllByRecursion IsSoundName ns → HaveShortKeys (count_rows.rows_of ns)
 events_short [] sound = tt
@@ -60,18 +58,15 @@ values_short (p ∷ ps) are = (omega (arith, name_short p.name are.0.name), valu
 keys_short : (byte : ℕ) (s : ClientState) → IsConsistent s → HaveShortKeys (rows_with byte s)
 unfolding rows_with
 keys_short byte s is =
-    let last = short-append (change_rows.rows_of s.outbox) (value_rows s.preferences) (outbox_short s.outbox) (values_short s.preferences is.preferences.each) in
-    let later = short-append (later_rows byte s.enrolment) (from_outbox s) (later_short byte s.enrolment is.enrolment) last in
-    let holds = short-append (hold_rows s.preferences) (from_later s byte) (holds_short s.preferences is.preferences.each) later in
-    let events = short-append (count_rows.rows_of s.events) (from_holds s byte) (events_short s.events is.events.names) holds in
-    short-append (first_rows s.enrolment) (from_events s byte) (first_short s.enrolment is.enrolment) events
-
-puts_fit : (rows : List StoreRow) → length (batch_text (whole_of rows)) < 2 ^ 32 → length (puts_text rows) < 2 ^ 32
-puts_fit rows fits = omega (arith, fits)
+    short-append (first_rows s.enrolment) _ (first_short s.enrolment is.enrolment)
+    (short-append (count_rows.rows_of s.events) _ (events_short s.events is.events.names)
+    (short-append (hold_rows s.preferences) _ (holds_short s.preferences is.preferences.each)
+    (short-append (later_rows byte s.enrolment) _ (later_short byte s.enrolment is.enrolment)
+    (short-append (change_rows.rows_of s.outbox) _ (outbox_short s.outbox) (values_short s.preferences is.preferences.each)))))
 
 pub with_room : (byte : ℕ) (s : ClientState) → IsConsistent s → length (batch_text (whole_of (rows_with byte s))) < 2 ^ 32 → HaveRoom (rows_with byte s)
-with_room byte s is fits = room_of (rows_with byte s) (keys_short byte s is) (puts_fit (rows_with byte s) fits)
+with_room byte s is fits = room_of (rows_with byte s) (keys_short byte s is) (omega (arith, fits))
 
-pub rows_room : (s : ClientState) → IsConsistent s → length (spelling s) < 2 ^ 32 → HaveRoom (rows_of s)
-unfolding spelling
-rows_room s is fits = with_room (participation s.enrolment) s is fits
+pub rows_room : (s : ClientState) → IsConsistent s → length (encoding s) < 2 ^ 32 → HaveRoom (rows_of s)
+unfolding encoding
+rows_room s is fits = with_room (participation_byte s.enrolment) s is fits

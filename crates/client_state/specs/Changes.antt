@@ -60,7 +60,7 @@ with_users_value name value s = record s { preferences = set_by_user name value 
 
 -- ---- which changes a state may have
 
--- a client can have the next enrolment, and its lists of recipes are those of before, as far as it says so
+-- a client can have the next enrolment, and its lists are those of before, as far as it says so
 pub record IsNext (e : State) (next : NextEnrolment) : Type 0 where
   pub consistent : states.IsConsistent next.state
   pub recipes : HasLists next.recipes e next.state

@@ -6,7 +6,7 @@ use Rattle.row_batches.specs.declared.store_row.StoreRow.{StoreRow}
 use Rattle.state_values.specs.Values.{bit}
 use Rattle.state_codec.specs.Forms.{HasOneFlag}
 use Rattle.client_state.specs.declared.client_state.ClientState.{ClientState}
-use Rattle.client_state.specs.Spelling.{rows_with, rows_of, spelling}
+use Rattle.client_state.specs.Encoding.{rows_with, rows_of, encoding}
 pub use Rattle.state_codec.specs.Forms.{needs_migration}
 
 -- the old form of the rows of a state with one flag: the byte of participation is 0 where it is off, and 1 where it is on
@@ -14,8 +14,8 @@ abbrev pub old_rows : ClientState → List StoreRow
 old_rows s = rows_with (bit s.enrolment.experiments) s
 
 -- the bytes of a clear and of a put of each row of the old form
-unfoldable pub old_spelling : ClientState → List ℕ
-old_spelling s = batch_text (whole_of (old_rows s))
+unfoldable pub old_encoding : ClientState → List ℕ
+old_encoding s = batch_text (whole_of (old_rows s))
 
 -- these rows are the old form of the state
 pub record IsOldForm (s : ClientState) (rows : List StoreRow) : Type 0 where
@@ -26,11 +26,11 @@ pub record IsOldForm (s : ClientState) (rows : List StoreRow) : Type 0 where
 abbrev pub IsForm : ClientState → List StoreRow → Type 0
 IsForm s rows = (rows ≡ rows_of s) ⊎ IsOldForm s rows
 
--- these bytes spell the old form of the state
-pub record IsOldSpelling (s : ClientState) (bytes : List ℕ) : Type 0 where
+-- these bytes encode the old form of the state
+pub record IsOldEncoding (s : ClientState) (bytes : List ℕ) : Type 0 where
   pub one_flag : HasOneFlag s.enrolment
-  pub same : bytes ≡ old_spelling s
+  pub same : bytes ≡ old_encoding s
 
--- these bytes are the spelling of the state, or spell its old form
-abbrev pub IsSpelled : ClientState → List ℕ → Type 0
-IsSpelled s bytes = (bytes ≡ spelling s) ⊎ IsOldSpelling s bytes
+-- these bytes are the encoding of the state, or encode its old form
+abbrev pub IsEncoded : ClientState → List ℕ → Type 0
+IsEncoded s bytes = (bytes ≡ encoding s) ⊎ IsOldEncoding s bytes

@@ -1,5 +1,5 @@
 pub mod Parts
-pub mod Spelling
+pub mod Encoding
 pub mod Forms
 pub mod Sound
 pub mod Changes

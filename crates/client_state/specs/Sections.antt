@@ -1,6 +1,5 @@
 -- Sections of rows, by the bytes that begin their keys.
-use Rattle.std.specs.Prelude.{◌≡◌, ℕ, nat_lt, Bool, true, false, List, [], ◌∷◌, ◌++◌, ⊤}
-use Rattle.std.specs.List.{AllByRecursion}
+use Rattle.std.specs.Prelude.{◌≡◌, ◌+◌, ℕ, nat_lt, Bool, true, if◌then◌else◌, List, [], ◌∷◌, take, drop}
 use Rattle.row_batches.specs.declared.store_row.StoreRow.{StoreRow}
 use Rattle.state_codec.specs.Forms.{AreParts}
 use Rattle.state_codec.specs.Sound as enrolments
@@ -18,32 +17,23 @@ abbrev pub is_below : ℕ → List ℕ → Bool
 is_below end [] = true
 is_below end (byte ∷ rest) = nat_lt byte end
 
--- each of the rows has such a key
-abbrev pub AreBelow : ℕ → List StoreRow → Type 0
-AreBelow end rows = AllByRecursion (λ r. is_below end r.key ≡ true) rows
+-- how many rows stand before the first whose key isn't below that of the byte
+abbrev pub count_below : ℕ → List StoreRow → ℕ
+count_below end [] = 0
+count_below end (r ∷ rows) = if is_below end r.key then 1 + count_below end rows else 0
 
--- the first row, where there is one, has another key
-abbrev pub StartsFrom : ℕ → List StoreRow → Type 0
-StartsFrom end [] = ⊤
-StartsFrom end (r ∷ rows) = is_below end r.key ≡ false
+-- the sections of rows: up to the first whose key isn't below that of each byte in turn, and all others
+abbrev pub divided : List ℕ → List StoreRow → List (List StoreRow)
+divided [] rows = rows ∷ []
+divided (end ∷ ends) rows = take (count_below end rows) rows ∷ divided ends (drop (count_below end rows) rows)
 
--- the section is what the rows begin with, up to the first whose key isn't below that of the byte
-pub record IsSection (end : ℕ) (section rest rows : List StoreRow) : Type 0 where
-  pub split : rows ≡ section ++ rest
-  pub below : AreBelow end section
-  pub end_there : StartsFrom end rest
+-- 'e', 'f', 'i', 'x' and 'y'
+abbrev pub ends : List ℕ
+ends = 101 ∷ 102 ∷ 105 ∷ 120 ∷ 121 ∷ []
 
--- the sections of rows, one after the other: up to 'e', up to 'f', up to 'i', up to 'x', up to 'y', and all others
-pub record AreSections (sections : Sections) (rows : List StoreRow) : Type 0 where
-  pub behind_first : List StoreRow
-  pub behind_events : List StoreRow
-  pub behind_holds : List StoreRow
-  pub behind_later : List StoreRow
-  pub first : IsSection 101 sections.first.now behind_first rows
-  pub events : IsSection 102 sections.events.now behind_events behind_first
-  pub holds : IsSection 105 sections.holds.now behind_holds behind_events
-  pub later : IsSection 120 sections.later.now behind_later behind_holds
-  pub outbox : IsSection 121 sections.outbox.now sections.values.now behind_later
+-- the rows of each section
+abbrev pub lists_of : Sections → List (List StoreRow)
+lists_of sections = sections.first.now ∷ sections.events.now ∷ sections.holds.now ∷ sections.later.now ∷ sections.outbox.now ∷ sections.values.now ∷ []
 
 -- the sections have the rows of the state's parts, or those of its old form
 pub record HasSections (s : ClientState) (sections : Sections) : Type 0 where

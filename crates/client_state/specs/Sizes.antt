@@ -1,4 +1,4 @@
--- How many bytes a client's state is spelled in, and how many of them its parts take.
+-- How many bytes a client's state is encoded in, and how many of them its parts take.
 use Rattle.std.specs.Prelude.{◌≡◌, length}
 use Rattle.row_batches.specs.Batch.{puts_text}
 use Rattle.state_codec.specs.Sizes as codec
@@ -7,11 +7,11 @@ use Rattle.change_outbox.specs.Rows as change_rows
 use Rattle.pref_bindings.specs.Rows as preference_rows
 use Rattle.client_state.specs.declared.client_state.ClientState.{ClientState}
 use Rattle.client_state.specs.declared.sizes.ClientSizes.{ClientSizes}
-use Rattle.client_state.specs.Spelling.{spelling}
+use Rattle.client_state.specs.Encoding.{encoding}
 
--- these are the sizes of the state's spelling, of its enrolment, and of the rows of its parts
+-- these are the sizes of the state's encoding, of its enrolment, and of the rows of its parts
 pub record IsSizeOf (s : ClientState) (sizes : ClientSizes) : Type 0 where
-  pub total : sizes.total ≡ length (spelling s)
+  pub total : sizes.total ≡ length (encoding s)
   pub enrolment : codec.IsSizeOf s.enrolment sizes.enrolment
   pub events : sizes.events ≡ length (puts_text (count_rows.rows_of s.events))
   pub outbox : sizes.outbox ≡ length (puts_text (change_rows.rows_of s.outbox))

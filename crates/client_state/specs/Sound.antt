@@ -10,7 +10,7 @@ use Rattle.pref_bindings.specs.Preferences as preference_lists
 use Rattle.pref_bindings.specs.declared.preference.Hold.{Hold}
 use Rattle.pref_bindings.specs.declared.preference.Preference.{Preference}
 use Rattle.client_state.specs.declared.client_state.ClientState.{ClientState}
-use Rattle.client_state.specs.Spelling.{spelling}
+use Rattle.client_state.specs.Encoding.{encoding}
 pub use Rattle.state_codec.specs.Sound.{max_size, AreRecords, HaveRecords}
 
 -- ---- who holds preferences
@@ -29,7 +29,7 @@ HaveEnrolledHolders e ps = AllByRecursion (λ p. HasEnrolledHolder e p.hold) ps
 
 -- ---- the states
 
--- a state that a client can have, but for the length of its spelling
+-- a state that a client can have, but for the length of its encoding
 pub record IsConsistent (s : ClientState) : Type 0 where
   pub enrolment : states.IsConsistent s.enrolment
   pub events : counts.IsSound s.events
@@ -40,4 +40,4 @@ pub record IsConsistent (s : ClientState) : Type 0 where
 pub record IsSound (s : ClientState) : Type 0 where
   pub consistent : IsConsistent s
   pub records : HaveRecords s.enrolment
-  pub size : length (spelling s) ≤ max_size
+  pub size : length (encoding s) ≤ max_size

@@ -1,18 +1,18 @@
-// The batches of a client state's rows: the one that makes them, whose bytes are the state's spelling, and the one that changes them
+// The batches of a client state's rows: the one that makes them, whose bytes are the state's encoding, and the one that changes them
 // to the next state's.
 ghost use Rattle.std.specs.Prelude.{◌≡◌, ◌≤◌, ◌<◌, ◌+◌, ◌^◌, [], length, IfOk};
 ghost use Rattle.std.specs.Option.{unwrap_or};
 ghost use Rattle.enrol_states.specs.Consistent as states;
 ghost use Rattle.row_batches.specs.Batch.{applied, batch_text, whole_of};
 ghost use Rattle.row_batches.specs.Between.{changes_between, between};
-ghost use Rattle.state_values.specs.Values.{participation};
-ghost use Rattle.state_codec.specs.Spelling.{first_rows, later_rows};
+ghost use Rattle.state_values.specs.Values.{participation_byte};
+ghost use Rattle.state_codec.specs.Encoding.{first_rows, later_rows};
 ghost use Rattle.event_counts.specs.Rows as count_rows;
 ghost use Rattle.change_outbox.specs.Rows as change_rows;
 ghost use Rattle.pref_bindings.specs.Rows.{hold_rows, value_rows};
 ghost use Rattle.client_state.specs.Changes.{IsNextIf, IsNextOutboxIf, IsWholeChangeOf, enrolment_after, state_after};
 ghost use Rattle.client_state.specs.Sound.{IsConsistent};
-ghost use Rattle.client_state.specs.Spelling.{rows_of, spelling};
+ghost use Rattle.client_state.specs.Encoding.{rows_of, encoding};
 
 use crate::client_state::ClientState;
 use crate::rows::{joined, rows_of};
@@ -26,13 +26,13 @@ use sequences::Sequence;
 use state_codec::{first_changes, later_changes};
 use std::alloc::{AllocError, Global};
 
-/// The batch that makes the state's rows: a clear of all rows, and a put of each. Its bytes are the state's spelling.
-#[tactic(auto, using(crate::proofs::Room::rows_room), unfolding(crate::specs::Spelling::spelling))]
+/// The batch that makes the state's rows: a clear of all rows, and a put of each. Its bytes are the state's encoding.
+#[tactic(auto, using(crate::proofs::Room::rows_room), unfolding(crate::specs::Encoding::encoding))]
 pub fn whole_batch(alloc: Global, state: &ClientState) -> Result<Batch, AllocError>
     requires state { IsConsistent state.now }
-    requires size { length (spelling state.now) < 2 ^ 32 }
+    requires size { length (encoding state.now) < 2 ^ 32 }
     ensures batch { IfOk result (λ batch. batch ≡ whole_of (rows_of state.now)) }
-    ensures text { IfOk result (λ batch. batch_text batch ≡ spelling state.now) }
+    ensures text { IfOk result (λ batch. batch_text batch ≡ encoding state.now) }
     ensures gives { IfOk result (λ batch. applied batch [] ≡ rows_of state.now) }
 {
     let rows = rows_of(alloc, state)?;
@@ -41,7 +41,8 @@ pub fn whole_batch(alloc: Global, state: &ClientState) -> Result<Batch, AllocErr
 
 /// The batch from the rows of a state to those that it has after a change: a put for each row that is new or differs, a delete for
 /// each that is gone, and nothing else. A row is made only where it changes. Parts that the change doesn't have aren't looked at,
-/// and of the enrolment no list of recipes that is as before.
+/// and of the enrolment no list, or part of one, that is said to be as before.
+#[tactic(auto, using(crate::proofs::Changed::change_consistent, crate::proofs::Changed::gives_rows, crate::proofs::Changed::gives_whole, crate::proofs::Changed::is_short))]
 pub fn changes_to(
     alloc: Global,
     old: &ClientState,
@@ -49,20 +50,21 @@ pub fn changes_to(
 ) -> Result<Batch, AllocError>
     requires old_state { IsConsistent old.now }
     requires change { IsWholeChangeOf old.now change.now }
-    requires old_size { length (spelling old.now) < 2 ^ 32 }
-    requires new_size { length (spelling (state_after change.now old.now)) < 2 ^ 32 }
+    requires old_size { length (encoding old.now) < 2 ^ 32 }
+    requires new_size { length (encoding (state_after change.now old.now)) < 2 ^ 32 }
     ensures between { IfOk result (λ batch. batch ≡ between (rows_of old.now) (rows_of (state_after change.now old.now))) }
     ensures gives { IfOk result (λ batch. applied batch (rows_of old.now) ≡ rows_of (state_after change.now old.now)) }
 
-    // The bytes of a clear and of a put of each row that stands after the batch are the spelling of the next state.
-    ensures whole { IfOk result (λ batch. batch_text (whole_of (applied batch (rows_of old.now))) ≡ spelling (state_after change.now old.now)) }
-    ensures size { IfOk result (λ batch. length (batch_text batch) ≤ length (spelling old.now) + length (spelling (state_after change.now old.now))) }
+    // The bytes of a clear and of a put of each row that stands after the batch are the encoding of the next state.
+    ensures whole { IfOk result (λ batch. batch_text (whole_of (applied batch (rows_of old.now))) ≡ encoding (state_after change.now old.now)) }
+    ensures size { IfOk result (λ batch. length (batch_text batch) ≤ length (encoding old.now) + length (encoding (state_after change.now old.now))) }
 {
     let changes = row_changes(alloc, old, change)?;
     Ok(Batch::of_changes(changes))
 }
 
 // The changes from the rows of a state to those that it has after a change.
+#[tactic(auto, using(crate::proofs::Joined::all_between))]
 fn row_changes(
     alloc: Global,
     old: &ClientState,
@@ -72,30 +74,36 @@ fn row_changes(
     requires change { IsWholeChangeOf old.now change.now }
     ensures { IfOk result (λ changes. changes ≡ changes_between (rows_of old.now) (rows_of (state_after change.now old.now))) }
 {
-    let first = first_row_changes(alloc, &old.enrolment, &change.enrolment)?;
+    let (first, later) = enrolment_changes(alloc, &old.enrolment, &change.enrolment)?;
     let events = event_changes(alloc, &old.events, &change.events)?;
-    let holds = hold_changes(alloc, &old.preferences, &change.preferences)?;
-    let later = later_row_changes(alloc, &old.enrolment, &change.enrolment)?;
     let outbox = outbox_changes(alloc, &old.outbox, &change.outbox)?;
-    let values = value_changes(alloc, &old.preferences, &change.preferences)?;
+    let (holds, values) = preference_changes(alloc, &old.preferences, &change.preferences)?;
     joined(first, events, holds, later, outbox, values)
 }
 
-// The changes of the enrolment's first rows.
-fn first_row_changes(
+// The changes of the enrolment's first rows, and of its later ones.
+#[tactic(auto, using(state_codec::proofs::Joined::between_itself))]
+fn enrolment_changes(
     alloc: Global,
     old: &State,
     next: &Option<NextEnrolment>,
-) -> Result<Sequence<RowChange>, AllocError>
-    ensures { IfOk result (λ changes. changes ≡ changes_between (first_rows old.now) (first_rows (enrolment_after next.now old.now))) }
+) -> Result<(Sequence<RowChange>, Sequence<RowChange>), AllocError>
+    requires old_state { states.IsConsistent old.now }
+    requires next { IsNextIf old.now next.now }
+    ensures first { IfOk result (λ changes. changes.0 ≡ changes_between (first_rows old.now) (first_rows (enrolment_after next.now old.now))) }
+    ensures later { IfOk result (λ changes. changes.1 ≡ changes_between (later_rows (participation_byte old.now) old.now) (later_rows (participation_byte (enrolment_after next.now old.now)) (enrolment_after next.now old.now))) }
 {
     match next {
-        Some(next) => first_changes(alloc, old, &next.state),
-        None => Ok(Sequence::new(alloc)),
+        Some(next) => Ok((
+            first_changes(alloc, old, &next.state)?,
+            later_changes(alloc, old, &next.state, next.recipes)?,
+        )),
+        None => Ok((Sequence::new(alloc), Sequence::new(alloc))),
     }
 }
 
 // The changes of the counts' rows.
+#[tactic(auto, using(state_codec::proofs::Joined::between_itself))]
 fn event_changes(
     alloc: Global,
     old: &Counts,
@@ -109,37 +117,8 @@ fn event_changes(
     }
 }
 
-// The changes of the rows of holds.
-fn hold_changes(
-    alloc: Global,
-    old: &Prefs,
-    next: &Option<Prefs>,
-) -> Result<Sequence<RowChange>, AllocError>
-    ensures { IfOk result (λ changes. changes ≡ changes_between (hold_rows old.now) (hold_rows (unwrap_or next.now old.now))) }
-{
-    match next {
-        Some(next) => old.hold_changes_to(alloc, next),
-        None => Ok(Sequence::new(alloc)),
-    }
-}
-
-// The changes of the enrolment's later rows.
-fn later_row_changes(
-    alloc: Global,
-    old: &State,
-    next: &Option<NextEnrolment>,
-) -> Result<Sequence<RowChange>, AllocError>
-    requires old_state { states.IsConsistent old.now }
-    requires next { IsNextIf old.now next.now }
-    ensures { IfOk result (λ changes. changes ≡ changes_between (later_rows (participation old.now) old.now) (later_rows (participation (enrolment_after next.now old.now)) (enrolment_after next.now old.now))) }
-{
-    match next {
-        Some(next) => later_changes(alloc, old, &next.state, next.recipes),
-        None => Ok(Sequence::new(alloc)),
-    }
-}
-
 // The changes of the outbox's rows.
+#[tactic(auto, using(state_codec::proofs::Joined::between_itself))]
 fn outbox_changes(
     alloc: Global,
     old: &Outbox,
@@ -154,16 +133,21 @@ fn outbox_changes(
     }
 }
 
-// The changes of the rows of preferences' values.
-fn value_changes(
+// The changes of the rows of holds, and of those of values.
+#[tactic(auto, using(state_codec::proofs::Joined::between_itself))]
+fn preference_changes(
     alloc: Global,
     old: &Prefs,
     next: &Option<Prefs>,
-) -> Result<Sequence<RowChange>, AllocError>
-    ensures { IfOk result (λ changes. changes ≡ changes_between (value_rows old.now) (value_rows (unwrap_or next.now old.now))) }
+) -> Result<(Sequence<RowChange>, Sequence<RowChange>), AllocError>
+    ensures holds { IfOk result (λ changes. changes.0 ≡ changes_between (hold_rows old.now) (hold_rows (unwrap_or next.now old.now))) }
+    ensures values { IfOk result (λ changes. changes.1 ≡ changes_between (value_rows old.now) (value_rows (unwrap_or next.now old.now))) }
 {
     match next {
-        Some(next) => old.value_changes_to(alloc, next),
-        None => Ok(Sequence::new(alloc)),
+        Some(next) => Ok((
+            old.hold_changes_to(alloc, next)?,
+            old.value_changes_to(alloc, next)?,
+        )),
+        None => Ok((Sequence::new(alloc), Sequence::new(alloc))),
     }
 }

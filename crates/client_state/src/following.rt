@@ -1,26 +1,28 @@
 // What follows a change of the enrolment.
 ghost use Rattle.std.specs.Prelude.{◌≡◌, ◌+◌, false, nat_lt, length, IfOk, IsErrOf, IsTrue, option_map};
 ghost use Rattle.std.specs.Option.{unwrap_or};
+ghost use Rattle.enrol_states.specs.Consistent as states;
 ghost use Rattle.change_outbox.specs.Contents as contents;
-ghost use Rattle.change_outbox.specs.Contents.{Contents, IsMadeOf, appended, last_number};
-ghost use Rattle.client_state.specs.Changes.{HasHoldersOfBefore, IsChangeOf, IsNextOutbox, IsNextOutboxIf, IsWholeChangeOf, state_after};
-ghost use Rattle.client_state.specs.Following.{followed, spends};
+ghost use Rattle.change_outbox.specs.Contents.{Contents, IsMadeOf, appended, last_number, numbered};
+ghost use Rattle.client_state.specs.Changes.{HasHoldersOfBefore, IsChangeOf, IsNext, IsNextOutbox, IsNextOutboxIf, IsWholeChangeOf, state_after};
+ghost use Rattle.client_state.specs.Following.{changes_from, followed, spends};
 ghost use Rattle.client_state.specs.Sound.{IsConsistent};
 
 use crate::client_state::ClientState;
 use crate::preference_changes::{Sources, changes_done};
-use crate::state_change::StateChange;
+use crate::state_change::{NextEnrolment, StateChange};
 use change_outbox::{AppendChangesFault, Change, Outbox, changes_of};
+use enrol_states::State;
 use fml_types::Manifest;
 use pref_bindings::Bindings;
 use sequences::Sequence;
-use std::alloc::Global;
+use std::alloc::{AllocError, Global};
 
 /// The change with what follows it: where it has a next enrolment, the outbox gets the changes of enrolments under its next numbers,
 /// and the preferences do their leaves and then their joins. A join sets what the branch of the slug's live recipe sets of the bound
 /// preferences, where there are a manifest and bindings. Where no enrolment changes, both stay as they are. `ChangesSpent` comes
-/// exactly where the outbox's next number would pass 9,223,372,036,854,775,807. The rows of both enrolments are walked once, and the
-/// texts of entries are shared. The state is lent to the outbox, and stays the same.
+/// exactly where the outbox's next number would pass 9,223,372,036,854,775,807. Of the rows of both enrolments the part is walked
+/// once that may differ, and the texts of entries are shared. The state is lent to the outbox, and stays the same.
 #[tactic(auto, using(crate::proofs::Followed::none_followed, crate::proofs::Followed::none_whole, crate::proofs::Followed::none_spent, crate::proofs::Followed::empty_followed, crate::proofs::Followed::empty_whole, crate::proofs::Followed::empty_spent, crate::proofs::Followed::all_followed, crate::proofs::Followed::all_whole, crate::proofs::Followed::all_spent))]
 pub fn follow(
     alloc: Global,
@@ -41,11 +43,7 @@ pub fn follow(
     let Some(next) = &change.enrolment else {
         return Ok(change);
     };
-    let changes = changes_of(
-        alloc,
-        state.enrolment.rows.as_slice(),
-        next.state.rows.as_slice(),
-    )?;
+    let changes = enrolment_changes(alloc, &state.enrolment, next)?;
     if changes.is_empty() {
         return Ok(change);
     }
@@ -66,6 +64,24 @@ pub fn follow(
         preferences: Some(preferences),
         ..change
     })
+}
+
+// The changes from the enrolment to the next one, numbered from 0. Of the rows the part alone is looked at that may differ.
+fn enrolment_changes(
+    alloc: Global,
+    old: &State,
+    next: &NextEnrolment,
+) -> Result<Sequence<Change>, AllocError>
+    requires old_state { states.IsConsistent old.now }
+    requires next { IsNext old.now next.now }
+    ensures { IfOk result (λ changes. changes ≡ numbered 0 (changes_from old.now next.now.state)) }
+{
+    let part = next.recipes.row_part(old, &next.state);
+    changes_of(
+        alloc,
+        part.of_old(old.rows.as_slice()),
+        part.of_new(next.state.rows.as_slice()),
+    )
 }
 
 // The next outbox, or else that of before, with the changes. That of before is lent, and stays the same.

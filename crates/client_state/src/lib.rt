@@ -1,6 +1,6 @@
 //! The state of a client with its parts, the enrolment, the counts of events, the outbox of changes of enrolments and the
-//! preferences: its rows in a store, its one spelling, what changes its rows to those of the next state, what follows a change of
-//! the enrolment, how many bytes it is spelled in, and the state of rows.
+//! preferences: its rows in a store, its one encoding, what changes its rows to those of the next state, what follows a change of
+//! the enrolment, how many bytes it is encoded in, and the state of rows.
 #![tactic(auto)]
 
 mod changes;
@@ -22,7 +22,7 @@ pub use changes::{changes_to, whole_batch};
 pub use client_state::ClientState;
 pub use ending::end_enrolment;
 pub use following::follow;
-pub use laws::{empty_parts, one_spelling, one_state};
+pub use laws::{empty_parts, one_encoding, one_state};
 pub use old_form::{migration, needs_migration};
 pub use preference_setting::set_preference;
 pub use reading::client_state_of;

@@ -53,7 +53,7 @@ fn state_in(alloc: Global, sections: &Sections) -> Result<ClientState, CodecFaul
     })
 }
 
-// Whether the parts of the state fit each other, and its spelling isn't too long.
+// Whether the parts of the state fit each other, and its encoding isn't too long.
 fn is_whole(state: &ClientState) -> bool
     requires { AreSoundParts state.now }
     ensures { IsTrue result ↔ IsSound state.now }

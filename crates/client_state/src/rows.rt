@@ -2,7 +2,7 @@
 ghost use Rattle.std.specs.Prelude.{◌≡◌, ◌++◌, IfOk};
 ghost use Rattle.row_batches.specs.Rows.{AreRows};
 ghost use Rattle.client_state.specs.Sound.{IsConsistent};
-ghost use Rattle.client_state.specs.Spelling.{rows_of};
+ghost use Rattle.client_state.specs.Encoding.{rows_of};
 
 use crate::client_state::ClientState;
 use row_batches::StoreRow;
@@ -11,6 +11,7 @@ use state_codec::{first_rows_of, later_rows_of};
 use std::alloc::{AllocError, Global};
 
 /// The rows of the state.
+#[tactic(auto, using(crate::proofs::KeyOrder::rows_rise), unfolding(crate::specs::Encoding::rows_with))]
 pub(crate) fn rows_of(alloc: Global, state: &ClientState) -> Result<Sequence<StoreRow>, AllocError>
     requires { IsConsistent state.now }
     ensures rows { IfOk result (λ rows. rows ≡ rows_of state.now) }
@@ -37,15 +38,10 @@ pub(crate) fn joined<T: Drop>(
     ensures { IfOk result (λ all. all ≡ first ++ (second ++ (third ++ (fourth ++ (fifth ++ sixth))))) }
 {
     let mut all = first.into_vec();
-    let mut second = second.into_vec();
-    let mut third = third.into_vec();
-    let mut fourth = fourth.into_vec();
-    let mut fifth = fifth.into_vec();
-    let mut sixth = sixth.into_vec();
-    all.append(&mut second)?;
-    all.append(&mut third)?;
-    all.append(&mut fourth)?;
-    all.append(&mut fifth)?;
-    all.append(&mut sixth)?;
+    all.append(&mut second.into_vec())?;
+    all.append(&mut third.into_vec())?;
+    all.append(&mut fourth.into_vec())?;
+    all.append(&mut fifth.into_vec())?;
+    all.append(&mut sixth.into_vec())?;
     Ok(Sequence::from_vec(all))
 }

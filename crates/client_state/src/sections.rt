@@ -1,6 +1,6 @@
 // Sections of rows, by the bytes that begin their keys.
-ghost use Rattle.std.specs.Prelude.{◌≡◌};
-ghost use Rattle.client_state.specs.Sections.{AreSections, IsSection, is_below};
+ghost use Rattle.std.specs.Prelude.{◌≡◌, ◌≤◌, length, take, drop};
+ghost use Rattle.client_state.specs.Sections.{count_below, divided, ends, is_below, lists_of};
 
 use row_batches::StoreRow;
 
@@ -23,7 +23,7 @@ pub(crate) struct Sections<'a> {
 
 /// The sections of the rows. None is copied.
 pub(crate) fn sections_of(rows: &[StoreRow]) -> Sections<'_>
-    ensures { AreSections result rows.now }
+    ensures { lists_of result ≡ divided ends rows.now }
 {
     let (first, behind) = section(rows, b'e');
     let (events, behind) = section(behind, b'f');
@@ -42,14 +42,23 @@ pub(crate) fn sections_of(rows: &[StoreRow]) -> Sections<'_>
 
 // The rows up to the first whose key isn't below that of the byte, and those from it on.
 fn section(rows: &[StoreRow], end: u8) -> (&[StoreRow], &[StoreRow])
-    ensures { IsSection end result.0.now result.1.now rows.now }
+    ensures front { result.0.now ≡ take (count_below end rows.now) rows.now }
+    ensures behind { result.1.now ≡ drop (count_below end rows.now) rows.now }
+{
+    rows.split_at(count_below(rows, end))
+}
+
+// How many rows stand before the first whose key isn't below that of the byte.
+fn count_below(rows: &[StoreRow], end: u8) -> usize
+    ensures count { result ≡ count_below end rows.now }
+    ensures within { result ≤ length rows.now }
 {
     for place in 0..rows.len() {
         if !is_below(rows[place].key.as_slice(), end) {
-            return rows.split_at(place);
+            return place;
         }
     }
-    (rows, &[])
+    rows.len()
 }
 
 fn is_below(key: &[u8], end: u8) -> bool

@@ -1,4 +1,4 @@
-// How many bytes a client's state is spelled in.
+// How many bytes a client's state is encoded in.
 ghost use Rattle.std.specs.Prelude.{◌≡◌, ◌≤◌, ◌+◌, ◌^◌, List, length};
 ghost use Rattle.std.specs.Option.{unwrap_or};
 ghost use Rattle.row_batches.specs.Batch.{puts_text};
@@ -22,12 +22,12 @@ use event_counts::Counts;
 use pref_bindings::Prefs;
 use state_codec::StateSizes;
 
-/// How many bytes a client's state is spelled in, and how many of them its parts take.
+/// How many bytes a client's state is encoded in, and how many of them its parts take.
 #[derive(Clone, Copy)]
 pub struct ClientSizes {
-    /// Of the whole spelling.
+    /// Of the whole encoding.
     pub total: u128,
-    /// Of the spelling of the enrolment.
+    /// Of the encoding of the enrolment.
     pub enrolment: StateSizes,
     /// Of the rows of counts.
     pub events: u128,
@@ -51,7 +51,8 @@ pub fn sizes_of(state: &ClientState) -> ClientSizes
 }
 
 /// The sizes of the state after a change, by those of the state before. Parts that the change doesn't have aren't looked at, and of
-/// the enrolment's recipes only those are counted that are gone, new or differ. It takes no memory.
+/// the enrolment's recipes only those are counted that are gone, new or differ. Of its opted-out slugs and of its rows only those
+/// are counted that may differ. It takes no memory.
 pub fn sizes_after(before: ClientSizes, old: &ClientState, change: &StateChange) -> ClientSizes
     requires before { IsSizeOf old.now before }
     requires old_state { IsSound old.now }

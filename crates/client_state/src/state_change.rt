@@ -18,7 +18,7 @@ pub struct StateChange {
     pub preferences: Option<Prefs>,
 }
 
-/// The next enrolment, and which of its lists of recipes are those of before.
+/// The next enrolment, and which of its lists are those of before.
 #[derive(Drop)]
 pub struct NextEnrolment {
     pub state: State,
@@ -38,15 +38,13 @@ impl StateChange {
         }
     }
 
-    /// A change to this enrolment, of which the lists of recipes are as before as far as it is said. It takes no memory.
+    /// A change to this enrolment, of which the lists are as before as far as it is said. It takes no memory.
     pub fn of_enrolment(state: State, recipes: RecipeLists) -> StateChange
         ensures { result ≡ of_enrolment state recipes }
     {
         StateChange {
             enrolment: Some(NextEnrolment { state, recipes }),
-            events: None,
-            outbox: None,
-            preferences: None,
+            ..StateChange::none()
         }
     }
 
@@ -55,10 +53,8 @@ impl StateChange {
         ensures { result ≡ of_events events }
     {
         StateChange {
-            enrolment: None,
             events: Some(events),
-            outbox: None,
-            preferences: None,
+            ..StateChange::none()
         }
     }
 
@@ -67,10 +63,8 @@ impl StateChange {
         ensures { result ≡ of_both state recipes events }
     {
         StateChange {
-            enrolment: Some(NextEnrolment { state, recipes }),
             events: Some(events),
-            outbox: None,
-            preferences: None,
+            ..StateChange::of_enrolment(state, recipes)
         }
     }
 
@@ -79,10 +73,8 @@ impl StateChange {
         ensures { result ≡ of_outbox outbox }
     {
         StateChange {
-            enrolment: None,
-            events: None,
             outbox: Some(outbox),
-            preferences: None,
+            ..StateChange::none()
         }
     }
 
@@ -92,26 +84,6 @@ impl StateChange {
     {
         match &self.enrolment {
             Some(next) => &next.state,
-            None => before,
-        }
-    }
-
-    /// The next counts, or those of before.
-    pub(crate) fn events_or<'a>(&'a self, before: &'a Counts) -> &'a Counts
-        ensures { result.now ≡ unwrap_or self.now.events before.now }
-    {
-        match &self.events {
-            Some(events) => events,
-            None => before,
-        }
-    }
-
-    /// The next outbox, or that of before.
-    pub(crate) fn outbox_or<'a>(&'a self, before: &'a Outbox) -> &'a Outbox
-        ensures { result.now ≡ unwrap_or self.now.outbox before.now }
-    {
-        match &self.outbox {
-            Some(outbox) => outbox,
             None => before,
         }
     }

@@ -15,7 +15,7 @@ use Rattle.fml_types.specs.declared.manifest.Manifest.{Manifest}
 use Rattle.fml_value.specs.Typed.{TypedValue}
 use Rattle.feature_serving.specs.Serving.{served}
 use Rattle.client_state.specs.Sound.{max_size}
-use Rattle.client_state.specs.Spelling.{spelling}
+use Rattle.client_state.specs.Encoding.{encoding}
 use Rattle.client_state.specs.declared.client_state.ClientState.{ClientState}
 use Rattle.client_words.specs.declared.answer.Answer.{Answer}
 use Rattle.client_words.specs.declared.answer.Answer.TheVariants.{Okay, EventLimit, NoSuchChange, StateTooLarge}
@@ -42,7 +42,7 @@ module _ (at : Setting) (s : ClientState) (session : Session) where
   Keeps (Refused answer) = Unit {0}
 
   done-keeps : (asked : Outcome) → Keeps asked → (done s session asked).state.events ≡ s.events
-  done-keeps (Accepted t next answer) keeps = either_step (λ to. to.state.events ≡ s.events) (nat_lt max_size (length (spelling t))) _ _ refl keeps
+  done-keeps (Accepted t next answer) keeps = either_step (λ to. to.state.events ≡ s.events) (nat_lt max_size (length (encoding t))) _ _ refl keeps
   done-keeps (Refused answer) keeps = refl
 
   enrolment-keeps : (asked : EnrolmentOutcome) → Keeps (enrolling s session asked)
@@ -92,7 +92,7 @@ module _ (at : Setting) (s : ClientState) (session : Session) where
 
   -- what a command that changes them leaves, where it isn't refused
   changes_at : (command : Command) (t : ClientState) → counts_after at.now command false s.events ≡ s.events → t.events ≡ counts_after at.now command true s.events → (large : Bool)
-      → let to : Step = if large then record { state = s; session = session; answer = StateTooLarge (length (spelling t)) } else record { state = t; session = session; answer = Okay } in
+      → let to : Step = if large then record { state = s; session = session; answer = StateTooLarge (length (encoding t)) } else record { state = t; session = session; answer = Okay } in
       to.state.events ≡ counts_after at.now command (is_okay to.answer) s.events
   changes_at command t stays is true = sym stays
   changes_at command t stays is false = is
@@ -102,13 +102,13 @@ module _ (at : Setting) (s : ClientState) (session : Session) where
   counted name count true = refl
   counted name count false =
       let t : ClientState = record s { events = counted_in name count at.now s.events } in
-      changes_at (Event name count) t refl refl (nat_lt max_size (length (spelling t)))
+      changes_at (Event name count) t refl refl (nat_lt max_size (length (encoding t)))
 
   forgotten : (id : List ℕ) → let to : Step = done s session (whole s session [] (resetting s.enrolment session id)) in to.state.events ≡ counts_after at.now (Reset id) (is_okay to.answer) s.events
   forgotten id =
       let t : ClientState = with_enrolment session s (after_reset s.enrolment id) [] in
       whole_either (λ asked. let to : Step = done s session asked in to.state.events ≡ counts_after at.now (Reset id) (is_okay to.answer) s.events) s session [] (after_reset s.enrolment id) session Okay refl
-      (λ fits. changes_at (Reset id) t refl refl (nat_lt max_size (length (spelling t))))
+      (λ fits. changes_at (Reset id) t refl refl (nat_lt max_size (length (encoding t))))
 
   follows : (command : Command) → (step at s session command).state.events ≡ counts_after at.now command (is_okay (step at s session command).answer) s.events
   unfolding step
@@ -116,7 +116,7 @@ module _ (at : Setting) (s : ClientState) (session : Session) where
   follows (commands.Context file) = done-keeps (reading_context s session (file_tree file (at.files file))) (file-keeps (file_tree file (at.files file)))
   follows (Fetch file) = let asked = fetching s.enrolment session (file_tree file (at.files file)) in done-keeps (enrolling s session asked) (enrolment-keeps asked)
   follows Apply = let asked = applying at.now s.enrolment session session.manifest (seeing at.now s.events session.context) in done-keeps (enrolling s session asked) (enrolment-keeps asked)
-  follows (Participate part on) = let asked = participation s.enrolment session part on in done-keeps (enrolling s session asked) (enrolment-keeps asked)
+  follows (Participate kinds on) = let asked = participation s.enrolment session kinds on in done-keeps (enrolling s session asked) (enrolment-keeps asked)
   follows (OptOut slug) = let asked = opting_out s.enrolment session slug in done-keeps (enrolling s session asked) (enrolment-keeps asked)
   follows (OptIn slug branch) = let asked = opting_in s.enrolment session slug branch in done-keeps (enrolling s session asked) (enrolment-keeps asked)
   follows (Reset id) = forgotten id

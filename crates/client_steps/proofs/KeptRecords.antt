@@ -21,11 +21,11 @@ use Rattle.event_counts.specs.Kept.{counted_in}
 use Rattle.enrol_states.specs.Commands.{after_opt_out}
 use Rattle.enrol_states.specs.Participation.{takes_part}
 use Rattle.enrol_states.specs.Recipes.{has_branch}
-use Rattle.state_codec.specs.Spelling.{pending_recipes}
+use Rattle.state_codec.specs.Encoding.{pending_recipes}
 use Rattle.event_counts.specs.declared.name_counts.NameCounts.{NameCounts}
 use Rattle.client_state.specs.declared.client_state.ClientState.{ClientState}
 use Rattle.client_state.specs.Sound.{max_size, AreRecords, HaveRecords}
-use Rattle.client_state.specs.Spelling.{spelling}
+use Rattle.client_state.specs.Encoding.{encoding}
 use Rattle.fml_types.specs.declared.manifest.Manifest.{Manifest}
 use Rattle.fml_value.specs.Typed.{TypedValue}
 use Rattle.feature_serving.specs.Serving.{served}
@@ -68,7 +68,7 @@ module _ (at : Setting) (s : ClientState) (session : Session) (h : HaveRecords s
   whole-keeps counts (Refused answer) keeps = tt
 
   done-keeps : (asked : Outcome) → Keeps asked → HaveRecords (done s session asked).state.enrolment
-  done-keeps (Accepted t next answer) keeps = either_step (λ to. HaveRecords to.state.enrolment) (nat_lt max_size (length (spelling t))) _ _ h keeps
+  done-keeps (Accepted t next answer) keeps = either_step (λ to. HaveRecords to.state.enrolment) (nat_lt max_size (length (encoding t))) _ _ h keeps
   done-keeps (Refused answer) keeps = h
 
   context-keeps : (read : Result Context ContextKey) → Keeps (context_read s session read)
@@ -156,7 +156,7 @@ module _ (at : Setting) (s : ClientState) (session : Session) (h : HaveRecords s
   outcome-keeps (commands.Context file) = file-keeps (file_tree file (at.files file))
   outcome-keeps (Fetch file) = whole-keeps s.events (fetching s.enrolment session (file_tree file (at.files file))) (fetch-keeps (file_tree file (at.files file)) (file_sound file (at.files file)))
   outcome-keeps Apply = whole-keeps s.events (applying at.now s.enrolment session session.manifest (seeing at.now s.events session.context)) (apply-keeps session.manifest (seeing at.now s.events session.context))
-  outcome-keeps (Participate part on) = whole-keeps s.events (participation s.enrolment session part on) (record { live = h.live; pending = h.pending })
+  outcome-keeps (Participate kinds on) = whole-keeps s.events (participation s.enrolment session kinds on) (record { live = h.live; pending = h.pending })
   outcome-keeps (OptOut slug) = whole-keeps s.events (opting_out s.enrolment session slug) (out-keeps slug (has_no_room s.enrolment.opted_out slug))
   outcome-keeps (OptIn slug branch) = whole-keeps s.events (opting_in s.enrolment session slug branch) (choosing-keeps slug branch (recipe_with slug s.enrolment.live))
   outcome-keeps (Reset id) = whole-keeps [] (resetting s.enrolment session id) (record { live = h.live; pending = h.pending })

@@ -26,7 +26,7 @@ use Rattle.enrol_states.specs.Commands.{after_opt_out}
 use Rattle.enrol_states.specs.Participation.{takes_part}
 use Rattle.enrol_states.specs.Recipes.{has_branch}
 use Rattle.client_state.specs.Sound.{max_size}
-use Rattle.client_state.specs.Spelling.{spelling}
+use Rattle.client_state.specs.Encoding.{encoding}
 use Rattle.fml_types.specs.declared.manifest.Manifest.{Manifest}
 use Rattle.fml_value.specs.Typed.{TypedValue}
 use Rattle.feature_serving.specs.Serving.{served}
@@ -63,7 +63,7 @@ module _ (P : Session → Type 0) (at : Setting) (s : ClientState) (session : Se
   whole-carries counts (Refused answer) carries = tt
 
   done-carries : (asked : Outcome) → Carries asked → P (done s session asked).session
-  done-carries (Accepted t next answer) carries = either_step (λ to. P to.session) (nat_lt max_size (length (spelling t))) _ _ was carries
+  done-carries (Accepted t next answer) carries = either_step (λ to. P to.session) (nat_lt max_size (length (encoding t))) _ _ was carries
   done-carries (Refused answer) carries = was
 
   context-carries : (tree : Json) (read : Result Context ContextKey) → IsSound tree → context_of tree ≡ read → Carries (context_read s session read)
@@ -150,7 +150,7 @@ module _ (P : Session → Type 0) (at : Setting) (s : ClientState) (session : Se
   outcome-carries (commands.Context file) = file-carries (file_tree file (at.files file)) (file_sound file (at.files file))
   outcome-carries (Fetch file) = whole-carries s.events (fetching s.enrolment session (file_tree file (at.files file))) (fetch-carries (file_tree file (at.files file)))
   outcome-carries Apply = whole-carries s.events (applying at.now s.enrolment session session.manifest (seeing at.now s.events session.context)) (apply-carries session.manifest (seeing at.now s.events session.context))
-  outcome-carries (Participate part on) = whole-carries s.events (participation s.enrolment session part on) was
+  outcome-carries (Participate kinds on) = whole-carries s.events (participation s.enrolment session kinds on) was
   outcome-carries (OptOut slug) = whole-carries s.events (opting_out s.enrolment session slug) (out-carries slug (has_no_room s.enrolment.opted_out slug))
   outcome-carries (OptIn slug branch) = whole-carries s.events (opting_in s.enrolment session slug branch) (choosing-carries slug branch (recipe_with slug s.enrolment.live))
   outcome-carries (Reset id) = whole-carries [] (resetting s.enrolment session id) was

@@ -23,3 +23,4 @@ mod Trees
 mod SoundValues
 pub mod WrittenManifests
 pub mod AskedFiles
+mod SlugLists

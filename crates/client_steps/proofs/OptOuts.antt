@@ -26,7 +26,7 @@ use Rattle.enrol_states.specs.Recipes.{has_branch}
 use Rattle.enrol_states.proofs.OptOuts.{is_in-insert}
 use Rattle.enrol_states.proofs.Ordered.{same_texts}
 use Rattle.client_state.specs.Sound.{max_size}
-use Rattle.client_state.specs.Spelling.{spelling}
+use Rattle.client_state.specs.Encoding.{encoding}
 use Rattle.app_context.specs.Contexts.{context_of}
 use Rattle.enrol_evolver.specs.Evolution.{evolution}
 use Rattle.app_context.specs.declared.context.Context.{Context}
@@ -104,7 +104,7 @@ module _ (at : Setting) (s : ClientState) (session : Session) (slug : List ℕ) 
   whole-keeps counts (Refused answer) keeps = tt
 
   done-keeps : (asked : Outcome) → Keeps asked → is_in (done s session asked).state.enrolment.opted_out slug ≡ true
-  done-keeps (Accepted t next answer) keeps = either_step (λ to. is_in to.state.enrolment.opted_out slug ≡ true) (nat_lt max_size (length (spelling t))) _ _ there keeps
+  done-keeps (Accepted t next answer) keeps = either_step (λ to. is_in to.state.enrolment.opted_out slug ≡ true) (nat_lt max_size (length (encoding t))) _ _ there keeps
   done-keeps (Refused answer) keeps = there
 
   context-keeps : (read : Result Context ContextKey) → Keeps (context_read s session read)
@@ -179,14 +179,14 @@ module _ (at : Setting) (s : ClientState) (session : Session) (slug : List ℕ) 
   KeepsUnless back asked = (back ≡ true → (done s session asked).answer ≡ Okay → ⊥) → is_in (done s session asked).state.enrolment.opted_out slug ≡ true
 
   unless_at : (t : ClientState) (next : Session) (back large : Bool) → (back ≡ false → is_in t.enrolment.opted_out slug ≡ true)
-      → let to : Step = if large then record { state = s; session = session; answer = StateTooLarge (length (spelling t)) } else record { state = t; session = next; answer = Okay } in
+      → let to : Step = if large then record { state = s; session = session; answer = StateTooLarge (length (encoding t)) } else record { state = t; session = next; answer = Okay } in
       (back ≡ true → to.answer ≡ Okay → ⊥) → is_in to.state.enrolment.opted_out slug ≡ true
   unless_at t next back true keeps never = there
   unless_at t next true false keeps never = absurd (never refl refl)
   unless_at t next false false keeps never = keeps refl
 
   accepted-unless : (t : ClientState) (next : Session) (back : Bool) → (back ≡ false → is_in t.enrolment.opted_out slug ≡ true) → KeepsUnless back (Accepted t next Okay)
-  accepted-unless t next back keeps = unless_at t next back (nat_lt max_size (length (spelling t))) keeps
+  accepted-unless t next back keeps = unless_at t next back (nat_lt max_size (length (encoding t))) keeps
 
   module _ (other branch : List ℕ) where
     taking-unless : (taker : Option (List ℕ × List ℕ)) → KeepsUnless (bytes_eq other slug) (enrolling s session (taking s.enrolment session other branch taker))
@@ -214,7 +214,7 @@ module _ (at : Setting) (s : ClientState) (session : Session) (slug : List ℕ) 
   kept (commands.Context file) never = done-keeps (reading_context s session (file_tree file (at.files file))) (file-keeps (file_tree file (at.files file)))
   kept (Fetch file) never = enrolment-keeps (fetching s.enrolment session (file_tree file (at.files file))) (fetch-keeps (file_tree file (at.files file)))
   kept Apply never = enrolment-keeps (applying at.now s.enrolment session session.manifest (seeing at.now s.events session.context)) (apply-keeps session.manifest (seeing at.now s.events session.context))
-  kept (Participate part on) never = enrolment-keeps (participation s.enrolment session part on) there
+  kept (Participate kinds on) never = enrolment-keeps (participation s.enrolment session kinds on) there
   kept (OptOut other) never = enrolment-keeps (opting_out s.enrolment session other) (out-keeps other (has_no_room s.enrolment.opted_out other))
   kept (OptIn other branch) never = choosing-unless other branch (recipe_with other s.enrolment.live) (λ back is_done. never (back, is_done))
   kept (Reset id) never =
@@ -234,7 +234,7 @@ module _ (at : Setting) (s : ClientState) (session : Session) (slug : List ℕ) 
 -- ---- an opt-out
 
 taken_at : (s t : ClientState) (session next : Session) (slug : List ℕ) (large : Bool) → is_in t.enrolment.opted_out slug ≡ true
-    → let to : Step = if large then record { state = s; session = session; answer = StateTooLarge (length (spelling t)) } else record { state = t; session = next; answer = Okay } in
+    → let to : Step = if large then record { state = s; session = session; answer = StateTooLarge (length (encoding t)) } else record { state = t; session = next; answer = Okay } in
     to.answer ≡ Okay → is_in to.state.enrolment.opted_out slug ≡ true
 taken_at s t session next slug true has is_done = absurd cc
 taken_at s t session next slug false has is_done = has
@@ -248,7 +248,7 @@ room_at : (s : ClientState) (session : Session) (slug : List ℕ) (full : Bool) 
 room_at s session slug true is_done = absurd cc
 room_at s session slug false is_done =
     whole_either (λ asked. (done s session asked).answer ≡ Okay → is_in (done s session asked).state.enrolment.opted_out slug ≡ true) s session s.events (after_opt_out s.enrolment slug) session Okay (λ okay. absurd cc)
-    (λ fits. taken_at s (out_of session s slug) session session slug (nat_lt max_size (length (spelling (out_of session s slug)))) (is_in-inserted slug s.enrolment.opted_out)) is_done
+    (λ fits. taken_at s (out_of session s slug) session session slug (nat_lt max_size (length (encoding (out_of session s slug)))) (is_in-inserted slug s.enrolment.opted_out)) is_done
 
 taken : (at : Setting) (s : ClientState) (session : Session) (slug : List ℕ) → (step at s session (OptOut slug)).answer ≡ Okay → is_in (step at s session (OptOut slug)).state.enrolment.opted_out slug ≡ true
 unfolding step

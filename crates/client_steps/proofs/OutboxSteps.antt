@@ -17,7 +17,7 @@ use Rattle.fml_value.specs.Typed.{TypedValue}
 use Rattle.feature_serving.specs.Serving.{served}
 use Rattle.client_state.specs.Following.{appended_changes}
 use Rattle.client_state.specs.Sound.{max_size}
-use Rattle.client_state.specs.Spelling.{spelling}
+use Rattle.client_state.specs.Encoding.{encoding}
 use Rattle.client_state.specs.declared.client_state.ClientState.{ClientState}
 use Rattle.client_words.specs.declared.answer.Answer.{Answer}
 use Rattle.client_words.specs.declared.answer.Answer.TheVariants.{Okay, EventLimit, NoSuchChange, StateTooLarge}
@@ -49,7 +49,7 @@ module _ (at : Setting) (s : ClientState) (session : Session) where
   Tells (Refused answer) = Unit {0}
 
   done-tells : (asked : Outcome) → Tells asked → (done s session asked).state.outbox ≡ appended_changes s.enrolment (done s session asked).state.enrolment s.outbox
-  done-tells (Accepted t next answer) tells = either_step (λ to. to.state.outbox ≡ appended_changes s.enrolment to.state.enrolment s.outbox) (nat_lt max_size (length (spelling t))) _ _ stays tells
+  done-tells (Accepted t next answer) tells = either_step (λ to. to.state.outbox ≡ appended_changes s.enrolment to.state.enrolment s.outbox) (nat_lt max_size (length (encoding t))) _ _ stays tells
   done-tells (Refused answer) tells = stays
 
   whole-tells : (counts : List NameCounts) (asked : EnrolmentOutcome) → Tells (whole s session counts asked)
@@ -103,7 +103,7 @@ module _ (at : Setting) (s : ClientState) (session : Session) where
     without = record s { outbox = confirmed number s.outbox }
 
     drops_at : (large : Bool)
-        → let to : Step = if large then record { state = s; session = session; answer = StateTooLarge (length (spelling without)) } else record { state = without; session = session; answer = Okay } in
+        → let to : Step = if large then record { state = s; session = session; answer = StateTooLarge (length (encoding without)) } else record { state = without; session = session; answer = Okay } in
         to.state.outbox ≡ confirmed_after (Confirm number) (is_okay to.answer) (appended_changes s.enrolment to.state.enrolment s.outbox)
     drops_at true = stays
     drops_at false = ap (confirmed number) stays
@@ -111,7 +111,7 @@ module _ (at : Setting) (s : ClientState) (session : Session) where
     drops : (unknown : Bool) → let to : Step = done s session (if unknown then Refused (NoSuchChange s.outbox.next) else Accepted without session Okay) in
         to.state.outbox ≡ confirmed_after (Confirm number) (is_okay to.answer) (appended_changes s.enrolment to.state.enrolment s.outbox)
     drops true = stays
-    drops false = drops_at (nat_lt max_size (length (spelling without)))
+    drops false = drops_at (nat_lt max_size (length (encoding without)))
 
     known_at : (unknown : Bool) → nat_le s.outbox.next number ≡ unknown → (done s session (if unknown then Refused (NoSuchChange s.outbox.next) else Accepted without session Okay)).answer ≡ Okay → number < s.outbox.next
     known_at true e is_done = absurd cc
@@ -128,7 +128,7 @@ module _ (at : Setting) (s : ClientState) (session : Session) where
   follows (commands.Context file) = done-tells (reading_context s session (file_tree file (at.files file))) (file-tells (file_tree file (at.files file)))
   follows (Fetch file) = let asked = fetching s.enrolment session (file_tree file (at.files file)) in done-tells (whole s session s.events asked) (whole-tells s.events asked)
   follows Apply = let asked = applying at.now s.enrolment session session.manifest (seeing at.now s.events session.context) in done-tells (whole s session s.events asked) (whole-tells s.events asked)
-  follows (Participate part on) = let asked = participation s.enrolment session part on in done-tells (whole s session s.events asked) (whole-tells s.events asked)
+  follows (Participate kinds on) = let asked = participation s.enrolment session kinds on in done-tells (whole s session s.events asked) (whole-tells s.events asked)
   follows (OptOut slug) = let asked = opting_out s.enrolment session slug in done-tells (whole s session s.events asked) (whole-tells s.events asked)
   follows (OptIn slug branch) = let asked = opting_in s.enrolment session slug branch in done-tells (whole s session s.events asked) (whole-tells s.events asked)
   follows (Reset id) = let asked = resetting s.enrolment session id in done-tells (whole s session [] asked) (whole-tells [] asked)

@@ -23,7 +23,7 @@ use Rattle.feature_serving.specs.Serving.{served}
 use Rattle.client_state.specs.Changes.{with_users_value}
 use Rattle.client_state.specs.Following.{changes_from, enrolment_ended, join_values}
 use Rattle.client_state.specs.Sound.{max_size, HaveEnrolledHolders}
-use Rattle.client_state.specs.Spelling.{spelling}
+use Rattle.client_state.specs.Encoding.{encoding}
 use Rattle.client_state.specs.declared.client_state.ClientState.{ClientState}
 use Rattle.client_state.proofs.HoldersAfter.{holders_after, holders_set}
 use Rattle.client_words.specs.declared.answer.Answer.{Answer}
@@ -60,7 +60,7 @@ module _ (at : Setting) (s : ClientState) (session : Session) where
   Follows (Refused answer) = Unit {0}
 
   done-follows : (asked : Outcome) → Follows asked → (done s session asked).state.preferences ≡ followed (done s session asked).state.enrolment
-  done-follows (Accepted t next answer) follows = either_step (λ to. to.state.preferences ≡ followed to.state.enrolment) (nat_lt max_size (length (spelling t))) _ _ stays follows
+  done-follows (Accepted t next answer) follows = either_step (λ to. to.state.preferences ≡ followed to.state.enrolment) (nat_lt max_size (length (encoding t))) _ _ stays follows
   done-follows (Refused answer) follows = stays
 
   whole-follows : (counts : List NameCounts) (asked : EnrolmentOutcome) → Follows (whole s session counts asked)
@@ -115,33 +115,33 @@ module _ (at : Setting) (s : ClientState) (session : Session) where
     IsSet to = to.state.preferences ≡ set_after command (is_okay to.answer) (followed to.state.enrolment)
 
     set_at : (t : ClientState) → t.preferences ≡ followed t.enrolment → (large : Bool)
-        → IsSet (if large then record { state = s; session = session; answer = StateTooLarge (length (spelling (with_users_value name value t))) } else record { state = with_users_value name value t; session = session; answer = Okay })
+        → IsSet (if large then record { state = s; session = session; answer = StateTooLarge (length (encoding (with_users_value name value t))) } else record { state = with_users_value name value t; session = session; answer = Okay })
     set_at t follows true = stays ∙ sym (leaves (followed s.enrolment))
     set_at t follows false = ap (set_by_user name value) follows ∙ sym (sets (followed t.enrolment))
 
     preferring-sets : IsSet (done s session (preferring s session name value))
     preferring-sets =
         preferring_either (λ asked. IsSet (done s session asked)) s session name value (stays ∙ sym (leaves (followed s.enrolment)))
-        (λ free. set_at s stays (nat_lt max_size (length (spelling (with_users_value name value s)))))
-        (λ holder held fits. set_at (without_holder session s holder) refl (nat_lt max_size (length (spelling (with_users_value name value (without_holder session s holder))))))
+        (λ free. set_at s stays (nat_lt max_size (length (encoding (with_users_value name value s)))))
+        (λ holder held fits. set_at (without_holder session s holder) refl (nat_lt max_size (length (encoding (with_users_value name value (without_holder session s holder))))))
 
     -- and the user's map
     abbrev IsMapped : Step → Type 0
     IsMapped to = user_map to.state.preferences ≡ set_after command (is_okay to.answer) (user_map s.preferences)
 
     mapped_at : (t : ClientState) → user_map t.preferences ≡ user_map s.preferences → Rise (names_of t.preferences) → holder_of name t.preferences ≡ None → (large : Bool)
-        → IsMapped (if large then record { state = s; session = session; answer = StateTooLarge (length (spelling (with_users_value name value t))) } else record { state = with_users_value name value t; session = session; answer = Okay })
+        → IsMapped (if large then record { state = s; session = session; answer = StateTooLarge (length (encoding (with_users_value name value t))) } else record { state = with_users_value name value t; session = session; answer = Okay })
     mapped_at t same rise free true = sym (leaves (user_map s.preferences))
     mapped_at t same rise free false = sets_own name value t.preferences rise free ∙ ap (set_by_user name value) same ∙ sym (sets (user_map s.preferences))
 
     preferring-maps : HasHolders s → IsMapped (done s session (preferring s session name value))
     preferring-maps has =
         preferring_either (λ asked. IsMapped (done s session asked)) s session name value (sym (leaves (user_map s.preferences)))
-        (λ free. mapped_at s refl has.names free (nat_lt max_size (length (spelling (with_users_value name value s)))))
+        (λ free. mapped_at s refl has.names free (nat_lt max_size (length (encoding (with_users_value name value s)))))
         (λ holder held fits.
         let next = enrolment_ended holder s.enrolment in
         mapped_at (without_holder session s holder) (done_map (join_values session.manifest session.bindings next) (changes_from s.enrolment next) s.preferences) (names_follow (join_values session.manifest session.bindings next) (changes_from s.enrolment next) s.preferences has.names)
-        (ended_free session s.enrolment s.preferences holder name has.names held (holders_after s.enrolment next (join_values session.manifest session.bindings next) s.preferences has.holders)) (nat_lt max_size (length (spelling (with_users_value name value (without_holder session s holder))))))
+        (ended_free session s.enrolment s.preferences holder name has.names held (holders_after s.enrolment next (join_values session.manifest session.bindings next) s.preferences has.holders)) (nat_lt max_size (length (encoding (with_users_value name value (without_holder session s holder))))))
 
   follows : (command : Command) → (step at s session command).state.preferences ≡ set_after command (is_okay (step at s session command).answer) (followed (step at s session command).state.enrolment)
   unfolding step
@@ -149,7 +149,7 @@ module _ (at : Setting) (s : ClientState) (session : Session) where
   follows (commands.Context file) = done-follows (reading_context s session (file_tree file (at.files file))) (file-follows (file_tree file (at.files file)))
   follows (Fetch file) = let asked = fetching s.enrolment session (file_tree file (at.files file)) in done-follows (whole s session s.events asked) (whole-follows s.events asked)
   follows Apply = let asked = applying at.now s.enrolment session session.manifest (seeing at.now s.events session.context) in done-follows (whole s session s.events asked) (whole-follows s.events asked)
-  follows (Participate part on) = let asked = participation s.enrolment session part on in done-follows (whole s session s.events asked) (whole-follows s.events asked)
+  follows (Participate kinds on) = let asked = participation s.enrolment session kinds on in done-follows (whole s session s.events asked) (whole-follows s.events asked)
   follows (OptOut slug) = let asked = opting_out s.enrolment session slug in done-follows (whole s session s.events asked) (whole-follows s.events asked)
   follows (OptIn slug branch) = let asked = opting_in s.enrolment session slug branch in done-follows (whole s session s.events asked) (whole-follows s.events asked)
   follows (Reset id) = let asked = resetting s.enrolment session id in done-follows (whole s session [] asked) (whole-follows [] asked)
@@ -179,7 +179,7 @@ module _ (at : Setting) (s : ClientState) (session : Session) where
   maps (commands.Context file) has = kept (commands.Context file) (λ is_done ps. refl)
   maps (Fetch file) has = kept (Fetch file) (λ is_done ps. refl)
   maps Apply has = kept Apply (λ is_done ps. refl)
-  maps (Participate part on) has = kept (Participate part on) (λ is_done ps. refl)
+  maps (Participate kinds on) has = kept (Participate kinds on) (λ is_done ps. refl)
   maps (OptOut slug) has = kept (OptOut slug) (λ is_done ps. refl)
   maps (OptIn slug branch) has = kept (OptIn slug branch) (λ is_done ps. refl)
   maps (Reset id) has = kept (Reset id) (λ is_done ps. refl)

@@ -35,7 +35,7 @@ use Rattle.enrol_states.specs.Commands.{after_opt_out}
 use Rattle.enrol_states.specs.Participation.{takes_part}
 use Rattle.enrol_states.specs.Recipes.{has_branch}
 use Rattle.client_state.specs.Sound.{max_size}
-use Rattle.client_state.specs.Spelling.{spelling}
+use Rattle.client_state.specs.Encoding.{encoding}
 use Rattle.client_words.specs.declared.answer.Answer.{Answer}
 use Rattle.client_words.specs.declared.answer.Answer.TheVariants.{Okay, Value, FileTooLarge, NotJson, OptedOutLimit, EventLimit, NoSuchChange, NotParticipating, NoSuchBranch, StateTooLarge}
 use Rattle.client_words.specs.declared.command.Command.{Command}
@@ -126,7 +126,7 @@ module _ (at : Setting) (s : ClientState) (session : Session) where
   whole-none counts (Refused answer) none = none
 
   done-none : (asked : Outcome) → NoValue asked → is_value (done s session asked).answer ≡ false
-  done-none (Accepted t next answer) none = either_step (λ to. is_value to.answer ≡ false) (nat_lt max_size (length (spelling t))) _ _ refl none
+  done-none (Accepted t next answer) none = either_step (λ to. is_value to.answer ≡ false) (nat_lt max_size (length (encoding t))) _ _ refl none
   done-none (Refused answer) none = none
 
   manifest-none : (read : Result Manifest Answer) → RefusesPlainly read → NoValue (setting_manifest s session read)
@@ -215,17 +215,17 @@ module _ (at : Setting) (s : ClientState) (session : Session) where
 
     served_as : (manifest : Manifest) → session.manifest ≡ Some manifest → (value : TypedValue) → served manifest s.enrolment name ≡ Some value → tree_from (values.tree_of value) ≡ tree → Asked (Feature name)
     served_as manifest set value serves is =
-        (name, refl, record { manifest = manifest; set = set; value = value; serves = serves; spelled = ap json_of (sym is) ∙ value_of_tree (values.tree_of value) })
+        (name, refl, record { manifest = manifest; set = set; value = value; serves = serves; encoded = ap json_of (sym is) ∙ value_of_tree (values.tree_of value) })
 
     valued_at : (manifest : Manifest) → session.manifest ≡ Some manifest → (value : TypedValue) → served manifest s.enrolment name ≡ Some value → (large : Bool)
-        → let to : Step = if large then record { state = s; session = session; answer = StateTooLarge (length (spelling s)) } else record { state = s; session = session; answer = Value (tree_from (values.tree_of value)) } in
+        → let to : Step = if large then record { state = s; session = session; answer = StateTooLarge (length (encoding s)) } else record { state = s; session = session; answer = Value (tree_from (values.tree_of value)) } in
         to.answer ≡ Value tree → Asked (Feature name)
     valued_at manifest set value serves true is = absurd (let clash = ap is_value is in cc)
     valued_at manifest set value serves false is = served_as manifest set value serves (ap tree_in is)
 
     found_at : (manifest : Manifest) → session.manifest ≡ Some manifest → (value : Option TypedValue) → served manifest s.enrolment name ≡ value → (done s session (valued s session value)).answer ≡ Value tree → Asked (Feature name)
     found_at manifest set None serves is = absurd (let clash = ap is_value is in cc)
-    found_at manifest set (Some value) serves is = valued_at manifest set value serves (nat_lt max_size (length (spelling s))) is
+    found_at manifest set (Some value) serves is = valued_at manifest set value serves (nat_lt max_size (length (encoding s))) is
 
     set_at : (manifest : Option Manifest) → session.manifest ≡ manifest → (done s session (serving s session name manifest)).answer ≡ Value tree → Asked (Feature name)
     set_at None set is = absurd (let clash = ap is_value is in cc)
@@ -240,7 +240,7 @@ module _ (at : Setting) (s : ClientState) (session : Session) where
   values_at (Fetch file) tree is = absurd (never_whole s.events (fetching s.enrolment session (file_tree file (at.files file))) tree (fetch-none (file_tree file (at.files file)) (file-plain file (at.files file))) is)
   values_at Apply tree is =
       absurd (never_whole s.events (applying at.now s.enrolment session session.manifest (seeing at.now s.events session.context)) tree (apply-none session.manifest (seeing at.now s.events session.context)) is)
-  values_at (Participate part on) tree is = absurd (never_whole s.events (participation s.enrolment session part on) tree refl is)
+  values_at (Participate kinds on) tree is = absurd (never_whole s.events (participation s.enrolment session kinds on) tree refl is)
   values_at (OptOut slug) tree is = absurd (never_whole s.events (opting_out s.enrolment session slug) tree (out-none slug (has_no_room s.enrolment.opted_out slug)) is)
   values_at (OptIn slug branch) tree is = absurd (never_whole s.events (opting_in s.enrolment session slug branch) tree (choosing-none slug branch (recipe_with slug s.enrolment.live)) is)
   values_at (Reset id) tree is = absurd (never_whole [] (resetting s.enrolment session id) tree refl is)
@@ -261,13 +261,13 @@ values_are_served at s session command tree is = values_at at s session command 
 -- ---- the type
 
 -- a feature's value
-module _ (s : ClientState) (session : Session) (name : List ℕ) (manifest : Manifest) (set : session.manifest ≡ Some manifest) (value : TypedValue) (serves : served manifest s.enrolment name ≡ Some value) (tree : Tree) (spelled : json_of tree ≡ values.tree_of value) where
+module _ (s : ClientState) (session : Session) (name : List ℕ) (manifest : Manifest) (set : session.manifest ≡ Some manifest) (value : TypedValue) (serves : served manifest s.enrolment name ≡ Some value) (tree : Tree) (encoded : json_of tree ≡ values.tree_of value) where
   pub typed_answer : (answer : Answer) → answer ≡ Value tree → HasFeatureType manifest name value → IsTyped s session (Feature name) answer
   typed_answer answer is typed = subst (λ (a : Answer). IsTyped s session (Feature name) a) (sym is)
-      (record { served = record { manifest = manifest; set = set; value = value; serves = serves; spelled = spelled }; typed = typed })
+      (record { served = record { manifest = manifest; set = set; value = value; serves = serves; encoded = encoded }; typed = typed })
 
   pub serving_is : Accepted s session (Value tree) ≡ serving s session name session.manifest
-  serving_is = ap (λ (t : Tree). Accepted s session (Value t)) (tree_of_value tree (values.tree_of value) spelled) ∙ ap (valued s session) (sym serves) ∙ ap (serving s session name) (sym set)
+  serving_is = ap (λ (t : Tree). Accepted s session (Value t)) (tree_of_value tree (values.tree_of value) encoded) ∙ ap (valued s session) (sym serves) ∙ ap (serving s session name) (sym set)
 
 pub values_have_types : ValuesHaveTypes
 values_have_types at s session command tree sound lawful is =

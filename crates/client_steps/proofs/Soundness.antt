@@ -39,7 +39,7 @@ use Rattle.enrol_states.proofs.OptOuts as opt_outs
 use Rattle.enrol_states.proofs.Participations as participations
 use Rattle.client_state.specs.Following.{changes_from, enrolment_ended, join_values}
 use Rattle.client_state.specs.Sound.{max_size, HaveEnrolledHolders, HaveRecords, IsConsistent, IsSound}
-use Rattle.client_state.specs.Spelling.{spelling}
+use Rattle.client_state.specs.Encoding.{encoding}
 use Rattle.client_state.proofs.Ended.{ended_is_consistent}
 use Rattle.client_state.proofs.HoldersAfter.{holders_after, holders_set}
 use Rattle.fml_types.specs.Coenrolling.{coenrolling}
@@ -96,7 +96,7 @@ module _ (at : Setting) (s : ClientState) (session : Session) (c : HasConsistent
   whole-keeps ns sound (Refused answer) keeps = tt
 
   done-keeps : (asked : Outcome) → Keeps asked → HasConsistentParts (done s session asked).state
-  done-keeps (Accepted t next answer) keeps = either_step (λ to. HasConsistentParts to.state) (nat_lt max_size (length (spelling t))) _ _ c keeps
+  done-keeps (Accepted t next answer) keeps = either_step (λ to. HasConsistentParts to.state) (nat_lt max_size (length (encoding t))) _ _ c keeps
   done-keeps (Refused answer) keeps = c
 
   context-keeps : (read : Result Context ContextKey) → Keeps (context_read s session read)
@@ -200,7 +200,7 @@ module _ (at : Setting) (s : ClientState) (session : Session) (c : HasConsistent
   parts Apply moment is texts =
       let seen = seeing at.now s.events session.context in
       enrolment-keeps (applying at.now s.enrolment session session.manifest seen) (apply-keeps moment session.manifest texts.manifest seen (seen-version session.context texts.context))
-  parts (Participate part on) moment is texts = enrolment-keeps (participation s.enrolment session part on) (participations.consistent s.enrolment part on c.enrolment)
+  parts (Participate kinds on) moment is texts = enrolment-keeps (participation s.enrolment session kinds on) (participations.consistent s.enrolment kinds on c.enrolment)
   parts (OptOut slug) moment is texts = enrolment-keeps (opting_out s.enrolment session slug) (out-keeps slug is (has_no_room s.enrolment.opted_out slug) refl)
   parts (OptIn slug branch) moment is texts = enrolment-keeps (opting_in s.enrolment session slug branch) (choosing-keeps slug branch is.0 is.1 (recipe_with slug s.enrolment.live) refl)
   parts (Reset id) moment is texts =
@@ -229,7 +229,7 @@ module _ (P : List Preference → Type 0) (ps : List Preference) (was : P ps) (s
   set_keeps (commands.Context file) is is_done = was
   set_keeps (Fetch file) is is_done = was
   set_keeps Apply is is_done = was
-  set_keeps (Participate part on) is is_done = was
+  set_keeps (Participate kinds on) is is_done = was
   set_keeps (OptOut slug) is is_done = was
   set_keeps (OptIn slug branch) is is_done = was
   set_keeps (Reset id) is is_done = was
@@ -267,17 +267,17 @@ module _ (at : Setting) (s : ClientState) (session : Session) (c : IsConsistent 
 
 -- ---- the size
 
-small_at : (s t : ClientState) (session next : Session) (answer : Answer) (large : Bool) → nat_lt max_size (length (spelling t)) ≡ large → length (spelling s) ≤ max_size
-    → let to : Step = if large then record { state = s; session = session; answer = StateTooLarge (length (spelling t)) } else record { state = t; session = next; answer = answer } in
-    length (spelling to.state) ≤ max_size
+small_at : (s t : ClientState) (session next : Session) (answer : Answer) (large : Bool) → nat_lt max_size (length (encoding t)) ≡ large → length (encoding s) ≤ max_size
+    → let to : Step = if large then record { state = s; session = session; answer = StateTooLarge (length (encoding t)) } else record { state = t; session = next; answer = answer } in
+    length (encoding to.state) ≤ max_size
 small_at s t session next answer true e small = small
-small_at s t session next answer false e small = ltb-false max_size (length (spelling t)) e
+small_at s t session next answer false e small = ltb-false max_size (length (encoding t)) e
 
-small : (s : ClientState) (session : Session) (asked : Outcome) → length (spelling s) ≤ max_size → length (spelling (done s session asked).state) ≤ max_size
-small s session (Accepted t next answer) most = small_at s t session next answer (nat_lt max_size (length (spelling t))) refl most
+small : (s : ClientState) (session : Session) (asked : Outcome) → length (encoding s) ≤ max_size → length (encoding (done s session asked).state) ≤ max_size
+small s session (Accepted t next answer) most = small_at s t session next answer (nat_lt max_size (length (encoding t))) refl most
 small s session (Refused answer) most = most
 
-size : (at : Setting) (s : ClientState) (session : Session) (command : Command) → length (spelling s) ≤ max_size → length (spelling (step at s session command).state) ≤ max_size
+size : (at : Setting) (s : ClientState) (session : Session) (command : Command) → length (encoding s) ≤ max_size → length (encoding (step at s session command).state) ≤ max_size
 unfolding step
 size at s session command most = small s session (outcome at s session command) most
 

@@ -9,7 +9,7 @@ use Rattle.fml_types.specs.declared.manifest.Manifest.{Manifest}
 use Rattle.fml_imports.specs.Single.{single}
 use Rattle.fml_reader.specs.Trees.{tree_from}
 use Rattle.client_state.specs.Sound.{max_size}
-use Rattle.client_state.specs.Spelling.{spelling}
+use Rattle.client_state.specs.Encoding.{encoding}
 use Rattle.client_state.specs.declared.client_state.ClientState.{ClientState}
 use Rattle.client_words.specs.declared.answer.Answer.TheVariants.{StateTooLarge}
 use Rattle.client_words.specs.declared.answer.Answer.TheVariants as answers
@@ -38,7 +38,7 @@ answered false s session size t tree to made is = cc
 answered-in : (s : ClientState) (session : Session) (manifest : Option Manifest) (tree : Tree) → session.manifest ≡ manifest → IsLawfulManifest manifest → (done s session (writing_manifest s session manifest)).answer ≡ answers.Manifest tree → IsWritten session tree
 answered-in s session None tree set lawful is = absurd cc
 answered-in s session (Some m) tree set lawful is =
-    let same : tree_from (single m) ≡ tree = answered (nat_lt max_size (length (spelling s))) s session (length (spelling s)) (tree_from (single m)) tree (done s session (writing_manifest s session (Some m))) refl is in
+    let same : tree_from (single m) ≡ tree = answered (nat_lt max_size (length (encoding s))) s session (length (encoding s)) (tree_from (single m)) tree (done s session (writing_manifest s session (Some m))) refl is in
     written session m tree set (manifest_linked lawful.files lawful.first lawful.channel m lawful.links) (ap json_of (sym same) ∙ value_of_tree (single m))
 
 pub made_again : ManifestsAreMadeAgain

@@ -20,6 +20,6 @@ abbrev pub accepted : State → Session → Payload → EnrolmentOutcome
 accepted e session payload = Accepted (record e { pending = Some payload.recipes }) session (Fetched (length payload.recipes) payload.skipped)
 
 -- what is asked for with this payload, or this refusal
-abbrev pub outcome_of : State → Session → Result Payload Answer → EnrolmentOutcome
-outcome_of e session (Ok payload) = accepted e session payload
-outcome_of e session (Err refusal) = Refused refusal
+abbrev pub fetched_outcome : State → Session → Result Payload Answer → EnrolmentOutcome
+fetched_outcome e session (Ok payload) = accepted e session payload
+fetched_outcome e session (Err refusal) = Refused refusal

@@ -23,7 +23,7 @@ pub record IsServed (s : ClientState) (session : Session) (name : List ℕ) (tre
   pub set : session.manifest ≡ Some manifest
   pub value : TypedValue
   pub serves : served manifest s.enrolment name ≡ Some value
-  pub spelled : json_of tree ≡ tree_of value
+  pub encoded : json_of tree ≡ tree_of value
 
 -- a step is answered a value only where it asks for a feature, and that is the served one
 abbrev pub ValuesAreServed : Type 0

@@ -13,7 +13,7 @@ use Rattle.pref_bindings.specs.Bindings.{AreBindings, bindings_of}
 use Rattle.pref_bindings.specs.declared.bindings.Binding.{Binding}
 use Rattle.client_state.specs.declared.client_state.ClientState.{ClientState}
 use Rattle.client_state.specs.Sound.{max_size, HaveRecords, IsConsistent, IsSound}
-use Rattle.client_state.specs.Spelling.{spelling}
+use Rattle.client_state.specs.Encoding.{encoding}
 use Rattle.fml_types.specs.declared.manifest.Manifest.{Manifest}
 use Rattle.client_words.specs.declared.command.Command.{Command}
 use Rattle.client_words.specs.Commands.{IsCommand}
@@ -103,4 +103,4 @@ pub record StepsStaySound : Type 0 where
   pub records : (at : Setting) (s : ClientState) (session : Session) (command : Command) → HaveRecords s.enrolment → HaveRecords (step at s session command).state.enrolment
   pub parts : (at : Setting) (s : ClientState) (session : Session) (command : Command) → at.now ≤ last_moment → IsCommand command → IsSession session → HasConsistentParts s → HasConsistentParts (step at s session command).state
   pub texts : (at : Setting) (s : ClientState) (session : Session) (command : Command) → IsSession session → IsSession (step at s session command).session
-  pub size : (at : Setting) (s : ClientState) (session : Session) (command : Command) → length (spelling s) ≤ max_size → length (spelling (step at s session command).state) ≤ max_size
+  pub size : (at : Setting) (s : ClientState) (session : Session) (command : Command) → length (encoding s) ≤ max_size → length (encoding (step at s session command).state) ≤ max_size

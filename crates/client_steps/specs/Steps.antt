@@ -5,7 +5,7 @@ use Rattle.json_tree.specs.declared.tree.Tree.{Tree}
 use Rattle.recipe_reader.specs.declared.payload.Payload.{Payload}
 use Rattle.recipe_reader.specs.declared.payload.PayloadFault.{PayloadFault}
 use Rattle.recipe_reader.specs.declared.payload.PayloadFault.TheVariants as payload
-use Rattle.enrol_states.specs.declared.participation.Part.{Part}
+use Rattle.enrol_states.specs.declared.participation.Kinds.{Kinds}
 use Rattle.enrol_states.specs.declared.state.State.{State}
 use Rattle.recipe_reader.specs.Kinds.{kind_of}
 use Rattle.recipe_reader.specs.Payloads.{payload_of, recipe_with}
@@ -36,7 +36,7 @@ use Rattle.enrol_states.specs.Recipes.{has_branch}
 use Rattle.enrol_states.specs.Statuses.{is_enrolled}
 use Rattle.client_state.specs.Changes.{with_users_value}
 use Rattle.client_state.specs.Following.{appended_changes, changes_done, changes_from, enrolment_ended, is_spent, join_values}
-use Rattle.client_state.specs.Spelling.{spelling}
+use Rattle.client_state.specs.Encoding.{encoding}
 use Rattle.client_state.specs.Sound.{max_size}
 use Rattle.client_state.specs.declared.client_state.ClientState.{ClientState}
 use Rattle.client_words.specs.declared.command.Command.{Command}
@@ -69,8 +69,8 @@ EnrolmentOutcome = OutcomeOver State
 -- ---- commands that change the enrolment
 
 -- `participate`
-abbrev pub participation : State → Session → Part → Bool → EnrolmentOutcome
-participation e session part on = Accepted (after_participate e part on) session Okay
+abbrev pub participation : State → Session → Kinds → Bool → EnrolmentOutcome
+participation e session kinds on = Accepted (after_participate e kinds on) session Okay
 
 -- `opt-out`
 abbrev pub opting_out : State → Session → List ℕ → EnrolmentOutcome
@@ -245,7 +245,7 @@ abbrev pub outcome : Setting → ClientState → Session → Command → Outcome
 outcome at s session (commands.Manifest file channel) = setting_manifest s session (manifest_of at.files file channel)
 outcome at s session (commands.Context file) = reading_context s session (file_tree file (at.files file))
 outcome at s session Apply = enrolling s session (applying at.now s.enrolment session session.manifest (seeing at.now s.events session.context))
-outcome at s session (Participate part on) = enrolling s session (participation s.enrolment session part on)
+outcome at s session (Participate kinds on) = enrolling s session (participation s.enrolment session kinds on)
 outcome at s session (OptOut slug) = enrolling s session (opting_out s.enrolment session slug)
 outcome at s session (OptIn slug branch) = enrolling s session (opting_in s.enrolment session slug branch)
 outcome at s session (Reset id) = whole s session [] (resetting s.enrolment session id)
@@ -271,7 +271,7 @@ pub record Step : Type 0 where
 abbrev pub done : ClientState → Session → Outcome → Step
 done s session (Refused refusal) = record { state = s; session = session; answer = refusal }
 done s session (Accepted t next answer) =
-    if nat_lt max_size (length (spelling t)) then record { state = s; session = session; answer = StateTooLarge (length (spelling t)) } else record { state = t; session = next; answer = answer }
+    if nat_lt max_size (length (encoding t)) then record { state = s; session = session; answer = StateTooLarge (length (encoding t)) } else record { state = t; session = next; answer = answer }
 
 unfoldable pub step : Setting → ClientState → Session → Command → Step
 step at s session command = done s session (outcome at s session command)

@@ -9,7 +9,7 @@ ghost use Rattle.client_state.specs.Sound.{IsConsistent};
 ghost use Rattle.client_steps.specs.declared.session.Session.{Session};
 ghost use Rattle.client_steps.specs.Asked.{asked_outcome, FollowsFrom};
 ghost use Rattle.client_steps.specs.Fetching.{file_tree};
-ghost use Rattle.client_steps.specs.Found.{accepted, outcome_of};
+ghost use Rattle.client_steps.specs.Found.{accepted, fetched_outcome};
 ghost use Rattle.client_steps.specs.Steps.{fetched, fetching, enrolling};
 
 use crate::asked::Asked;
@@ -69,7 +69,7 @@ fn fetch<F: Shelf>(
     name: &Text,
 ) -> Result<Result<Payload, Answer>, StepFault>
     ensures found { F.tells → IfOk result (λ found. (e : State) (session : Session)
-        → fetching e session (file_tree name.now (F.file shelf.old name.now)) ≡ outcome_of e session found) }
+        → fetching e session (file_tree name.now (F.file shelf.old name.now)) ≡ fetched_outcome e session found) }
     ensures kept { IfOk result (λ found. IfOk found (λ payload. AreKept payload.recipes)) }
     ensures files { F.tells → (other : List ℕ) → F.file shelf.new other ≡ F.file shelf.old other }
     ensures asked { F.asks shelf.old name.now shelf.new }
@@ -85,7 +85,7 @@ fn fetch<F: Shelf>(
 
 /// The payload of a tree, or the refusal of the command.
 fn payload_in(alloc: Global, tree: &Tree) -> Result<Result<Payload, Answer>, AllocError>
-    ensures found { IfOk result (λ found. (e : State) (session : Session) → fetched e session (payload_of (json_of tree.now)) ≡ outcome_of e session found) }
+    ensures found { IfOk result (λ found. (e : State) (session : Session) → fetched e session (payload_of (json_of tree.now)) ≡ fetched_outcome e session found) }
     ensures kept { IfOk result (λ found. IfOk found (λ payload. AreKept payload.recipes)) }
 {
     match read_payload(alloc, tree) {

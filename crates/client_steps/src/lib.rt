@@ -23,6 +23,7 @@ mod preferences;
 mod reset;
 mod session;
 mod show;
+mod slug_lists;
 mod write_manifest;
 
 pub use apply::applying;

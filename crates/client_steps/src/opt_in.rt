@@ -6,11 +6,11 @@ ghost use Rattle.client_steps.specs.Asked.{asked_outcome, FollowsFrom};
 ghost use Rattle.client_steps.specs.Steps.{opting_in, enrolling};
 
 use crate::asked::Asked;
+use crate::slug_lists::opted_in_lists;
 use client_state::ClientState;
 use client_words::Answer;
 use enrol_states::{OptInFault, opt_in};
 use plain_text::Slug;
-use state_codec::RecipeLists;
 use std::alloc::{AllocError, Global};
 
 /// What `opt-in` asks for.
@@ -26,7 +26,10 @@ pub fn opting_in(
     ensures follows { IfOk result (λ asked. FollowsFrom state.now asked) }
 {
     match opt_in(alloc, &state.enrolment, slug, branch) {
-        Ok(next) => Ok(Asked::enrolled(next, RecipeLists::AsBefore, Answer::Okay)),
+        Ok(next) => {
+            let lists = opted_in_lists(&state.enrolment, slug);
+            Ok(Asked::enrolled(next, lists, Answer::Okay))
+        }
         Err(OptInFault::NoSuchExperiment) => Ok(Asked::Refused(Answer::NoSuchExperiment)),
         Err(OptInFault::NotParticipating) => Ok(Asked::Refused(Answer::NotParticipating)),
         Err(OptInFault::NoSuchBranch) => Ok(Asked::Refused(Answer::NoSuchBranch)),

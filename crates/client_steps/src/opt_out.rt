@@ -6,11 +6,11 @@ ghost use Rattle.client_steps.specs.Asked.{asked_outcome, FollowsFrom};
 ghost use Rattle.client_steps.specs.Steps.{opting_out, enrolling};
 
 use crate::asked::Asked;
+use crate::slug_lists::opted_out_lists;
 use client_state::ClientState;
 use client_words::Answer;
 use enrol_states::{OptOutFault, opt_out};
 use plain_text::Slug;
-use state_codec::RecipeLists;
 use std::alloc::{AllocError, Global};
 
 /// What `opt-out` asks for.
@@ -21,7 +21,10 @@ pub fn opting_out(alloc: Global, state: &ClientState, slug: &Slug) -> Result<Ask
     ensures follows { IfOk result (λ asked. FollowsFrom state.now asked) }
 {
     match opt_out(alloc, &state.enrolment, slug) {
-        Ok(next) => Ok(Asked::enrolled(next, RecipeLists::AsBefore, Answer::Okay)),
+        Ok(next) => {
+            let lists = opted_out_lists(&state.enrolment, slug);
+            Ok(Asked::enrolled(next, lists, Answer::Okay))
+        }
         Err(OptOutFault::OptedOutLimit) => Ok(Asked::Refused(Answer::OptedOutLimit)),
         Err(OptOutFault::OutOfMemory) => Err(AllocError),
     }

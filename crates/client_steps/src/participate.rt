@@ -8,7 +8,7 @@ ghost use Rattle.client_steps.specs.Steps.{participation, enrolling};
 use crate::asked::Asked;
 use client_state::ClientState;
 use client_words::Answer;
-use enrol_states::{Part, participate};
+use enrol_states::{Kinds, participate};
 use state_codec::RecipeLists;
 use std::alloc::{AllocError, Global};
 
@@ -16,14 +16,14 @@ use std::alloc::{AllocError, Global};
 pub fn participating(
     alloc: Global,
     state: &ClientState,
-    part: Part,
+    kinds: Kinds,
     on: bool,
 ) -> Result<Asked, AllocError>
     requires { IsConsistent state.now }
     ensures asks { IfOk result (λ asked. (session : Session) → asked_outcome state.now session asked
-        ≡ enrolling state.now session (participation state.now.enrolment session part on)) }
+        ≡ enrolling state.now session (participation state.now.enrolment session kinds on)) }
     ensures follows { IfOk result (λ asked. FollowsFrom state.now asked) }
 {
-    let next = participate(alloc, &state.enrolment, part, on)?;
+    let next = participate(alloc, &state.enrolment, kinds, on)?;
     Ok(Asked::enrolled(next, RecipeLists::AsBefore, Answer::Okay))
 }

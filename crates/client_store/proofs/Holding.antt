@@ -22,9 +22,9 @@ use Rattle.row_store.specs.Store.{StoredRows, RowsStand, RowsStandWithGate}
 use Rattle.client_state.specs.declared.client_state.ClientState.{ClientState}
 use Rattle.client_state.specs.Forms.{IsForm}
 use Rattle.client_state.specs.Sound.{IsSound}
-use Rattle.client_state.specs.Spelling.{rows_of}
+use Rattle.client_state.specs.Encoding.{rows_of}
 use Rattle.client_store.specs.Moments.{WhileWritten}
-use Rattle.client_store.specs.OpenStore.{end_of, IsOpenOn, HasGateOn, IsSettled, AllKept, AllStand}
+use Rattle.client_store.specs.OpenStore.{end_of, IsOpenOn, HasGateOn, AreDurable, AllKept, AllStand}
 use Rattle.client_store.specs.Store.{StandsFor, KeptFor}
 use Rattle.client_store.specs.Stored.{StoredState, IsSameStored}
 
@@ -34,7 +34,7 @@ stands_of_kept l r s kept = record { sound = kept.sound; stored = kept.stored; f
 -- ---- rows that stand
 
 module _ {H : Type 0} (h : Ghosts H) (store : StoredRows) (host : H) where
-  pub rows_settled : RowsStand h store host → IsSettled h host
+  pub rows_settled : RowsStand h store host → AreDurable h host
   rows_settled stands = both_sides (λ (side : Side). IsDurable h host side) store.records.side stands.pair.side.only stands.pair.only
 
   pub ungated : RowsStandWithGate h store host → RowsStand h store host
@@ -122,7 +122,7 @@ module _ {H : Type 0} (h : Ghosts H) (store : StoredState) (host : H) (open_on :
   pub all_kept : HasGateOn h store host → AllKept h host store.state
   all_kept gated = rows_kept h store.rows host store.state open_on.stored.sound (inl open_on.stored.same) gated
 
-  pub settled : IsSettled h host
+  pub settled : AreDurable h host
   settled = rows_settled h store.rows host open_on.stands
 
   -- each image has the rows of the state

@@ -15,12 +15,12 @@ use Rattle.row_store.specs.Store.{StoredRows, place}
 use Rattle.client_state.specs.declared.client_state.ClientState.{ClientState}
 use Rattle.client_state.specs.Forms.{IsOldForm}
 use Rattle.client_state.specs.Sound.{IsSound}
-use Rattle.client_state.specs.Spelling.{rows_of, spelling}
+use Rattle.client_state.specs.Encoding.{rows_of, encoding}
 use Rattle.client_store.specs.Migrations.{passes_mark, migration_bytes, place_migrated}
 use Rattle.client_store.specs.Moments.{IsLeftAs}
 
--- what is written, of a batch of 9 bytes after which the rows spell the state
-module _ (store : StoredRows) (s : ClientState) (batch : ChangeList) (payload : List ℕ) (nine : length (batch_text batch) ≡ 9) (whole : batch_text (whole_of (applied batch store.rows)) ≡ spelling s) where
+-- what is written, of a batch of 9 bytes after which the rows encode the state
+module _ (store : StoredRows) (s : ClientState) (batch : ChangeList) (payload : List ℕ) (nine : length (batch_text batch) ≡ 9) (whole : batch_text (whole_of (applied batch store.rows)) ≡ encoding s) where
   passes : IsWritten true store batch payload → passes_mark (place store) ≡ true
   passes written = lt-ltb MAX_RECORD_END (place store + 15) (let past : MAX_RECORD_END < place store + length (batch_text batch) + 6 = written.1 in omega (arith, past, nine))
 
@@ -30,19 +30,19 @@ module _ (store : StoredRows) (s : ClientState) (batch : ChangeList) (payload : 
   bytes_are : (is_whole : Bool) → IsWritten is_whole store batch payload → length payload + (if is_whole then 16 else 6) ≡ migration_bytes (place store) s
   unfolding migration_bytes
   bytes_are true written =
-      subst (λ (b : Bool). length payload + 16 ≡ (if b then length (spelling s) + 16 else 15)) (sym (passes written)) (ap (λ (bytes : List ℕ). length bytes + 16) (written.0 ∙ whole))
+      subst (λ (b : Bool). length payload + 16 ≡ (if b then length (encoding s) + 16 else 15)) (sym (passes written)) (ap (λ (bytes : List ℕ). length bytes + 16) (written.0 ∙ whole))
   bytes_are false written =
-      subst (λ (b : Bool). length payload + 6 ≡ (if b then length (spelling s) + 16 else 15)) (sym (within written)) (ap (λ (n : ℕ). n + 6) (ap length written.0 ∙ nine))
+      subst (λ (b : Bool). length payload + 6 ≡ (if b then length (encoding s) + 16 else 15)) (sym (within written)) (ap (λ (n : ℕ). n + 6) (ap length written.0 ∙ nine))
 
   place_is : (is_whole : Bool) → IsWritten is_whole store batch payload → (if is_whole then length payload + 14 else place store + length payload + 5) ≡ place_migrated (place store) s
   unfolding place_migrated
   place_is true written =
-      subst (λ (b : Bool). length payload + 14 ≡ (if b then length (spelling s) + 14 else place store + 14)) (sym (passes written)) (ap (λ (bytes : List ℕ). length bytes + 14) (written.0 ∙ whole))
+      subst (λ (b : Bool). length payload + 14 ≡ (if b then length (encoding s) + 14 else place store + 14)) (sym (passes written)) (ap (λ (bytes : List ℕ). length bytes + 14) (written.0 ∙ whole))
   place_is false written =
-      subst (λ (b : Bool). place store + length payload + 5 ≡ (if b then length (spelling s) + 14 else place store + 14)) (sym (within written))
+      subst (λ (b : Bool). place store + length payload + 5 ≡ (if b then length (encoding s) + 14 else place store + 14)) (sym (within written))
       (let nine_written : length payload ≡ 9 = ap length written.0 ∙ nine in omega (arith, nine_written))
 
-module _ (store : StoredRows) (s : ClientState) (ready : ReadyRows) (is_ready : IsReadyFor store ready) (batch : ChangeList) (is : ready.batch ≡ batch) (nine : length (batch_text batch) ≡ 9) (whole : batch_text (whole_of (applied batch store.rows)) ≡ spelling s) where
+module _ (store : StoredRows) (s : ClientState) (ready : ReadyRows) (is_ready : IsReadyFor store ready) (batch : ChangeList) (is : ready.batch ≡ batch) (nine : length (batch_text batch) ≡ 9) (whole : batch_text (whole_of (applied batch store.rows)) ≡ encoding s) where
   written_is : IsWritten ready.is_whole store batch ready.payload
   written_is = subst (λ (b : ChangeList). IsWritten ready.is_whole store b ready.payload) is is_ready.written
 

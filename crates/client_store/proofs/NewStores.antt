@@ -14,7 +14,7 @@ use Rattle.pair_store.specs.Repair.{IsUnwritten}
 use Rattle.pair_store.proofs.Beside.{both_sides}
 use Rattle.pair_store.proofs.Choosing.{list_is_store}
 use Rattle.client_state.specs.declared.client_state.ClientState.{ClientState}
-use Rattle.client_state.specs.Spelling.{spelling}
+use Rattle.client_state.specs.Encoding.{encoding}
 use Rattle.client_store.specs.declared.faults.ClientFault.{ClientFault}
 use Rattle.client_store.specs.declared.faults.ClientFault.TheVariants as opening
 use Rattle.client_store.specs.declared.faults.MakeFault.{MakeFault}
@@ -57,7 +57,7 @@ module _ {H : Type 0} (h : Ghosts H) where
     opening_phases found made (inr both) same = inr (inl both)
 
     -- it makes a store behind an opening that found none
-    pub making_phases : (new : H) (first : List ℕ) → first ≡ spelling s → IsAbsent (h.reads start Left) (h.reads start Right) → (HasNoList (h.reads start Left) (h.reads start Right) → IsOnlyRead h start mid) → IsUnwritten h start mid
+    pub making_phases : (new : H) (first : List ℕ) → first ≡ encoding s → IsAbsent (h.reads start Left) (h.reads start Right) → (HasNoList (h.reads start Left) (h.reads start Right) → IsOnlyRead h start mid) → IsUnwritten h start mid
         → MeetsAll h mid new (IsMaking h mid first) → MakesInPhases h s start new
     making_phases new first same absent read unwritten run = record {
       absent = absent;

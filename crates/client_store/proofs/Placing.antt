@@ -12,9 +12,9 @@ use Rattle.row_store.specs.Ready as rows
 use Rattle.row_store.specs.Store.{place}
 use Rattle.client_state.specs.declared.client_state.ClientState.{ClientState}
 use Rattle.client_state.specs.Sound.{IsSound}
-use Rattle.client_state.specs.Spelling.{rows_of, spelling, state_eq}
+use Rattle.client_state.specs.Encoding.{rows_of, encoding, state_eq}
 use Rattle.client_state.proofs.KeyOrder.{rows_rise}
-use Rattle.client_state.proofs.OneState.{one_spelling}
+use Rattle.client_state.proofs.OneState.{one_encoding}
 use Rattle.client_store.specs.declared.change.Change.{Change}
 use Rattle.client_store.specs.Places.{row_changes, change_size, passes_mark, makes_checkpoint, bytes_for, place_after}
 use Rattle.client_store.specs.Changes.{IsChangeOf}
@@ -24,31 +24,31 @@ test_false : (b : Bool) → (b ≡ true → ⊥) → b ≡ false
 test_false true never = absurd (never refl)
 test_false false never = refl
 
--- a state has its own spelling
+-- a state has its own encoding
 pub eq_itself : (s : ClientState) → state_eq s s ≡ true
-eq_itself s = (bytes_decides (spelling s) (spelling s)).1 refl
+eq_itself s = (bytes_decides (encoding s) (encoding s)).1 refl
 
--- sound states that aren't the same have other spellings
+-- sound states that aren't the same have other encodings
 pub eq_apart : (s t : ClientState) → IsSound s → IsSound t → s ≢ t → state_eq s t ≡ false
-eq_apart s t s_sound t_sound other = test_false (state_eq s t) (λ is. other (one_spelling s t s_sound t_sound ((bytes_decides (spelling s) (spelling t)).0 is)))
+eq_apart s t s_sound t_sound other = test_false (state_eq s t) (λ is. other (one_encoding s t s_sound t_sound ((bytes_decides (encoding s) (encoding t)).0 is)))
 
 -- ---- no change
 
 pub place_same : (place : ℕ) (s : ClientState) → place ≡ place_after place s s
 unfolding place_after
-place_same place s = subst (λ (b : Bool). place ≡ (if b then place else (if passes_mark place s s then length (spelling s) + 14 else place + change_size s s + 5))) (sym (eq_itself s)) refl
+place_same place s = subst (λ (b : Bool). place ≡ (if b then place else (if passes_mark place s s then length (encoding s) + 14 else place + change_size s s + 5))) (sym (eq_itself s)) refl
 
 pub bytes_same : (place : ℕ) (s : ClientState) → 0 ≡ bytes_for place s s
 unfolding bytes_for
-bytes_same place s = subst (λ (b : Bool). 0 ≡ (if b then 0 else (if passes_mark place s s then length (spelling s) + 16 else change_size s s + 6))) (sym (eq_itself s)) refl
+bytes_same place s = subst (λ (b : Bool). 0 ≡ (if b then 0 else (if passes_mark place s s then length (encoding s) + 16 else change_size s s + 6))) (sym (eq_itself s)) refl
 
 pub no_checkpoint : (place : ℕ) (s : ClientState) → false ≡ makes_checkpoint place s s
 no_checkpoint place s = subst (λ (b : Bool). false ≡ (if b then false else passes_mark place s s)) (sym (eq_itself s)) refl
 
 -- ---- a change
 
-whole_size : (t : ClientState) → length (batch_text (whole_of (rows_of t))) ≡ length (spelling t)
-unfolding spelling
+whole_size : (t : ClientState) → length (batch_text (whole_of (rows_of t))) ≡ length (encoding t)
+unfolding encoding
 whole_size t = refl
 
 -- the changed rows make the new state's rows of those of the old one
@@ -71,7 +71,7 @@ module _ (stored : StoredState) (t : ClientState) (batch : ChangeList) (payload 
   within : IsWritten false stored.rows batch payload → passes_mark at s t ≡ false
   within written = le-ltb MAX_RECORD_END (at + change_size s t + 6) (subst (λ (b : ChangeList). at + length (batch_text b) + 6 ≤ MAX_RECORD_END) same written.1)
 
-  whole_length : IsWritten true stored.rows batch payload → length payload ≡ length (spelling t)
+  whole_length : IsWritten true stored.rows batch payload → length payload ≡ length (encoding t)
   whole_length written = ap length (written.0 ∙ ap (λ (rs : List StoreRow). batch_text (whole_of rs)) gives) ∙ whole_size t
 
   part_length : IsWritten false stored.rows batch payload → length payload ≡ change_size s t
@@ -84,20 +84,20 @@ module _ (stored : StoredState) (t : ClientState) (batch : ChangeList) (payload 
   pub bytes_are : (is_whole : Bool) → IsWritten is_whole stored.rows batch payload → length payload + (if is_whole then 16 else 6) ≡ bytes_for at s t
   unfolding bytes_for
   bytes_are true written =
-      subst (λ (b : Bool). length payload + 16 ≡ (if b then 0 else (if passes_mark at s t then length (spelling t) + 16 else change_size s t + 6))) (sym apart)
-      (subst (λ (b : Bool). length payload + 16 ≡ (if b then length (spelling t) + 16 else change_size s t + 6)) (sym (passes written)) (ap (λ (n : ℕ). n + 16) (whole_length written)))
+      subst (λ (b : Bool). length payload + 16 ≡ (if b then 0 else (if passes_mark at s t then length (encoding t) + 16 else change_size s t + 6))) (sym apart)
+      (subst (λ (b : Bool). length payload + 16 ≡ (if b then length (encoding t) + 16 else change_size s t + 6)) (sym (passes written)) (ap (λ (n : ℕ). n + 16) (whole_length written)))
   bytes_are false written =
-      subst (λ (b : Bool). length payload + 6 ≡ (if b then 0 else (if passes_mark at s t then length (spelling t) + 16 else change_size s t + 6))) (sym apart)
-      (subst (λ (b : Bool). length payload + 6 ≡ (if b then length (spelling t) + 16 else change_size s t + 6)) (sym (within written)) (ap (λ (n : ℕ). n + 6) (part_length written)))
+      subst (λ (b : Bool). length payload + 6 ≡ (if b then 0 else (if passes_mark at s t then length (encoding t) + 16 else change_size s t + 6))) (sym apart)
+      (subst (λ (b : Bool). length payload + 6 ≡ (if b then length (encoding t) + 16 else change_size s t + 6)) (sym (within written)) (ap (λ (n : ℕ). n + 6) (part_length written)))
 
   pub place_is : (is_whole : Bool) → IsWritten is_whole stored.rows batch payload → (if is_whole then length payload + 14 else at + length payload + 5) ≡ place_after at s t
   unfolding place_after
   place_is true written =
-      subst (λ (b : Bool). length payload + 14 ≡ (if b then at else (if passes_mark at s t then length (spelling t) + 14 else at + change_size s t + 5))) (sym apart)
-      (subst (λ (b : Bool). length payload + 14 ≡ (if b then length (spelling t) + 14 else at + change_size s t + 5)) (sym (passes written)) (ap (λ (n : ℕ). n + 14) (whole_length written)))
+      subst (λ (b : Bool). length payload + 14 ≡ (if b then at else (if passes_mark at s t then length (encoding t) + 14 else at + change_size s t + 5))) (sym apart)
+      (subst (λ (b : Bool). length payload + 14 ≡ (if b then length (encoding t) + 14 else at + change_size s t + 5)) (sym (passes written)) (ap (λ (n : ℕ). n + 14) (whole_length written)))
   place_is false written =
-      subst (λ (b : Bool). at + length payload + 5 ≡ (if b then at else (if passes_mark at s t then length (spelling t) + 14 else at + change_size s t + 5))) (sym apart)
-      (subst (λ (b : Bool). at + length payload + 5 ≡ (if b then length (spelling t) + 14 else at + change_size s t + 5)) (sym (within written)) (ap (λ (n : ℕ). at + n + 5) (part_length written)))
+      subst (λ (b : Bool). at + length payload + 5 ≡ (if b then at else (if passes_mark at s t then length (encoding t) + 14 else at + change_size s t + 5))) (sym apart)
+      (subst (λ (b : Bool). at + length payload + 5 ≡ (if b then length (encoding t) + 14 else at + change_size s t + 5)) (sym (within written)) (ap (λ (n : ℕ). at + n + 5) (part_length written)))
 
 module _ (stored : StoredState) (change : Change) (is_stored : IsStored stored) (is : IsChangeOf stored change) where
   -- the rows with the batch are those of the new state

@@ -17,7 +17,7 @@ use Rattle.row_store.specs.Rows.{HasRows, HasKeptRows, HasPlace}
 use Rattle.row_store.specs.Store.{StoredRows, RowsStandWithGate, place}
 use Rattle.client_state.specs.declared.client_state.ClientState.{ClientState}
 use Rattle.client_state.specs.Sound.{IsSound}
-use Rattle.client_state.specs.Spelling.{rows_of}
+use Rattle.client_state.specs.Encoding.{rows_of}
 use Rattle.client_state.proofs.KeyOrder.{rows_rise}
 use Rattle.client_store.specs.declared.faults.ClientFault.{ClientFault}
 use Rattle.client_store.specs.declared.faults.ClientFault.TheVariants as opening

@@ -7,7 +7,7 @@ use Rattle.row_store.proofs.Folds.{one_map}
 use Rattle.client_state.specs.declared.client_state.ClientState.{ClientState}
 use Rattle.client_state.specs.Forms.{IsForm}
 use Rattle.client_state.specs.Sound.{IsSound}
-use Rattle.client_state.specs.Spelling.{rows_of}
+use Rattle.client_state.specs.Encoding.{rows_of}
 use Rattle.client_state.proofs.OneState.{one_form}
 use Rattle.client_store.specs.Store.{StandsFor, KeptFor}
 use Rattle.client_store.proofs.Holding.{stands_of_kept}

@@ -6,7 +6,7 @@ use Rattle.host_model.specs.Hosts.{NowOf, MeetsAll}
 use Rattle.pair_store.specs.Moments.{EndsUnsynced, OpensInTwoPhases, IsMaking}
 use Rattle.pair_store.specs.Repair.{IsUnwritten}
 use Rattle.client_state.specs.declared.client_state.ClientState.{ClientState}
-use Rattle.client_state.specs.Spelling.{spelling}
+use Rattle.client_state.specs.Encoding.{encoding}
 use Rattle.client_store.specs.declared.faults.MakeFault.{MakeFault}
 use Rattle.client_store.specs.declared.faults.MakeFault.TheVariants.{DiskFault, OutOfMemory}
 use Rattle.client_store.specs.Store.{IsAbsent}
@@ -17,7 +17,7 @@ pub record MakesInPhases {H : Type 0} (h : Ghosts H) (s : ClientState) (start ne
   pub synced : H
   pub first : MeetsAll h start synced (NowOf h start)
   pub unwritten : IsUnwritten h start synced
-  pub second : MeetsAll h synced new (IsMaking h synced (spelling s))
+  pub second : MeetsAll h synced new (IsMaking h synced (encoding s))
 
 -- Such a making; or an opening and no more, as far as the disk lets it; or nothing at all, where memory is wanting before
 abbrev pub MakePhases : {H T : Type 0} → Ghosts H → ClientState → H → H → Result T MakeFault → Type 0

@@ -24,8 +24,8 @@ abbrev pub HasGateOn : {H : Type 0} → Ghosts H → StoredState → H → Type 
 HasGateOn h store host = RowsStandWithGate h store.rows host
 
 -- each image of either side is what reads give
-abbrev pub IsSettled : {H : Type 0} → Ghosts H → H → Type 0
-IsSettled h host = (side : Side) → IsDurable h host side
+abbrev pub AreDurable : {H : Type 0} → Ghosts H → H → Type 0
+AreDurable h host = (side : Side) → IsDurable h host side
 
 -- each pair of images is kept for s
 abbrev pub AllKept : {H : Type 0} → Ghosts H → H → ClientState → Type 0

@@ -14,7 +14,7 @@ use Rattle.client_store.specs.declared.faults.ClientFault.{ClientFault}
 use Rattle.client_store.specs.declared.faults.ClientFault.TheVariants.{NoStore, BadStore, DiskFault, OutOfMemory}
 use Rattle.client_store.specs.Finds.{OpenFinds, OpenFailed}
 use Rattle.client_store.specs.Migrations.{OpensWith}
-use Rattle.client_store.specs.OpenStore.{end_of, IsOpenOn, HasGateOn, IsSettled}
+use Rattle.client_store.specs.OpenStore.{end_of, IsOpenOn, HasGateOn, AreDurable}
 use Rattle.client_store.specs.Store.{StandsFor, KeptFor, IsAbsent, IsBad}
 use Rattle.client_store.specs.Stored.{StoredState}
 
@@ -69,7 +69,7 @@ pub record IsOpened {H : Type 0} (h : Ghosts H) (store : StoredState) (start new
   pub known : (s : ClientState) → StandsFor (h.reads start Left) (h.reads start Right) s → store.state ≡ s
   pub open_on : IsOpenOn h store new
   -- each image is what reads give
-  pub settled : IsSettled h new
+  pub settled : AreDurable h new
   -- a byte stands where the next record begins, if one stood there before or a migration was needed
   pub gate : (s : ClientState) → KeptFor (h.reads start Left) (h.reads start Right) s → HasGateOn h store new
   pub gate_made : (s : ClientState) (found : StandsFor (h.reads start Left) (h.reads start Right) s) → IsTrue (needs_migration found.stored) → HasGateOn h store new

@@ -4,7 +4,7 @@ use Rattle.pair_store.specs.declared.mark.TheConstants.{MAX_RECORD_END}
 use Rattle.row_batches.specs.Batch.{ChangeList, batch_text}
 use Rattle.row_batches.specs.Between.{between}
 use Rattle.client_state.specs.declared.client_state.ClientState.{ClientState}
-use Rattle.client_state.specs.Spelling.{rows_of, spelling, state_eq}
+use Rattle.client_state.specs.Encoding.{rows_of, encoding, state_eq}
 
 -- the changed rows from s to t
 abbrev pub row_changes : ClientState → ClientState → ChangeList
@@ -24,16 +24,16 @@ makes_checkpoint place s t = if state_eq s t then false else passes_mark place s
 
 -- how many bytes a change from s to t writes at this place: none where there is none
 unfoldable pub bytes_for : ℕ → ClientState → ClientState → ℕ
-bytes_for place s t = if state_eq s t then 0 else (if passes_mark place s t then length (spelling t) + 16 else change_size s t + 6)
+bytes_for place s t = if state_eq s t then 0 else (if passes_mark place s t then length (encoding t) + 16 else change_size s t + 6)
 
 -- where the next record begins then
 unfoldable pub place_after : ℕ → ClientState → ClientState → ℕ
-place_after place s t = if state_eq s t then place else (if passes_mark place s t then length (spelling t) + 14 else place + change_size s t + 5)
+place_after place s t = if state_eq s t then place else (if passes_mark place s t then length (encoding t) + 14 else place + change_size s t + 5)
 
 -- how many bytes the making of a store with this state writes
 abbrev pub making_bytes : ClientState → ℕ
-making_bytes s = length (spelling s) + 17
+making_bytes s = length (encoding s) + 17
 
 -- where the next record begins then
 abbrev pub place_made : ClientState → ℕ
-place_made s = length (spelling s) + 14
+place_made s = length (encoding s) + 14

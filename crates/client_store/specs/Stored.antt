@@ -4,7 +4,7 @@ use Rattle.row_store.specs.Store.{StoredRows}
 use Rattle.client_state.specs.declared.client_state.ClientState.{ClientState}
 use Rattle.client_state.specs.Forms.{IsForm}
 use Rattle.client_state.specs.Sound.{IsSound}
-use Rattle.client_state.specs.Spelling.{rows_of}
+use Rattle.client_state.specs.Encoding.{rows_of}
 
 -- the rows that are stored, and the state whose rows they are
 pub record StoredState : Type 0 where

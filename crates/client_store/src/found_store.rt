@@ -13,7 +13,7 @@ ghost use Rattle.row_store.specs.Store.{RowsStand, RowsStandWithGate, place};
 ghost use Rattle.client_state.specs.declared.client_state.ClientState.{ClientState};
 ghost use Rattle.client_state.specs.Forms.{IsForm, IsOldForm, needs_migration};
 ghost use Rattle.client_state.specs.Sound.{IsSound};
-ghost use Rattle.client_state.specs.Spelling.{rows_of};
+ghost use Rattle.client_state.specs.Encoding.{rows_of};
 ghost use Rattle.client_store.specs.Migrations.{migration_bytes, place_migrated, opening_bytes, place_opened};
 ghost use Rattle.client_store.specs.Moments.{IsLeftAs};
 ghost use Rattle.client_store.specs.Openings.{ReadsInPhases};
@@ -138,7 +138,7 @@ fn are_old_form(rows: &mut RowStore) -> bool
     ensures same { rows.new ≡ rows.old }
     ensures row { result ≡ needs_migration rows.old.rows }
     ensures old { IsTrue result → (s : ClientState) → IsForm s rows.old.rows → IsOldForm s rows.old.rows }
-    ensures spelled { result ≡ false → (s : ClientState) → IsForm s rows.old.rows → rows.old.rows ≡ rows_of s }
+    ensures encoded { result ≡ false → (s : ClientState) → IsForm s rows.old.rows → rows.old.rows ≡ rows_of s }
 {
     needs_migration(rows.rows())
 }

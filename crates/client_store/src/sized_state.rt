@@ -1,10 +1,10 @@
-// A state that may be stored, with the size of its spelling.
+// A state that may be stored, with the size of its encoding.
 ghost use Rattle.std.specs.Prelude.{◌≡◌, ◌≤◌, ◌+◌, false, IfOk, IsErrOf, IsTrue, length, option_map};
 ghost use Rattle.row_batches.specs.Batch.{applied, batch_text, whole_of};
 ghost use Rattle.client_state.specs.Changes.{state_after, HasHoldersOfBefore, IsChangeOf, IsWholeChangeOf};
 ghost use Rattle.client_state.specs.Following.{followed, spends};
 ghost use Rattle.client_state.specs.Sound.{IsSound};
-ghost use Rattle.client_state.specs.Spelling.{rows_of, spelling};
+ghost use Rattle.client_state.specs.Encoding.{rows_of, encoding};
 ghost use Rattle.client_store.specs.Places.{row_changes};
 
 use change_outbox::AppendChangesFault;
@@ -18,7 +18,7 @@ use state_codec::MAX_STATE_BYTES;
 use std::alloc::{AllocError, Global};
 use std::marker::Model;
 
-/// A state that may be stored, and how many bytes its spelling has. Contracts see it as the state.
+/// A state that may be stored, and how many bytes its encoding has. Contracts see it as the state.
 ///
 /// The next state's sizes are made of these: only the parts that change are counted, and of recipes those that are gone, new
 /// or differ.
@@ -47,7 +47,7 @@ impl Model for SizedState {
 impl SizedState {
     ghost use Rattle.client_store.specs.Sized.{IsSized};
 
-    /// A sound state, whose spelling is counted.
+    /// A sound state, whose encoding is counted.
     pub(crate) fn new(state: ClientState) -> SizedState
         requires { IsSound state }
         ensures { result ≡ state }
@@ -83,7 +83,7 @@ impl SizedState {
         follow(alloc, &mut self.state, change, manifest, bindings)
     }
 
-    /// The state after a change, or else how many bytes its spelling has, which are too many.
+    /// The state after a change, or else how many bytes its encoding has, which are too many.
     pub(crate) fn next(&self, change: &StateChange) -> Result<Result<SizedState, u128>, AllocError>
         requires { IsWholeChangeOf self.now change.now }
         ensures { IfOk result (λ next. IsSized (state_after change.now self.now) next) }
@@ -108,8 +108,8 @@ impl SizedState {
         ensures sound { IsSound self.now × IsSound next.now }
         ensures changes { IfOk result (λ batch. batch ≡ row_changes self.now next.now) }
         ensures gives { IfOk result (λ batch. applied batch (rows_of self.now) ≡ rows_of next.now) }
-        ensures whole { IfOk result (λ batch. batch_text (whole_of (applied batch (rows_of self.now))) ≡ spelling next.now) }
-        ensures size { IfOk result (λ batch. length (batch_text batch) ≤ length (spelling self.now) + length (spelling next.now)) }
+        ensures whole { IfOk result (λ batch. batch_text (whole_of (applied batch (rows_of self.now))) ≡ encoding next.now) }
+        ensures size { IfOk result (λ batch. length (batch_text batch) ≤ length (encoding self.now) + length (encoding next.now)) }
     {
         next.state();
         changes_to(alloc, &self.state, change)

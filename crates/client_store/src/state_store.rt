@@ -10,7 +10,7 @@ ghost use Rattle.row_store.specs.Store.{RowsStand, RowsStandWithGate, place};
 ghost use Rattle.client_state.specs.Changes as changes;
 ghost use Rattle.client_state.specs.Changes.{state_after, HasHoldersOfBefore, IsWholeChangeOf};
 ghost use Rattle.client_state.specs.Following.{followed, spends};
-ghost use Rattle.client_state.specs.Spelling.{rows_of};
+ghost use Rattle.client_state.specs.Encoding.{rows_of};
 ghost use Rattle.client_store.specs.Sized.{IsSized};
 
 use crate::change::Change;
@@ -87,7 +87,7 @@ impl StateStore {
         self.state.follow(alloc, change, manifest, bindings)
     }
 
-    /// The state after a change, or else how many bytes its spelling has, which are too many.
+    /// The state after a change, or else how many bytes its encoding has, which are too many.
     pub fn sized(&self, change: &StateChange) -> Result<Result<SizedState, u128>, AllocError>
         requires { IsWholeChangeOf self.now.state change.now }
         ensures { IfOk result (λ next. IsSized (state_after change.now self.now.state) next) }

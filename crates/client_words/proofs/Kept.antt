@@ -13,7 +13,7 @@ use Rattle.client_words.specs.declared.command.Command.{Command}
 use Rattle.client_words.specs.declared.command.Command.TheVariants.{Apply, Show, WriteManifest, Changes, Preferences}
 use Rattle.client_words.specs.declared.line.LineFault.{LineFault}
 use Rattle.client_words.specs.declared.line.LineFault.TheVariants.{BadWords}
-use Rattle.client_words.specs.Commands.{IsCommand, words_of, ◌>>=◌, yes_or_no_in, part_in, text_in, unless_bad, slug_in, id_read, id_in, manifest_file, context_file, fetching, alone, participation, opting_out, opting_in, resetting, feature_name, name_in, is_count, count_in, event_count, number_in, confirming, bindings_file, value_in, setting_preference, clearing_preference, command_named, command_of_words, command_of}
+use Rattle.client_words.specs.Commands.{IsCommand, words_of, ◌>>=◌, yes_or_no_in, kinds_in, text_in, unless_bad, slug_in, id_read, id_in, manifest_file, context_file, fetching, alone, participation, opting_out, opting_in, resetting, feature_name, name_in, is_count, count_in, event_count, number_in, confirming, bindings_file, value_in, setting_preference, clearing_preference, command_named, command_of_words, command_of}
 use Rattle.client_words.proofs.Ids.{IsIdIn, id_in_text}
 use Rattle.client_words.proofs.Values.{is_value_in}
 
@@ -100,7 +100,7 @@ alone-kept command (word ∷ more) is = tt
 participate-kept : (words : List (List ℕ)) → Kept (participation words)
 participate-kept [] = tt
 participate-kept (word ∷ []) = free (yes_or_no_in word) _ (λ on. tt)
-participate-kept (word ∷ next ∷ []) = free (part_in word) _ (λ part. free (yes_or_no_in next) _ (λ on. tt))
+participate-kept (word ∷ next ∷ []) = free (kinds_in word) _ (λ kinds. free (yes_or_no_in next) _ (λ on. tt))
 participate-kept (word ∷ next ∷ more ∷ rest) = tt
 
 opt_out-kept : (words : List (List ℕ)) → Kept (opting_out words)

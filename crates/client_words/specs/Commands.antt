@@ -10,8 +10,8 @@ use Rattle.json_tree.specs.declared.tree.Tree.TheVariants.{Truth, Whole, Text}
 use Rattle.plain_text.specs.Names.{bad_place, is_name}
 use Rattle.plain_text.specs.Spans.{lines, words}
 use Rattle.uuid.specs.Text.{parsed}
-use Rattle.enrol_states.specs.declared.participation.Part.{Part}
-use Rattle.enrol_states.specs.declared.participation.Part.TheVariants.{Both, Experiments, Rollouts}
+use Rattle.enrol_states.specs.declared.participation.Kinds.{Kinds}
+use Rattle.enrol_states.specs.declared.participation.Kinds.TheVariants.{Both, Experiments, Rollouts}
 use Rattle.enrol_states.specs.Consistent.{IsId}
 use Rattle.enrol_states.specs.Statuses.{IsSlug}
 use Rattle.pref_bindings.specs.Preferences.{IsValue}
@@ -91,14 +91,14 @@ abbrev pub yes_or_no_in : List ℕ → Result Bool LineFault
 yes_or_no_in word = if bytes_eq word (codes "yes") then Ok true else (if bytes_eq word (codes "no") then Ok false else Err BadWords)
 
 -- the recipes of one kind
-abbrev pub part_in : List ℕ → Result Part LineFault
-part_in word = if bytes_eq word (codes "experiments") then Ok Experiments else (if bytes_eq word (codes "rollouts") then Ok Rollouts else Err BadWords)
+abbrev pub kinds_in : List ℕ → Result Kinds LineFault
+kinds_in word = if bytes_eq word (codes "experiments") then Ok Experiments else (if bytes_eq word (codes "rollouts") then Ok Rollouts else Err BadWords)
 
 -- the words behind `participate`: `yes` or `no`, for the recipes of both kinds or of the one that stands before it
 abbrev pub participation : List (List ℕ) → Result Command LineFault
 participation [] = Err BadWords
 participation (word ∷ []) = yes_or_no_in word >>= λ on. Ok (Participate Both on)
-participation (word ∷ next ∷ []) = part_in word >>= λ part. yes_or_no_in next >>= λ on. Ok (Participate part on)
+participation (word ∷ next ∷ []) = kinds_in word >>= λ kinds. yes_or_no_in next >>= λ on. Ok (Participate kinds on)
 participation (word ∷ next ∷ more ∷ rest) = Err BadWords
 
 -- the words behind `opt-out`

@@ -108,6 +108,6 @@ pub enum Answer {
     NoSuchChange(u64),
     /// The numbers of changes are spent: the next one would pass 9,223,372,036,854,775,807.
     ChangesSpent,
-    /// The spelling of the new state would have so many bytes, which is more than 16,777,216.
+    /// The encoding of the new state would have so many bytes, which is more than 16,777,216.
     StateTooLarge(u128),
 }

@@ -1,11 +1,11 @@
 // The words behind the name of a command.
 ghost use Rattle.std.specs.Prelude.{◌≡◌, ◌⊎◌, List, ℕ, Err, All, map, length};
-ghost use Rattle.client_words.specs.Commands.{yes_or_no_in, part_in, text_in, name_in, count_in, number_in, slug_in, id_in, manifest_file, context_file, fetching, feature_name, participation, opting_out, opting_in, resetting, event_count, confirming, bytes_at, IsWithin};
+ghost use Rattle.client_words.specs.Commands.{yes_or_no_in, kinds_in, text_in, name_in, count_in, number_in, slug_in, id_in, manifest_file, context_file, fetching, feature_name, participation, opting_out, opting_in, resetting, event_count, confirming, bytes_at, IsWithin};
 ghost use Rattle.client_words.specs.Commands as spec;
 
 use crate::command::Command;
 use crate::line::{LineFault, bytes_at};
-use enrol_states::Part;
+use enrol_states::Kinds;
 use plain_text::{Slug, SlugFault, is_name, read_number, slug_of};
 use sequences::Text;
 use std::alloc::Global;
@@ -84,14 +84,14 @@ pub(crate) fn participation(line: &[u8], arguments: &[(usize, usize)]) -> Result
         [word] => {
             let on = yes_or_no_in(bytes_at(line, *word))?;
             Ok(Command::Participate {
-                part: Part::Both,
+                kinds: Kinds::Both,
                 on,
             })
         }
         [word, next] => {
-            let part = part_in(bytes_at(line, *word))?;
+            let kinds = kinds_in(bytes_at(line, *word))?;
             let on = yes_or_no_in(bytes_at(line, *next))?;
-            Ok(Command::Participate { part, on })
+            Ok(Command::Participate { kinds, on })
         }
         _ => Err(LineFault::BadWords),
     }
@@ -203,13 +203,13 @@ fn yes_or_no_in(word: &[u8]) -> Result<bool, LineFault>
 }
 
 /// The kind of recipes that the word names.
-fn part_in(word: &[u8]) -> Result<Part, LineFault>
-    ensures { result ≡ part_in word.now }
+fn kinds_in(word: &[u8]) -> Result<Kinds, LineFault>
+    ensures { result ≡ kinds_in word.now }
 {
     if word == b"experiments".as_slice() {
-        Ok(Part::Experiments)
+        Ok(Kinds::Experiments)
     } else if word == b"rollouts".as_slice() {
-        Ok(Part::Rollouts)
+        Ok(Kinds::Rollouts)
     } else {
         Err(LineFault::BadWords)
     }

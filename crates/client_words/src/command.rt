@@ -1,5 +1,5 @@
 // What a client is asked for.
-use enrol_states::Part;
+use enrol_states::Kinds;
 use json_tree::Tree;
 use plain_text::Slug;
 use sequences::Text;
@@ -16,7 +16,7 @@ pub enum Command {
     /// The pending recipes become the live ones, and enrolments follow them.
     Apply,
     /// Whether the client takes part in experiments, in rollouts, or in both.
-    Participate { part: Part, on: bool },
+    Participate { kinds: Kinds, on: bool },
     /// The slug is opted out, whether or not it has a recipe.
     OptOut { slug: Slug },
     /// The client is enrolled in this branch of the slug's recipe.

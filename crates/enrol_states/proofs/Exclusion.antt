@@ -18,7 +18,7 @@ use Rattle.enrol_states.specs.Choices.{MayChoose}
 use Rattle.enrol_states.specs.Commands.{row_opted_out, row_left, opted_out_of, with_row, opted_in, after_participate, after_opt_out, after_opt_in}
 use Rattle.enrol_states.specs.declared.state.State.{State}
 use Rattle.enrol_states.specs.declared.state.Row.{Row}
-use Rattle.enrol_states.specs.declared.participation.Part.{Part}
+use Rattle.enrol_states.specs.declared.participation.Kinds.{Kinds}
 use Rattle.enrol_states.specs.declared.status.Status.{Status}
 use Rattle.enrol_states.proofs.Ordered.{same_texts, bytes_turned, greater_texts}
 use Rattle.enrol_states.proofs.OptingOut.{is_enrolled-opted_out, either, left_or_same}
@@ -41,14 +41,14 @@ fewer g slug (row ∷ rows) same kept h =
 none_enrolled : {A : Type 0} (row : Row) → IsTrue (is_enrolled (row_opted_out row).status) → A
 none_enrolled row h = let none = is_enrolled-opted_out row.status in absurd cc
 
-pub participate : (s : State) (part : Part) (on : Bool) → AreExclusive s → AreExclusive (after_participate s part on)
-participate s part true ex = ex
-participate s part false ex = λ slug other f r q one two.
-    let same : (row : Row) → (row_left s part row).slug ≡ row.slug = λ row. left_or_same (λ p. p.slug ≡ row.slug) s part row refl (λ h. refl) in
-    let kept : (row : Row) → IsTrue (is_enrolled (row_left s part row).status) → IsTrue (is_enrolled row.status) =
-    λ row. left_or_same (λ p. IsTrue (is_enrolled p.status) → IsTrue (is_enrolled row.status)) s part row (λ h. none_enrolled row h) (λ h enrolled. enrolled)
+pub participate : (s : State) (kinds : Kinds) (on : Bool) → AreExclusive s → AreExclusive (after_participate s kinds on)
+participate s kinds true ex = ex
+participate s kinds false ex = λ slug other f r q one two.
+    let same : (row : Row) → (row_left s kinds row).slug ≡ row.slug = λ row. left_or_same (λ p. p.slug ≡ row.slug) s kinds row refl (λ h. refl) in
+    let kept : (row : Row) → IsTrue (is_enrolled (row_left s kinds row).status) → IsTrue (is_enrolled row.status) =
+    λ row. left_or_same (λ p. IsTrue (is_enrolled p.status) → IsTrue (is_enrolled row.status)) s kinds row (λ h. none_enrolled row h) (λ h enrolled. enrolled)
     in
-    ex slug other f r q (fewer (row_left s part) slug s.rows same kept one) (fewer (row_left s part) other s.rows same kept two)
+    ex slug other f r q (fewer (row_left s kinds) slug s.rows same kept one) (fewer (row_left s kinds) other s.rows same kept two)
 
 pub opt_out : (s : State) (slug : List ℕ) → AreExclusive s → AreExclusive (after_opt_out s slug)
 opt_out s out ex slug other f r q one two =

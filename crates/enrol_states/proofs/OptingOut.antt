@@ -11,7 +11,7 @@ use Rattle.enrol_states.specs.Statuses.{IsStatus, is_enrolled, was_enrolled, enr
 use Rattle.enrol_states.specs.State.{slugs_of}
 use Rattle.enrol_states.specs.Participation.{covers_recipe}
 use Rattle.enrol_states.specs.Commands.{opted_out, row_opted_out, opted_out_of, row_left, leaves, changes_at_opt_out}
-use Rattle.enrol_states.specs.declared.participation.Part.{Part}
+use Rattle.enrol_states.specs.declared.participation.Kinds.{Kinds}
 use Rattle.enrol_states.specs.declared.state.State.{State}
 use Rattle.enrol_states.specs.declared.state.Row.{Row}
 use Rattle.enrol_states.specs.declared.status.Status.{Status}
@@ -64,9 +64,9 @@ chosen P row false out same = same refl
 pub either : (P : Row → Type 0) (slug : List ℕ) (row : Row) → P (row_opted_out row) → (bytes_eq row.slug slug ≡ false → P row) → P (opted_out_of slug row)
 either P slug row out same = chosen P row (bytes_eq row.slug slug) out same
 
--- what holds of the row after an opt-out, and of a row whose live recipe isn't of the part
-pub left_or_same : (P : Row → Type 0) (s : State) (part : Part) (row : Row) → P (row_opted_out row) → (covers_recipe part (recipe_with row.slug s.live) ≡ false → P row) → P (row_left s part row)
-left_or_same P s part row out same = chosen P row (covers_recipe part (recipe_with row.slug s.live)) out same
+-- what holds of the row after an opt-out, and of a row whose live recipe isn't of these kinds
+pub left_or_same : (P : Row → Type 0) (s : State) (kinds : Kinds) (row : Row) → P (row_opted_out row) → (covers_recipe kinds (recipe_with row.slug s.live) ≡ false → P row) → P (row_left s kinds row)
+left_or_same P s kinds row out same = chosen P row (covers_recipe kinds (recipe_with row.slug s.live)) out same
 
 -- ---- the one row of a slug
 
@@ -124,15 +124,15 @@ stays_at row false true e none = row_stays row e
 stays_at row false false e none = refl
 
 -- a row that the end of participation leaves as it is
-pub stays : (s : State) (part : Part) (row : Row) → leaves s part row ≡ false → row_left s part row ≡ row
-stays s part row none = stays_at row (changes_at_opt_out row.status) (covers_recipe part (recipe_with row.slug s.live)) refl none
+pub stays : (s : State) (kinds : Kinds) (row : Row) → leaves s kinds row ≡ false → row_left s kinds row ≡ row
+stays s kinds row none = stays_at row (changes_at_opt_out row.status) (covers_recipe kinds (recipe_with row.slug s.live)) refl none
 
 -- and one that it changes
-pub is_left : (s : State) (part : Part) (row : Row) → leaves s part row ≡ true → row_left s part row ≡ row_opted_out row
-is_left s part row h = ap (λ b. if b then row_opted_out row else row) (second_so (changes_at_opt_out row.status) (covers_recipe part (recipe_with row.slug s.live)) h)
+pub is_left : (s : State) (kinds : Kinds) (row : Row) → leaves s kinds row ≡ true → row_left s kinds row ≡ row_opted_out row
+is_left s kinds row h = ap (λ b. if b then row_opted_out row else row) (second_so (changes_at_opt_out row.status) (covers_recipe kinds (recipe_with row.slug s.live)) h)
 
-pub all-stay : (s : State) (part : Part) (rows : List Row) → list_any (leaves s part) rows ≡ false → map (row_left s part) rows ≡ rows
-all-stay s part [] none = refl
-all-stay s part (q ∷ qs) none =
-    let apart = neither (leaves s part q) (list_any (leaves s part) qs) none in
-    ap₂ (λ r rs. r ∷ rs) (stays s part q apart.0) (all-stay s part qs apart.1)
+pub all-stay : (s : State) (kinds : Kinds) (rows : List Row) → list_any (leaves s kinds) rows ≡ false → map (row_left s kinds) rows ≡ rows
+all-stay s kinds [] none = refl
+all-stay s kinds (q ∷ qs) none =
+    let apart = neither (leaves s kinds q) (list_any (leaves s kinds) qs) none in
+    ap₂ (λ r rs. r ∷ rs) (stays s kinds q apart.0) (all-stay s kinds qs apart.1)

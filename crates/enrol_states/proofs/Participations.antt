@@ -12,7 +12,7 @@ use Rattle.enrol_states.specs.Statuses.{IsSlug, IsStatus, is_enrolled, enrolled_
 use Rattle.enrol_states.specs.Consistent.{HasRecipe, HasBranch, IsNotOptedOut, IsParticipating, IsConsistent}
 use Rattle.enrol_states.specs.Participation.{takes_part, may_take_part, covers, covers_recipe}
 use Rattle.enrol_states.specs.Commands.{opted_out, row_left, after_participate}
-use Rattle.enrol_states.specs.declared.participation.Part.{Part}
+use Rattle.enrol_states.specs.declared.participation.Kinds.{Kinds}
 use Rattle.enrol_states.specs.declared.state.State.{State}
 use Rattle.enrol_states.specs.declared.state.Row.{Row}
 use Rattle.enrol_states.proofs.OptingOut.{is_enrolled-opted_out, enrolled_branch-opted_out, was_enrolled-opted_out, IsStatus-opted_out, All-image, slugs-image, left_or_same}
@@ -34,26 +34,26 @@ switched_off : (b flag : Bool) → b ≡ false → IsTrue flag → IsTrue (if b 
 switched_off true flag e h = absurd cc
 switched_off false flag e h = h
 
-takes_part-on : (s : State) (part : Part) (kind : Kind) → IsTrue (takes_part s kind) → IsTrue (takes_part (after_participate s part true) kind)
-takes_part-on s part Experiment h = switched_on (covers part Experiment) s.experiments h
-takes_part-on s part Rollout h = switched_on (covers part Rollout) s.rollouts h
+takes_part-on : (s : State) (kinds : Kinds) (kind : Kind) → IsTrue (takes_part s kind) → IsTrue (takes_part (after_participate s kinds true) kind)
+takes_part-on s kinds Experiment h = switched_on (covers kinds Experiment) s.experiments h
+takes_part-on s kinds Rollout h = switched_on (covers kinds Rollout) s.rollouts h
 
-takes_part-off : (s : State) (part : Part) (kind : Kind) → covers part kind ≡ false → IsTrue (takes_part s kind) → IsTrue (takes_part (after_participate s part false) kind)
-takes_part-off s part Experiment other h = switched_off (covers part Experiment) s.experiments other h
-takes_part-off s part Rollout other h = switched_off (covers part Rollout) s.rollouts other h
+takes_part-off : (s : State) (kinds : Kinds) (kind : Kind) → covers kinds kind ≡ false → IsTrue (takes_part s kind) → IsTrue (takes_part (after_participate s kinds false) kind)
+takes_part-off s kinds Experiment other h = switched_off (covers kinds Experiment) s.experiments other h
+takes_part-off s kinds Rollout other h = switched_off (covers kinds Rollout) s.rollouts other h
 
-may_take_part-on : (s : State) (part : Part) (o : Option Recipe) → IsTrue (may_take_part s o) → IsTrue (may_take_part (after_participate s part true) o)
-may_take_part-on s part None h = h
-may_take_part-on s part (Some r) h = takes_part-on s part (kind_of r) h
+may_take_part-on : (s : State) (kinds : Kinds) (o : Option Recipe) → IsTrue (may_take_part s o) → IsTrue (may_take_part (after_participate s kinds true) o)
+may_take_part-on s kinds None h = h
+may_take_part-on s kinds (Some r) h = takes_part-on s kinds (kind_of r) h
 
-may_take_part-off : (s : State) (part : Part) (o : Option Recipe) → covers_recipe part o ≡ false → IsTrue (may_take_part s o) → IsTrue (may_take_part (after_participate s part false) o)
-may_take_part-off s part None other h = h
-may_take_part-off s part (Some r) other h = takes_part-off s part (kind_of r) other h
+may_take_part-off : (s : State) (kinds : Kinds) (o : Option Recipe) → covers_recipe kinds o ≡ false → IsTrue (may_take_part s o) → IsTrue (may_take_part (after_participate s kinds false) o)
+may_take_part-off s kinds None other h = h
+may_take_part-off s kinds (Some r) other h = takes_part-off s kinds (kind_of r) other h
 
 -- ---- the state
 
-pub consistent : (s : State) (part : Part) (on : Bool) → IsConsistent s → IsConsistent (after_participate s part on)
-consistent s part true c = let t = after_participate s part true in record {
+pub consistent : (s : State) (kinds : Kinds) (on : Bool) → IsConsistent s → IsConsistent (after_participate s kinds on)
+consistent s kinds true c = let t = after_participate s kinds true in record {
   id = c.id;
   installed = c.installed;
   updated = c.updated;
@@ -71,10 +71,10 @@ consistent s part true c = let t = after_participate s part true in record {
   row_recipes = c.row_recipes;
   row_branches = c.row_branches;
   row_choices = c.row_choices;
-  row_participation = All-weaker (IsParticipating s) (IsParticipating t) (λ row h enrolled. may_take_part-on s part (recipe_with row.slug s.live) (h enrolled)) s.rows c.row_participation;
-  exclusive = exclusion.participate s part true c.exclusive;
+  row_participation = All-weaker (IsParticipating s) (IsParticipating t) (λ row h enrolled. may_take_part-on s kinds (recipe_with row.slug s.live) (h enrolled)) s.rows c.row_participation;
+  exclusive = exclusion.participate s kinds true c.exclusive;
 }
-consistent s part false c = let t = after_participate s part false in record {
+consistent s kinds false c = let t = after_participate s kinds false in record {
   id = c.id;
   installed = c.installed;
   updated = c.updated;
@@ -86,13 +86,13 @@ consistent s part false c = let t = after_participate s part false in record {
   coenrolling_order = c.coenrolling_order;
   live = c.live;
   pending = c.pending;
-  row_slugs = All-image (λ row. IsSlug row.slug) (λ row. IsSlug row.slug) (row_left s part) s.rows (λ row h. left_or_same (λ r. IsSlug r.slug) s part row h (λ other. h)) c.row_slugs;
-  row_order = subst Rise (sym (slugs-image (row_left s part) s.rows (λ row. left_or_same (λ r. r.slug ≡ row.slug) s part row refl (λ other. refl)))) c.row_order;
-  row_statuses = All-image (λ row. IsStatus row.status) (λ row. IsStatus row.status) (row_left s part) s.rows (λ row h. left_or_same (λ r. IsStatus r.status) s part row (IsStatus-opted_out row.status h) (λ other. h)) c.row_statuses;
-  row_recipes = All-image (HasRecipe s) (HasRecipe t) (row_left s part) s.rows (λ row h. left_or_same (HasRecipe t) s part row (ap (λ b. b || has_slug row.slug s.live) (was_enrolled-opted_out row.status) ∙ h) (λ other. h)) c.row_recipes;
-  row_branches = All-image (HasBranch s) (HasBranch t) (row_left s part) s.rows (λ row h. left_or_same (HasBranch t) s part row (λ branch there. no_branch row branch there) (λ other. h)) c.row_branches;
-  row_choices = All-image (IsNotOptedOut s) (IsNotOptedOut t) (row_left s part) s.rows (λ row h. left_or_same (IsNotOptedOut t) s part row (λ enrolled. not_enrolled row enrolled) (λ other. h)) c.row_choices;
-  row_participation = All-image (IsParticipating s) (IsParticipating t) (row_left s part) s.rows
-      (λ row h. left_or_same (IsParticipating t) s part row (λ enrolled. not_enrolled row enrolled) (λ other enrolled. may_take_part-off s part (recipe_with row.slug s.live) other (h enrolled))) c.row_participation;
-  exclusive = exclusion.participate s part false c.exclusive;
+  row_slugs = All-image (λ row. IsSlug row.slug) (λ row. IsSlug row.slug) (row_left s kinds) s.rows (λ row h. left_or_same (λ r. IsSlug r.slug) s kinds row h (λ other. h)) c.row_slugs;
+  row_order = subst Rise (sym (slugs-image (row_left s kinds) s.rows (λ row. left_or_same (λ r. r.slug ≡ row.slug) s kinds row refl (λ other. refl)))) c.row_order;
+  row_statuses = All-image (λ row. IsStatus row.status) (λ row. IsStatus row.status) (row_left s kinds) s.rows (λ row h. left_or_same (λ r. IsStatus r.status) s kinds row (IsStatus-opted_out row.status h) (λ other. h)) c.row_statuses;
+  row_recipes = All-image (HasRecipe s) (HasRecipe t) (row_left s kinds) s.rows (λ row h. left_or_same (HasRecipe t) s kinds row (ap (λ b. b || has_slug row.slug s.live) (was_enrolled-opted_out row.status) ∙ h) (λ other. h)) c.row_recipes;
+  row_branches = All-image (HasBranch s) (HasBranch t) (row_left s kinds) s.rows (λ row h. left_or_same (HasBranch t) s kinds row (λ branch there. no_branch row branch there) (λ other. h)) c.row_branches;
+  row_choices = All-image (IsNotOptedOut s) (IsNotOptedOut t) (row_left s kinds) s.rows (λ row h. left_or_same (IsNotOptedOut t) s kinds row (λ enrolled. not_enrolled row enrolled) (λ other. h)) c.row_choices;
+  row_participation = All-image (IsParticipating s) (IsParticipating t) (row_left s kinds) s.rows
+      (λ row h. left_or_same (IsParticipating t) s kinds row (λ enrolled. not_enrolled row enrolled) (λ other enrolled. may_take_part-off s kinds (recipe_with row.slug s.live) other (h enrolled))) c.row_participation;
+  exclusive = exclusion.participate s kinds false c.exclusive;
 }

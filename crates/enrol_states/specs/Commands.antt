@@ -6,7 +6,7 @@ use Rattle.recipe_reader.specs.Payloads.{slug_cmp, recipe_with}
 use Rattle.recipe_reader.specs.declared.kinds.Kind.{Kind}
 use Rattle.recipe_reader.specs.declared.kinds.Kind.TheVariants.{Experiment, Rollout}
 use Rattle.enrol_states.specs.Participation.{covers, covers_recipe}
-use Rattle.enrol_states.specs.declared.participation.Part.{Part}
+use Rattle.enrol_states.specs.declared.participation.Kinds.{Kinds}
 use Rattle.enrol_states.specs.declared.state.State.{State}
 use Rattle.enrol_states.specs.declared.state.Row.{Row}
 use Rattle.enrol_states.specs.declared.status.Status.{Status}
@@ -33,27 +33,27 @@ row_opted_out row = record { slug = row.slug; status = opted_out row.status }
 
 -- ---- participation
 
--- the row after participation in the part has ended: an opt-out of it, where its live recipe belongs to the part
-abbrev pub row_left : State → Part → Row → Row
-row_left s part row = if covers_recipe part (recipe_with row.slug s.live) then row_opted_out row else row
+-- the row after participation in these kinds has ended: an opt-out of it, where its live recipe belongs to the kinds
+abbrev pub row_left : State → Kinds → Row → Row
+row_left s kinds row = if covers_recipe kinds (recipe_with row.slug s.live) then row_opted_out row else row
 
 -- whether that is another row
-abbrev pub leaves : State → Part → Row → Bool
-leaves s part row = changes_at_opt_out row.status && covers_recipe part (recipe_with row.slug s.live)
+abbrev pub leaves : State → Kinds → Row → Bool
+leaves s kinds row = changes_at_opt_out row.status && covers_recipe kinds (recipe_with row.slug s.live)
 
--- the rows of a client that takes part in the part, or not
-abbrev pub rows_after_participate : State → Part → Bool → List Row
-rows_after_participate s part true = s.rows
-rows_after_participate s part false = map (row_left s part) s.rows
+-- the rows of a client that takes part in recipes of these kinds, or not
+abbrev pub rows_after_participate : State → Kinds → Bool → List Row
+rows_after_participate s kinds true = s.rows
+rows_after_participate s kinds false = map (row_left s kinds) s.rows
 
--- participation of a kind, where that of the part is switched
-abbrev pub switched : Part → Kind → Bool → Bool → Bool
-switched part kind on before = if covers part kind then on else before
+-- participation of a kind, where that of these kinds is switched
+abbrev pub switched : Kinds → Kind → Bool → Bool → Bool
+switched kinds kind on before = if covers kinds kind then on else before
 
--- the client takes part in the part, or not; where it doesn't, it is opted out of every live recipe of the part
-abbrev pub after_participate : State → Part → Bool → State
-after_participate s part on =
-    record s { experiments = switched part Experiment on s.experiments; rollouts = switched part Rollout on s.rollouts; rows = rows_after_participate s part on }
+-- the client takes part in recipes of these kinds, or not; where it doesn't, it is opted out of every live recipe of the kinds
+abbrev pub after_participate : State → Kinds → Bool → State
+after_participate s kinds on =
+    record s { experiments = switched kinds Experiment on s.experiments; rollouts = switched kinds Rollout on s.rollouts; rows = rows_after_participate s kinds on }
 
 -- ---- opt-outs
 

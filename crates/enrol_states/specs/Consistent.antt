@@ -43,7 +43,7 @@ IsNotOptedOut s row = IsTrue (is_enrolled row.status) → is_in s.opted_out row.
 abbrev pub IsParticipating : State → Row → Type 0
 IsParticipating s row = IsTrue (is_enrolled row.status) → IsTrue (may_take_part s (recipe_with row.slug s.live))
 
--- a state that a client can have, but for the length of its spelling
+-- a state that a client can have, but for the length of its encoding
 pub record IsConsistent (s : State) : Type 0 where
   pub id : IsId s.id
   pub installed : s.installed ≤ last_moment

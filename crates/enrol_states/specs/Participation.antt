@@ -5,8 +5,8 @@ use Rattle.recipe_reader.specs.declared.kinds.Kind.{Kind}
 use Rattle.recipe_reader.specs.declared.kinds.Kind.TheVariants.{Experiment, Rollout}
 use Rattle.recipe_reader.specs.declared.recipe.Recipe.{Recipe}
 use Rattle.enrol_states.specs.declared.state.State.{State}
-use Rattle.enrol_states.specs.declared.participation.Part.{Part}
-use Rattle.enrol_states.specs.declared.participation.Part.TheVariants as parts
+use Rattle.enrol_states.specs.declared.participation.Kinds.{Kinds}
+use Rattle.enrol_states.specs.declared.participation.Kinds.TheVariants as kinds_of
 
 -- whether participation of recipes of the kind is on
 abbrev pub takes_part : State → Kind → Bool
@@ -18,13 +18,13 @@ abbrev pub may_take_part : State → Option Recipe → Bool
 may_take_part s None = true
 may_take_part s (Some r) = takes_part s (kind_of r)
 
--- whether recipes of the kind belong to the part
-abbrev pub covers : Part → Kind → Bool
-covers parts.Both kind = true
-covers parts.Experiments kind = kind_eq kind Experiment
-covers parts.Rollouts kind = kind_eq kind Rollout
+-- whether the kind is one of these
+abbrev pub covers : Kinds → Kind → Bool
+covers kinds_of.Both kind = true
+covers kinds_of.Experiments kind = kind_eq kind Experiment
+covers kinds_of.Rollouts kind = kind_eq kind Rollout
 
--- whether there is a recipe, and its kind belongs to the part
-abbrev pub covers_recipe : Part → Option Recipe → Bool
-covers_recipe part None = false
-covers_recipe part (Some r) = covers part (kind_of r)
+-- whether there is a recipe, and its kind is one of these
+abbrev pub covers_recipe : Kinds → Option Recipe → Bool
+covers_recipe kinds None = false
+covers_recipe kinds (Some r) = covers kinds (kind_of r)

@@ -19,7 +19,7 @@ mod verdict;
 pub use choices::{OptInFault, OptOutFault, opt_in, opt_out, reset};
 pub use exclusive::is_exclusive;
 pub use laws::equal_states_are_one;
-pub use participation::{Part, participate};
+pub use participation::{Kinds, participate};
 pub use soundness::is_consistent;
 pub use state::{MAX_OPTED_OUT, MAX_RECIPES, Row, State, id_fits, slug_fits};
 pub use status::{DisqualifiedReason, EnrolledReason, ErrorCause, NotEnrolledReason, Status};

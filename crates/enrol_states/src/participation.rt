@@ -13,89 +13,94 @@ use std::alloc::{AllocError, Global};
 
 /// What a client may take part in, or not.
 #[derive(Clone, Copy, Debug, PartialEq, Eq, Drop)]
-pub enum Part {
+pub enum Kinds {
     /// Experiments and rollouts.
     Both,
     Experiments,
     Rollouts,
 }
 
-/// The state in which the client takes part in the part, or not. Where it doesn't, whether or not it
-/// did before, each enrolment in a live recipe of the part ends as an opt-out, and where the client
+/// The state in which the client takes part in recipes of these kinds, or not. Where it doesn't, whether or not it
+/// did before, each enrolment in a live recipe of these kinds ends as an opt-out, and where the client
 /// never took part in such a recipe, the opt-out is the reason. The rows are shared where none
 /// changes, and so are all other lists.
-pub fn participate(alloc: Global, state: &State, part: Part, on: bool) -> Result<State, AllocError>
+pub fn participate(
+    alloc: Global,
+    state: &State,
+    kinds: Kinds,
+    on: bool,
+) -> Result<State, AllocError>
     requires { IsConsistent state.now }
-    ensures state { IfOk result (λ s. s ≡ after_participate state.now part on) }
+    ensures state { IfOk result (λ s. s ≡ after_participate state.now kinds on) }
     ensures consistent { IfOk result IsConsistent }
 {
-    let rows = rows_after(alloc, state, part, on)?;
+    let rows = rows_after(alloc, state, kinds, on)?;
     let mut next = state.with_rows(state.opted_out.clone()?, rows)?;
-    next.experiments = part.switched(Kind::Experiment, on, state.experiments);
-    next.rollouts = part.switched(Kind::Rollout, on, state.rollouts);
+    next.experiments = kinds.switched(Kind::Experiment, on, state.experiments);
+    next.rollouts = kinds.switched(Kind::Rollout, on, state.rollouts);
     Ok(next)
 }
 
-/// The rows of a client that takes part in the part, or not.
+/// The rows of a client that takes part in recipes of these kinds, or not.
 fn rows_after(
     alloc: Global,
     state: &State,
-    part: Part,
+    kinds: Kinds,
     on: bool,
 ) -> Result<SharedList<Row>, AllocError>
-    ensures { IfOk result (λ rs. rs ≡ rows_after_participate state.now part on) }
+    ensures { IfOk result (λ rs. rs ≡ rows_after_participate state.now kinds on) }
 {
     if on {
         return state.rows.clone();
     }
-    rows_left(alloc, state, part)
+    rows_left(alloc, state, kinds)
 }
 
-/// The rows after participation in the part has ended.
-fn rows_left(alloc: Global, state: &State, part: Part) -> Result<SharedList<Row>, AllocError>
-    ensures { IfOk result (λ rs. rs ≡ map (row_left state.now part) state.now.rows) }
+/// The rows after participation in these kinds has ended.
+fn rows_left(alloc: Global, state: &State, kinds: Kinds) -> Result<SharedList<Row>, AllocError>
+    ensures { IfOk result (λ rs. rs ≡ map (row_left state.now kinds) state.now.rows) }
 {
-    if !any_leaves(state, part) {
+    if !any_leaves(state, kinds) {
         return state.rows.clone();
     }
     let mut rows = Sequence::new(alloc);
     for row in state.rows.as_slice() {
-        rows.push(row_left(state, part, row)?)?;
+        rows.push(row_left(state, kinds, row)?)?;
     }
     SharedList::from_sequence(alloc, rows)
 }
 
-/// Whether one of the rows is another after participation in the part has ended.
-fn any_leaves(state: &State, part: Part) -> bool
-    ensures { result ≡ list_any (leaves state.now part) state.now.rows }
+/// Whether one of the rows is another after participation in these kinds has ended.
+fn any_leaves(state: &State, kinds: Kinds) -> bool
+    ensures { result ≡ list_any (leaves state.now kinds) state.now.rows }
 {
     state
         .rows
         .as_slice()
         .iter()
-        .any(|row| leaves(state, part, row))
+        .any(|row| leaves(state, kinds, row))
 }
 
-/// The row after participation in the part has ended.
-fn row_left(state: &State, part: Part, row: &Row) -> Result<Row, AllocError>
-    ensures { IfOk result (λ r. r ≡ row_left state.now part row.now) }
+/// The row after participation in these kinds has ended.
+fn row_left(state: &State, kinds: Kinds, row: &Row) -> Result<Row, AllocError>
+    ensures { IfOk result (λ r. r ≡ row_left state.now kinds row.now) }
 {
-    if leaves(state, part, row) {
+    if leaves(state, kinds, row) {
         row.opted_out()
     } else {
         row.clone()
     }
 }
 
-/// Whether the row is another after participation in the part has ended.
-fn leaves(state: &State, part: Part, row: &Row) -> bool
-    ensures { result ≡ leaves state.now part row.now }
+/// Whether the row is another after participation in these kinds has ended.
+fn leaves(state: &State, kinds: Kinds, row: &Row) -> bool
+    ensures { result ≡ leaves state.now kinds row.now }
 {
-    row.status.changes_at_opt_out() && part.covers_recipe(state.live.get(row.slug.text()))
+    row.status.changes_at_opt_out() && kinds.covers_recipe(state.live.get(row.slug.text()))
 }
 
-impl Part {
-    /// Whether there is a recipe, and its kind belongs to the part.
+impl Kinds {
+    /// Whether there is a recipe, and its kind is one of these.
     fn covers_recipe(self, recipe: Option<&Recipe>) -> bool
         ensures { result ≡ covers_recipe self (option_map (λ r. r.now) recipe.entry) }
     {
@@ -105,18 +110,18 @@ impl Part {
         }
     }
 
-    /// Whether recipes of the kind belong to the part.
+    /// Whether the kind is one of these.
     fn covers(self, kind: Kind) -> bool
         ensures { result ≡ covers self kind }
     {
         match self {
-            Part::Both => true,
-            Part::Experiments => kind == Kind::Experiment,
-            Part::Rollouts => kind == Kind::Rollout,
+            Kinds::Both => true,
+            Kinds::Experiments => kind == Kind::Experiment,
+            Kinds::Rollouts => kind == Kind::Rollout,
         }
     }
 
-    /// Participation of the kind, where that of the part is switched.
+    /// Participation of the kind, where that of these kinds is switched.
     fn switched(self, kind: Kind, on: bool, before: bool) -> bool
         ensures { result ≡ switched self kind on before }
     {

@@ -1,5 +1,5 @@
 // A list of counts in a ring: as time goes on the oldest counts give way to new ones.
-ghost use Rattle.std.specs.Prelude.{◌≡◌, ◌↔◌, IsTrue, length, replicate, IfOk};
+ghost use Rattle.std.specs.Prelude.{◌≡◌, ◌↔◌, ◌++◌, IsTrue, length, replicate, IfOk};
 ghost use Rattle.circular_buffer.specs.Buffer.{buffer};
 ghost use Rattle.event_counts.specs.Lists.{turned, raised};
 
@@ -52,12 +52,29 @@ impl Ring {
     pub(crate) fn copy(&self, alloc: Global) -> Result<Ring, AllocError>
         ensures { IfOk result (λ r. r ≡ self.now) }
     {
-        let list = self.to_vec(alloc)?;
-        Ring::of_counts(alloc, list.as_slice())
+        let (front, back) = self.counts.as_slices();
+        let mut counts = HeapCircularBuffer::with_capacity(alloc, front.len() + back.len())?;
+        counts.fill_from_slice(front);
+        counts.fill_from_slice(back);
+        Ok(Ring { counts })
     }
 
-    /// Whether both have the same counts. It takes no memory.
+    /// Whether both have the same counts. It takes no memory. Rings that begin at one place of their blocks, as those of shared
+    /// counts do, are compared by whole runs of counts.
     pub(crate) fn is_same(&self, other: &Ring) -> bool
+        ensures { IsTrue result ↔ (self.now ≡ other.now) }
+    {
+        let (front, back) = self.counts.as_slices();
+        let (other_front, other_back) = other.counts.as_slices();
+        if front.len() == other_front.len() {
+            are_same(front, back, other_front, other_back)
+        } else {
+            self.has_same_each(other)
+        }
+    }
+
+    // Whether both have the same counts, told one after the other.
+    fn has_same_each(&self, other: &Ring) -> bool
         ensures { IsTrue result ↔ (self.now ≡ other.now) }
     {
         let len = self.counts.len();
@@ -90,6 +107,14 @@ impl Ring {
             self.counts.push_front(newest.saturating_add(count));
         }
     }
+}
+
+// Whether both parts are the same, of which the front ones are equally long.
+fn are_same(front: &[u32], back: &[u32], other_front: &[u32], other_back: &[u32]) -> bool
+    requires { length front.now ≡ length other_front.now }
+    ensures { IsTrue result ↔ (front.now ++ back.now ≡ other_front.now ++ other_back.now) }
+{
+    front == other_front && back == other_back
 }
 
 // Turns a full ring by so many intervals, one after the other.

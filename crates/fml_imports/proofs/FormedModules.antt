@@ -1,13 +1,11 @@
 -- What is read of a value that nests at most 64 deep is well formed.
-use Rattle.std.proofs.Common.{◌≡◌, ◌≤◌, ℕ, suc, max, Bool, true, false, List, [], ◌∷◌, length, Option as Maybe, Some, None, Result, Ok, Err, refl, sym, ap, ◌∙◌, subst, arith}
+use Rattle.std.proofs.Common.{◌≡◌, ◌≤◌, ℕ, suc, max, Bool, true, false, List, [], ◌∷◌, length, Option as Maybe, Some, None, Result, Ok, sym, ap, ◌∙◌, subst, arith}
 use Rattle.std.specs.Prelude.{All, IsTrue, ⊤, codes, decimal, nat_le, bytes_eq, option_map, if◌then◌else◌}
 use Rattle.json_tree.specs.Json.{Json, null, truth, whole, odd, text, list, object, get, get_member, Items, no_items, item, Members, no_members, member, depth, items_depth, members_depth}
 use Rattle.json_tree.specs.Tree.{json_of}
 use Rattle.json_tree.specs.Bytes.{text_of}
-use Rattle.json_tree.specs.declared.tree.Tree.{Tree}
 use Rattle.plain_text.specs.Names.{is_name}
-use Rattle.fml_types.specs.Shape.{Shape}
-use Rattle.fml_types.specs.Shapes.{shape_of, type_from}
+use Rattle.fml_types.specs.Shapes.{shape_of}
 use Rattle.fml_types.specs.TypeTexts.{spelled}
 use Rattle.fml_types.specs.declared.field_type.FieldType.{FieldType}
 use Rattle.fml_types.specs.declared.manifest.DefaultEntry.{DefaultEntry}
@@ -15,7 +13,7 @@ use Rattle.fml_types.specs.declared.manifest.EnumDefinition.{EnumDefinition}
 use Rattle.fml_types.specs.declared.manifest.FeatureDefinition.{FeatureDefinition}
 use Rattle.fml_types.specs.declared.manifest.Field.{Field}
 use Rattle.fml_types.specs.declared.manifest.ObjectDefinition.{ObjectDefinition}
-use Rattle.fml_reader.specs.Outcome.{◌>>=◌, needed, under}
+use Rattle.fml_reader.specs.Outcome.{◌>>=◌, under}
 use Rattle.fml_reader.specs.Trees.{tree_from}
 use Rattle.fml_reader.specs.Imports.{overrides_of, import_of, imports_of}
 use Rattle.fml_reader.specs.Values.{object_in, text_in, truth_in, value_in, is_key}

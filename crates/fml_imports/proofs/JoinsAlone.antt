@@ -1,6 +1,6 @@
 -- A file that says what a manifest has gives the manifest, where it stands alone.
-use Rattle.std.proofs.Common.{Ordering, ◌≡◌, ℕ, get_or, Bool, true, false, List, [], ◌∷◌, ◌++◌, map, Option as Maybe, Some, None, Result, Ok, Err, Less, Equal, Greater, refl, sym, ap, ◌∙◌, subst, append_assoc, append-nil}
-use Rattle.std.specs.Prelude.{◌||◌, All, ⊤, bytes_eq, cond, if◌then◌else◌}
+use Rattle.std.proofs.Common.{Ordering, ◌≡◌, ℕ, get_or, Bool, true, false, List, [], ◌∷◌, ◌++◌, map, Option as Maybe, None, Result, Ok, Err, Less, Greater, refl, sym, ap, ◌∙◌, subst, append_assoc, append-nil}
+use Rattle.std.specs.Prelude.{◌||◌, All, ⊤, bytes_eq, if◌then◌else◌}
 use Rattle.std.specs.Option.{option_or}
 use Rattle.std.specs.Cmp.Lexicographic.{slice_cmp, bytes_decides}
 use Rattle.std.specs.Ordering.{nat_cmp, ordering_reverse, is_eq, is_lt}
@@ -8,7 +8,7 @@ use Rattle.std.proofs.lemmas.Cmp.{nat_list_cmp_total}
 use Rattle.fml_types.specs.Ground.{grounding}
 use Rattle.fml_types.specs.Named.{IsAbove, IsBelow, AreRising, has_name, with_name}
 use Rattle.fml_types.specs.Shapes.{shape_of}
-use Rattle.fml_types.specs.Sound.{unknown_name, AreSoundFields, IsSoundField, IsSoundManifest}
+use Rattle.fml_types.specs.Sound.{unknown_name, AreSoundFields, IsSoundManifest}
 use Rattle.fml_types.specs.declared.manifest.DefaultEntry.{DefaultEntry}
 use Rattle.fml_types.specs.declared.manifest.EnumDefinition.{EnumDefinition}
 use Rattle.fml_types.specs.declared.manifest.FeatureDefinition.{FeatureDefinition}
@@ -16,11 +16,11 @@ use Rattle.fml_types.specs.declared.manifest.Field.{Field}
 use Rattle.fml_types.specs.declared.manifest.Manifest.{Manifest}
 use Rattle.fml_types.specs.declared.manifest.ObjectDefinition.{ObjectDefinition}
 use Rattle.fml_types.specs.declared.manifest.TypeTable.{TypeTable}
-use Rattle.fml_imports.specs.Channels.{is_among, kept_entries, entries_for}
-use Rattle.fml_imports.specs.Imports.{first_found, first_unknown_import}
-use Rattle.fml_imports.specs.Joining.{unknown_in, unknown_of, all_known, all_grounded, manifest_with, unknown_override, root_channels, checked, made_of, joined}
+use Rattle.fml_imports.specs.Channels.{kept_entries}
+use Rattle.fml_imports.specs.Imports.{first_found}
+use Rattle.fml_imports.specs.Joining.{unknown_in, unknown_of, all_known, all_grounded, manifest_with, checked, made_of, joined}
 use Rattle.fml_imports.specs.Outcome.{◌>>=◌, each}
-use Rattle.fml_imports.specs.Overrides.{overridden, overrides_of}
+use Rattle.fml_imports.specs.Overrides.{overridden}
 use Rattle.fml_imports.specs.Tables.{Tables, no_tables, with_enum, with_object, with_feature, with_module, tables_of, feature_for, module_for}
 use Rattle.fml_imports.specs.WellFormed.{IsWellFormed}
 use Rattle.fml_imports.specs.declared.fault.JoinRefusal.{JoinRefusal}

@@ -4,6 +4,7 @@ pub mod SoundValues
 pub mod ReadModules
 pub mod Steps
 pub mod Maps
+pub mod Inserted
 pub mod SoundManifests
 pub mod Overriding
 pub mod Standing

@@ -1,14 +1,12 @@
 -- The single file of a well formed manifest reads as what the manifest has.
-use Rattle.std.proofs.Common.{◌≡◌, ℕ, suc, ◌<◌, Bool, true, false, List, [], ◌∷◌, ◌++◌, map, length, get_or, Option as Maybe, Some, None, Result, Ok, Err, refl, ap, ◌∙◌, arith}
-use Rattle.std.specs.Prelude.{All, IsTrue, codes, decimal, nat_le, option_map, cond}
+use Rattle.std.proofs.Common.{◌≡◌, ℕ, suc, ◌<◌, Bool, true, List, [], ◌∷◌, map, length, get_or, Option as Maybe, Some, None, Result, Ok, refl, ap, ◌∙◌, arith}
+use Rattle.std.specs.Prelude.{All, IsTrue, codes, decimal, option_map, cond}
 use Rattle.json_tree.specs.Json as json
 use Rattle.json_tree.specs.Json.{Json, items_of, members_of, get}
 use Rattle.json_tree.specs.Tree.{json_of}
-use Rattle.json_tree.specs.Bytes.{text_of}
 use Rattle.json_tree.specs.declared.tree.Tree.{Tree}
 use Rattle.plain_text.specs.Names.{is_name}
 use Rattle.fml_types.specs.Shapes.{shape_of, type_from}
-use Rattle.fml_types.specs.TypeTexts.{spelled}
 use Rattle.fml_types.specs.declared.field_type.FieldType.{FieldType}
 use Rattle.fml_types.specs.declared.manifest.DefaultEntry.{DefaultEntry}
 use Rattle.fml_types.specs.declared.manifest.EnumDefinition.{EnumDefinition}
@@ -18,16 +16,16 @@ use Rattle.fml_types.specs.declared.manifest.Manifest.{Manifest}
 use Rattle.fml_types.specs.declared.manifest.ObjectDefinition.{ObjectDefinition}
 use Rattle.fml_reader.specs.Outcome.{◌>>=◌, bad, needed, under}
 use Rattle.fml_reader.specs.Trees.{tree_from}
-use Rattle.fml_reader.specs.Values.{object_in, text_in, truth_in, value_in, is_key}
-use Rattle.fml_reader.specs.Walks.{each_item, items_in, each_member, members_in, keyed, there, required, optional}
+use Rattle.fml_reader.specs.Values.{text_in, value_in, is_key}
+use Rattle.fml_reader.specs.Walks.{each_item, each_member, members_in, keyed, there}
 use Rattle.fml_reader.specs.Fields.{type_in, field_of, fields_of, variant_of, some_there, enum_of, enums_of, object_of, objects_of}
-use Rattle.fml_reader.specs.Features.{texts_of, names_in, in_order, both, entry_of, entries_of, feature_of, features_of}
+use Rattle.fml_reader.specs.Features.{texts_of, in_order, both, entry_of, entries_of, feature_of, features_of}
 use Rattle.fml_reader.specs.Modules.{definitions_of, module_of}
 use Rattle.fml_reader.specs.declared.fault.ModuleRefusal.{ModuleRefusal}
 use Rattle.fml_reader.specs.declared.module.Module.{Module}
 use Rattle.fml_reader.proofs.SameTrees.{same_trees}
 use Rattle.fml_reader.proofs.Types.{same_types}
-use Rattle.fml_imports.specs.Single.{type_text, members_json, object_json, by_name_json, list_json, given, variant_json, enum_json, field_json, definition_json, entry_json, feature_json, single}
+use Rattle.fml_imports.specs.Single.{type_text, members_json, by_name_json, list_json, variant_json, enum_json, field_json, definition_json, entry_json, feature_json, single}
 use Rattle.fml_imports.specs.WellFormed.{IsSpelledType, IsShort, IsShortDefault, IsWellFormedField, AreWellFormedFields, AreInOrder, IsWellFormedEntry, IsWellFormedEnum, IsWellFormedObject, IsWellFormedFeature, IsWellFormed}
 use Rattle.fml_imports.proofs.Alls.{all_head, all_tail, all_map}
 use Rattle.fml_imports.proofs.TypesAgain.{spelled_again}

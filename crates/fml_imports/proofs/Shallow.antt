@@ -1,5 +1,5 @@
 -- The single file of a well formed manifest nests at most 64 deep.
-use Rattle.std.proofs.Common.{◌≡◌, ◌≤◌, ℕ, List, [], ◌∷◌, map, get_or, Option as Maybe, Some, None, arith}
+use Rattle.std.proofs.Common.{◌≤◌, ℕ, List, [], ◌∷◌, map, get_or, Option as Maybe, Some, None, arith}
 use Rattle.std.specs.Prelude.{All}
 use Rattle.json_tree.specs.Json as json
 use Rattle.json_tree.specs.Json.{Json, items_of, members_of, depth, items_depth, members_depth}
@@ -12,8 +12,8 @@ use Rattle.fml_types.specs.declared.manifest.FeatureDefinition.{FeatureDefinitio
 use Rattle.fml_types.specs.declared.manifest.Field.{Field}
 use Rattle.fml_types.specs.declared.manifest.Manifest.{Manifest}
 use Rattle.fml_types.specs.declared.manifest.ObjectDefinition.{ObjectDefinition}
-use Rattle.fml_imports.specs.Single.{members_json, by_name_json, list_json, variant_json, enum_json, field_json, definition_json, entry_json, feature_json, single}
-use Rattle.fml_imports.specs.WellFormed.{IsShort, IsShortDefault, IsWellFormedField, AreWellFormedFields, IsWellFormedEntry, IsWellFormedObject, IsWellFormedFeature, IsWellFormed}
+use Rattle.fml_imports.specs.Single.{members_json, variant_json, enum_json, field_json, definition_json, entry_json, feature_json, single}
+use Rattle.fml_imports.specs.WellFormed.{IsShort, IsShortDefault, AreWellFormedFields, IsWellFormedEntry, IsWellFormedObject, IsWellFormedFeature, IsWellFormed}
 use Rattle.fml_imports.proofs.Alls.{all_head, all_tail}
 
 abbrev IsWithin : {A : Type 0} → ℕ → (A → Json) → A → Type 0

@@ -1,10 +1,9 @@
 -- The text of a type spells the type.
-use Rattle.std.proofs.Common.{◌≡◌, ℕ, zero, suc, ◌+◌, ◌-◌, ◌<◌, ◌≤◌, Bool, true, false, List, [], ◌∷◌, ◌++◌, length, get_or, take, drop, Option as Maybe, Some, None, refl, sym, ap, ◌∙◌, append_assoc, length-append, arith}
+use Rattle.std.proofs.Common.{◌≡◌, ℕ, zero, suc, ◌+◌, ◌-◌, ◌<◌, ◌≤◌, Bool, true, false, List, [], ◌∷◌, ◌++◌, length, take, drop, Option as Maybe, Some, None, refl, sym, ap, ◌∙◌, append_assoc, length-append, arith}
 use Rattle.std.specs.Prelude.{◌&&◌, ◌||◌, not, ◌==◌, cond, codes, nat_lt, nat_le, slice_index, bytes_eq, position, option_map, option_and_then, if◌then◌else◌}
 use Rattle.std.specs.List.{list_all, position_or_len}
 use Rattle.std.specs.Cmp.{first_so, second_so}
-use Rattle.std.proofs.lemmas.Bool.{eqb-true}
-use Rattle.std.proofs.lemmas.Bool.Decides.{nat_tests}
+use Rattle.std.proofs.lemmas.Bool.{eqb-true, eq-eqb, lt-ltb, le-ltb}
 use Rattle.std.proofs.Math.Seq.{take-append_seam, drop-append-add, get_or-append_seam}
 use Rattle.plain_text.specs.Names.{is_name_byte, is_name}
 use Rattle.fml_types.specs.Shape.{Shape, boolean, int, string, text, image, option, list, map, named, height}
@@ -43,13 +42,13 @@ none_of false false false true e h = absurd cc
 none_of false false false false e h = (refl, refl, refl, refl, h)
 
 same_test : (c : ℕ) → (c == c) ≡ true
-same_test c = grind (arith, nat_tests)
+same_test c = eq-eqb c c refl
 
 less_test : (m n : ℕ) → m < n → nat_lt m n ≡ true
-less_test m n h = grind (arith, nat_tests)
+less_test m n h = lt-ltb m n h
 
 same_length : (n : ℕ) → nat_lt n n ≡ false
-same_length n = grind (arith, nat_tests)
+same_length n = le-ltb n n (omega arith)
 
 -- ---- the first of a byte
 

@@ -57,21 +57,21 @@ pub(crate) fn channel_known(is_known: bool) -> Result<(), JoinFault>
     }
 }
 
-pub(crate) fn imports_known(unknown: Option<Text>) -> Result<(), JoinFault>
-    ensures { Gives result (imports_known unknown) }
+pub(crate) fn imports_known(unknown: &Option<Text>) -> Result<(), JoinFault>
+    ensures { Gives result (imports_known unknown.now) }
 {
     match unknown {
         None => Ok(()),
-        Some(path) => Err(JoinFault::Refused(JoinRefusal::UnknownImport(path))),
+        Some(path) => Err(JoinFault::Refused(JoinRefusal::UnknownImport(path.clone()?))),
     }
 }
 
-pub(crate) fn overrides_known(unknown: Option<Text>) -> Result<(), JoinFault>
-    ensures { Gives result (overrides_known unknown) }
+pub(crate) fn overrides_known(unknown: &Option<Text>) -> Result<(), JoinFault>
+    ensures { Gives result (overrides_known unknown.now) }
 {
     match unknown {
         None => Ok(()),
-        Some(name) => Err(JoinFault::Refused(JoinRefusal::UnknownOverride(name))),
+        Some(name) => Err(JoinFault::Refused(JoinRefusal::UnknownOverride(name.clone()?))),
     }
 }
 

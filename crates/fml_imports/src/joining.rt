@@ -4,7 +4,7 @@ ghost use Rattle.json_tree.specs.Json.{IsSound};
 ghost use Rattle.fml_types.specs.Sound.{IsSoundManifest};
 ghost use Rattle.fml_imports.specs.Channels.{is_among};
 ghost use Rattle.fml_imports.specs.Joining.{joined, checked, root_channels};
-ghost use Rattle.fml_imports.specs.Outcome.{Gives};
+ghost use Rattle.fml_imports.specs.Outcome.{Gives, Leaves};
 ghost use Rattle.fml_imports.specs.Single.{single};
 ghost use Rattle.fml_imports.specs.Sound.{AreRead};
 ghost use Rattle.fml_imports.specs.WellFormed.{IsWellFormed};
@@ -72,7 +72,6 @@ fn copied(name: Option<&Text>) -> Result<Option<Text>, AllocError>
 
 /// The manifest, where its types are known and grounded, the root has the channel, and no import
 /// and no override is unknown.
-#[tactic(auto, using(crate::proofs::Steps::fails_bind), unfolding(crate::specs::Joining::checked))]
 fn checked(
     alloc: Global,
     manifest: Manifest,
@@ -82,12 +81,32 @@ fn checked(
 ) -> Result<Manifest, JoinFault>
     ensures { Gives result (checked manifest has_channel unknown_import unknown_override) }
 {
-    all_known(&manifest)?;
+    check(
+        alloc,
+        &manifest,
+        has_channel,
+        &unknown_import,
+        &unknown_override,
+    )?;
+    Ok(manifest)
+}
+
+/// Refuses the manifest for its first fault, where it has one.
+#[tactic(auto, using(crate::proofs::Steps::fails_bind), unfolding(crate::specs::Joining::checked))]
+fn check(
+    alloc: Global,
+    manifest: &Manifest,
+    has_channel: bool,
+    unknown_import: &Option<Text>,
+    unknown_override: &Option<Text>,
+) -> Result<(), JoinFault>
+    ensures { Leaves manifest.now result (checked manifest.now has_channel unknown_import.now unknown_override.now) }
+{
+    all_known(manifest)?;
     all_grounded(alloc, &manifest.types)?;
     channel_known(has_channel)?;
     imports_known(unknown_import)?;
-    overrides_known(unknown_override)?;
-    Ok(manifest)
+    overrides_known(unknown_override)
 }
 
 /// Whether the root, which is the first of the files, has the channel.

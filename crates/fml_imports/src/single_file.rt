@@ -1,7 +1,7 @@
 // A manifest as one file.
-ghost use Rattle.std.specs.Prelude.{◌≡◌, ◌≤◌, ℕ, List, option_map, IfOk};
+ghost use Rattle.std.specs.Prelude.{◌≡◌, ◌≤◌, ◌++◌, ℕ, List, [], ◌∷◌, codes, option_map, IfOk, OnOk};
 ghost use Rattle.json_tree.specs.Bytes.{max_depth, text_of};
-ghost use Rattle.json_tree.specs.Json.{depth, text};
+ghost use Rattle.json_tree.specs.Json.{IsAbove, depth, text};
 ghost use Rattle.json_tree.specs.Tree.{json_of};
 ghost use Rattle.fml_imports.specs.Laws.{IsFileOf, IsTextOf};
 ghost use Rattle.fml_imports.specs.Single.{by_name_json, definition_json, entry_json, enum_json, feature_json, field_json, given, list_json, single, variant_json};
@@ -55,23 +55,45 @@ pub fn single(alloc: Global, manifest: &Manifest) -> Result<Tree, AllocError>
 fn whole_file(alloc: Global, manifest: &Manifest) -> Result<Tree, AllocError>
     ensures { IfOk result (λ t. json_of t ≡ single manifest.now) }
 {
-    let mut channels = Items::new(alloc);
-    channels.push(Tree::Text(manifest.channel.clone()?))?;
     let mut members = Members::new(alloc);
-    members.push(Text::new(alloc, "channels")?, Tree::List(channels))?;
-    members.push(
-        Text::new(alloc, "enums")?,
-        by_name(alloc, &manifest.types.enums)?,
-    )?;
-    members.push(
-        Text::new(alloc, "features")?,
-        by_name(alloc, &manifest.features)?,
-    )?;
-    members.push(
-        Text::new(alloc, "objects")?,
-        by_name(alloc, &manifest.types.objects)?,
-    )?;
+    put_channel(alloc, &mut members, &manifest.channel)?;
+    put_table(alloc, &mut members, "enums", &manifest.types.enums)?;
+    put_table(alloc, &mut members, "features", &manifest.features)?;
+    put_table(alloc, &mut members, "objects", &manifest.types.objects)?;
     Ok(Tree::Object(members))
+}
+
+/// Puts the list of this channel alone.
+fn put_channel(alloc: Global, members: &mut Members, channel: &Text) -> Result<(), AllocError>
+    requires { IsAbove (codes "channels") members.old }
+    ensures { OnOk result (members.new ≡ members.old ++ (codes "channels", list_json text (channel.now ∷ [])) ∷ []) }
+{
+    let mut channels = Items::new(alloc);
+    channels.push(Tree::Text(channel.clone()?))?;
+    put(alloc, members, "channels", Tree::List(channels))
+}
+
+/// Puts an object with a member for each name of the table.
+fn put_table<T: Written>(
+    alloc: Global,
+    members: &mut Members,
+    key: &str,
+    table: &ByName<T>,
+) -> Result<(), AllocError>
+    requires { IsAbove key.now members.old }
+    ensures { OnOk result (members.new ≡ members.old ++ (key.now, by_name_json T.written table.now) ∷ []) }
+{
+    let tree = by_name(alloc, table)?;
+    put(alloc, members, key, tree)
+}
+
+/// Puts a member at the end, whose key is above each that is there.
+fn put(alloc: Global, members: &mut Members, key: &str, value: Tree) -> Result<(), AllocError>
+    requires { IsAbove key.now members.old }
+    ensures { OnOk result (members.new ≡ members.old ++ (key.now, json_of value) ∷ []) }
+{
+    let key = Text::new(alloc, key)?;
+    members.push(key, value)
 }
 
 impl Written for () {
@@ -87,10 +109,7 @@ impl Written for EnumDefinition {
 
     fn tree(&self, alloc: Global) -> Result<Tree, AllocError> {
         let mut members = Members::new(alloc);
-        members.push(
-            Text::new(alloc, "variants")?,
-            by_name(alloc, &self.variants)?,
-        )?;
+        put_table(alloc, &mut members, "variants", &self.variants)?;
         Ok(Tree::Object(members))
     }
 }
@@ -100,7 +119,7 @@ impl Written for ObjectDefinition {
 
     fn tree(&self, alloc: Global) -> Result<Tree, AllocError> {
         let mut members = Members::new(alloc);
-        members.push(Text::new(alloc, "fields")?, by_name(alloc, &self.fields)?)?;
+        put_table(alloc, &mut members, "fields", &self.fields)?;
         Ok(Tree::Object(members))
     }
 }
@@ -111,10 +130,8 @@ impl Written for Field {
     #[tactic(auto, using(crate::proofs::Written::above_given))]
     fn tree(&self, alloc: Global) -> Result<Tree, AllocError> {
         let mut members = given(alloc, "default", copied(&self.default)?)?;
-        members.push(
-            Text::new(alloc, "type")?,
-            Tree::Text(type_text(alloc, &self.field_type)?),
-        )?;
+        let of = type_text(alloc, &self.field_type)?;
+        put(alloc, &mut members, "type", Tree::Text(of))?;
         Ok(Tree::Object(members))
     }
 }
@@ -125,7 +142,7 @@ impl Written for DefaultEntry {
     #[tactic(auto, using(crate::proofs::Written::above_given))]
     fn tree(&self, alloc: Global) -> Result<Tree, AllocError> {
         let mut members = given(alloc, "channels", channels(alloc, &self.channels)?)?;
-        members.push(Text::new(alloc, "value")?, self.value.clone()?)?;
+        put(alloc, &mut members, "value", self.value.clone()?)?;
         Ok(Tree::Object(members))
     }
 }
@@ -135,18 +152,10 @@ impl Written for FeatureDefinition {
 
     fn tree(&self, alloc: Global) -> Result<Tree, AllocError> {
         let mut members = Members::new(alloc);
-        members.push(
-            Text::new(alloc, "allow-coenrollment")?,
-            Tree::Truth(self.allows_coenrollment),
-        )?;
-        members.push(
-            Text::new(alloc, "defaults")?,
-            entries(alloc, &self.defaults)?,
-        )?;
-        members.push(
-            Text::new(alloc, "variables")?,
-            by_name(alloc, &self.variables)?,
-        )?;
+        let allows = Tree::Truth(self.allows_coenrollment);
+        put(alloc, &mut members, "allow-coenrollment", allows)?;
+        put_entries(alloc, &mut members, &self.defaults)?;
+        put_table(alloc, &mut members, "variables", &self.variables)?;
         Ok(Tree::Object(members))
     }
 }
@@ -158,9 +167,22 @@ fn by_name<T: Written>(alloc: Global, table: &ByName<T>) -> Result<Tree, AllocEr
     let pairs = table.as_slice();
     let mut members = Members::new(alloc);
     for (name, part) in pairs {
-        members.push(name.clone()?, part.tree(alloc)?)?;
+        put(alloc, &mut members, name.as_str(), part.tree(alloc)?)?;
     }
     Ok(Tree::Object(members))
+}
+
+/// Puts the list of the entries.
+fn put_entries(
+    alloc: Global,
+    members: &mut Members,
+    defaults: &Sequence<DefaultEntry>,
+) -> Result<(), AllocError>
+    requires { IsAbove (codes "defaults") members.old }
+    ensures { OnOk result (members.new ≡ members.old ++ (codes "defaults", list_json entry_json defaults.now) ∷ []) }
+{
+    let list = entries(alloc, defaults)?;
+    put(alloc, members, "defaults", list)
 }
 
 fn entries(alloc: Global, entries: &Sequence<DefaultEntry>) -> Result<Tree, AllocError>
@@ -210,7 +232,7 @@ fn given(alloc: Global, key: &str, value: Option<Tree>) -> Result<Members, Alloc
 {
     let mut members = Members::new(alloc);
     if let Some(value) = value {
-        members.push(Text::new(alloc, key)?, value)?;
+        put(alloc, &mut members, key, value)?;
     }
     Ok(members)
 }

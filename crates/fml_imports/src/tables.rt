@@ -1,5 +1,5 @@
 // What the files of a manifest define.
-ghost use Rattle.std.specs.Prelude.{◌≡◌, ◌++◌, [], false, map, option_map, IfOk, OnOk};
+ghost use Rattle.std.specs.Prelude.{◌≡◌, ◌++◌, [], map, option_map, IfOk, OnOk, if◌then◌else◌};
 ghost use Rattle.fml_types.specs.Named.{AreRising, has_name, with_name};
 ghost use Rattle.fml_imports.specs.Outcome.{Leaves, each};
 ghost use Rattle.fml_imports.specs.Held.{GivesHeld, held};
@@ -16,6 +16,8 @@ use fml_types::{
 use sequences::{Sequence, Text};
 use std::alloc::{AllocError, Global};
 use std::collections::BTreeMap;
+use std::collections::btree_map::Entry;
+use std::mem;
 
 /// What is defined, in order by name.
 #[derive(Drop)]
@@ -40,73 +42,84 @@ impl TableMaps {
     fn add_enum(&mut self, name: Text, definition: EnumDefinition) -> Result<(), JoinFault>
         ensures { Leaves (held self.new) result (with_enum (held self.old) (name, definition)) }
     {
-        if has_name(&self.enums, &name) || has_name(&self.objects, &name) {
+        if has_name(&self.objects, &name) {
             return Err(JoinFault::Refused(JoinRefusal::DuplicateName(name)));
         }
-        insert(&mut self.enums, name, definition)?;
-        Ok(())
+        insert(&mut self.enums, name, definition)
     }
 
     /// Adds an object, unless its name is met already.
     fn add_object(&mut self, name: Text, definition: ObjectDefinition) -> Result<(), JoinFault>
         ensures { Leaves (held self.new) result (with_object (held self.old) (name, definition)) }
     {
-        if has_name(&self.enums, &name) || has_name(&self.objects, &name) {
+        if has_name(&self.enums, &name) {
             return Err(JoinFault::Refused(JoinRefusal::DuplicateName(name)));
         }
-        insert(&mut self.objects, name, definition)?;
-        Ok(())
+        insert(&mut self.objects, name, definition)
     }
 
     /// Adds a feature, unless its name is met already.
     fn add_feature(&mut self, name: Text, definition: FeatureDefinition) -> Result<(), JoinFault>
         ensures { Leaves (held self.new) result (with_feature (held self.old) (name, definition)) }
     {
-        if has_name(&self.features, &name) {
-            return Err(JoinFault::Refused(JoinRefusal::DuplicateName(name)));
-        }
-        insert(&mut self.features, name, definition)?;
-        Ok(())
+        insert(&mut self.features, name, definition)
     }
 
+    /// Adds the enums of a file, which are taken out of it.
     #[tactic(auto, using(crate::proofs::Steps::each_fails, crate::proofs::Steps::each_turn))]
-    fn add_enums(&mut self, enums: ByName<EnumDefinition>) -> Result<(), JoinFault>
-        ensures { Leaves (held self.new) result (each with_enum (held self.old) enums) }
+    fn add_enums(
+        &mut self,
+        alloc: Global,
+        enums: &mut ByName<EnumDefinition>,
+    ) -> Result<(), JoinFault>
+        ensures { Leaves (held self.new) result (each with_enum (held self.old) enums.old) }
     {
-        for (name, definition) in enums.into_vec() {
+        for (name, definition) in taken(alloc, enums) {
             self.add_enum(name, definition)?;
         }
         Ok(())
     }
 
+    /// Adds the objects of a file, which are taken out of it.
     #[tactic(auto, using(crate::proofs::Steps::each_fails, crate::proofs::Steps::each_turn))]
-    fn add_objects(&mut self, objects: ByName<ObjectDefinition>) -> Result<(), JoinFault>
-        ensures { Leaves (held self.new) result (each with_object (held self.old) objects) }
+    fn add_objects(
+        &mut self,
+        alloc: Global,
+        objects: &mut ByName<ObjectDefinition>,
+    ) -> Result<(), JoinFault>
+        ensures { Leaves (held self.new) result (each with_object (held self.old) objects.old) }
     {
-        for (name, definition) in objects.into_vec() {
+        for (name, definition) in taken(alloc, objects) {
             self.add_object(name, definition)?;
         }
         Ok(())
     }
 
-    /// Adds the features of a file of this channel, with those of their entries that count for the
-    /// asked one.
+    /// Adds the features of a file of this channel, which are taken out of it, with those of their
+    /// entries that count for the asked one.
     #[tactic(auto, using(crate::proofs::Steps::each_fails, crate::proofs::Steps::each_turn))]
     fn add_features(
         &mut self,
         alloc: Global,
         asked: &Text,
         channel: &Text,
-        features: ByName<FeatureDefinition>,
+        features: &mut ByName<FeatureDefinition>,
     ) -> Result<(), JoinFault>
-        ensures { Leaves (held self.new) result (each with_feature (held self.old) (map (feature_for asked.now channel.now) features)) }
+        ensures { Leaves (held self.new) result (each with_feature (held self.old) (map (feature_for asked.now channel.now) features.old)) }
     {
-        for (name, definition) in features.into_vec() {
+        for (name, definition) in taken(alloc, features) {
             let definition = definition_for(alloc, asked, channel, definition)?;
             self.add_feature(name, definition)?;
         }
         Ok(())
     }
+}
+
+/// What stands under the names, which are taken out of the table.
+fn taken<T: Drop>(alloc: Global, table: &mut ByName<T>) -> Vec<(Text, T)>
+    ensures { result.items ≡ table.old }
+{
+    mem::replace(table, ByName::new(alloc)).into_vec()
 }
 
 #[tactic(auto, using(crate::proofs::Maps::held_name))]
@@ -116,14 +129,21 @@ fn has_name<T>(map: &BTreeMap<Text, T>, name: &Text) -> bool
     map.contains_key(name)
 }
 
-/// Puts a name at its place.
-#[tactic(auto, using(crate::proofs::Maps::put))]
-fn insert<T: Drop>(map: &mut BTreeMap<Text, T>, name: Text, value: T) -> Result<(), AllocError>
-    requires { has_name name map.old.entries ≡ false }
-    ensures { OnOk result (map.new.entries ≡ with_name (name, value) map.old.entries) }
+/// Puts a name at its place, unless it is met already. Its place is looked for once.
+#[tactic(auto, using(crate::proofs::Inserted::put_new, crate::proofs::Inserted::is_met))]
+fn insert<T: Drop>(map: &mut BTreeMap<Text, T>, name: Text, value: T) -> Result<(), JoinFault>
+    ensures { Leaves map.new.entries result (if has_name name map.old.entries then Err (JoinRefusal.DuplicateName name) else Ok (with_name (name, value) map.old.entries)) }
 {
-    map.insert(name, value)?;
-    Ok(())
+    match map.entry(name)? {
+        Entry::Vacant(place) => {
+            place.insert(value);
+            Ok(())
+        }
+        Entry::Occupied(place) => {
+            let name = place.key().clone()?;
+            Err(JoinFault::Refused(JoinRefusal::DuplicateName(name)))
+        }
+    }
 }
 
 fn by_name<T: Drop>(alloc: Global, map: BTreeMap<Text, T>) -> Result<ByName<T>, AllocError>
@@ -149,21 +169,21 @@ pub(crate) struct Definitions {
 }
 
 impl Definitions {
-    /// Adds what a file says, as it counts for the asked channel.
+    /// Adds what a file says, as it counts for the asked channel. It is taken out of the file.
     #[tactic(auto, using(crate::proofs::Steps::fails_bind), unfolding(crate::specs::Tables::with_module))]
-    fn add_file(&mut self, alloc: Global, asked: &Text, file: Linked) -> Result<(), JoinFault>
-        ensures tables { Leaves (held self.new.tables) result (with_module (held self.old.tables) (module_for asked.now file)) }
-        ensures overrides { OnOk result (self.new.overrides ≡ self.old.overrides ++ file_overrides asked.now file) }
+    fn add_file(&mut self, alloc: Global, asked: &Text, file: &mut Linked) -> Result<(), JoinFault>
+        ensures tables { Leaves (held self.new.tables) result (with_module (held self.old.tables) (module_for asked.now file.old)) }
+        ensures overrides { OnOk result (self.new.overrides ≡ self.old.overrides ++ file_overrides asked.now file.old) }
     {
-        let channel = file.channel;
-        let module = file.module;
-        self.tables.add_enums(module.enums)?;
-        self.tables.add_enums(module.types_enums)?;
-        self.tables.add_objects(module.objects)?;
-        self.tables.add_objects(module.types_objects)?;
+        self.tables.add_enums(alloc, &mut file.module.enums)?;
+        self.tables.add_enums(alloc, &mut file.module.types_enums)?;
+        self.tables.add_objects(alloc, &mut file.module.objects)?;
         self.tables
-            .add_features(alloc, asked, &channel, module.features)?;
-        push_overrides(alloc, &mut self.overrides, asked, &channel, module.imports)?;
+            .add_objects(alloc, &mut file.module.types_objects)?;
+        self.tables
+            .add_features(alloc, asked, &file.channel, &mut file.module.features)?;
+        let imports = mem::replace(&mut file.module.imports, Sequence::new(alloc));
+        push_overrides(alloc, &mut self.overrides, asked, &file.channel, imports)?;
         Ok(())
     }
 
@@ -185,19 +205,38 @@ impl Definitions {
         ensures { IfOk result (λ m. m ≡ manifest_with (held self.tables) self.overrides channel) }
     {
         let tables = self.tables;
-        let overrides = self.overrides;
-        let types = TypeTable {
-            enums: by_name(alloc, tables.enums)?,
-            objects: by_name(alloc, tables.objects)?,
-        };
-        let features = overridden(tables.features, overrides)?;
-        let features = by_name(alloc, features)?;
+        let types = type_table(alloc, tables.enums, tables.objects)?;
+        let features = features_with(alloc, tables.features, self.overrides)?;
         Ok(Manifest {
             types,
             features,
             channel,
         })
     }
+}
+
+fn type_table(
+    alloc: Global,
+    enums: BTreeMap<Text, EnumDefinition>,
+    objects: BTreeMap<Text, ObjectDefinition>,
+) -> Result<TypeTable, AllocError>
+    ensures { IfOk result (λ types. types ≡ record { enums = enums.entries; objects = objects.entries }) }
+{
+    let enums = by_name(alloc, enums)?;
+    let objects = by_name(alloc, objects)?;
+    Ok(TypeTable { enums, objects })
+}
+
+/// The features with the overrides laid over them, in order by name.
+fn features_with(
+    alloc: Global,
+    features: BTreeMap<Text, FeatureDefinition>,
+    overrides: Sequence<(Text, Sequence<DefaultEntry>)>,
+) -> Result<ByName<FeatureDefinition>, AllocError>
+    ensures { IfOk result (λ all. all ≡ map (overridden overrides) features.entries) }
+{
+    let features = overridden(features, overrides)?;
+    by_name(alloc, features)
 }
 
 /// The features with the overrides laid over them.
@@ -229,8 +268,8 @@ pub(crate) fn defined(
         tables: TableMaps::new(alloc),
         overrides: Sequence::new(alloc),
     };
-    for file in files.into_vec() {
-        definitions.add_file(alloc, asked, file)?;
+    for mut file in files.into_vec() {
+        definitions.add_file(alloc, asked, &mut file)?;
     }
     Ok(definitions)
 }

@@ -1,4 +1,5 @@
 pub mod Places
+pub mod Searching
 pub mod Spaces
 pub mod Ascii
 pub mod Coenrolled

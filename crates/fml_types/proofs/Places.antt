@@ -8,27 +8,10 @@ use Rattle.std.proofs.lemmas.Cmp.{nat_list_cmp_total}
 use Rattle.std.proofs.lemmas.Map.Text.{is_eq-slice_cmp}
 use Rattle.fml_types.specs.Named.{IsAbove, IsBelow, AreRising, IsPlace, found, has_name, place, with_name}
 
-below_trans : {T : Type 0} (a b : List ℕ) (ps : List (List ℕ × T)) → slice_cmp nat_cmp a b ≡ Less → IsBelow b ps → IsBelow a ps
-below_trans a b [] h below = tt
-below_trans a b (p ∷ ps) h below = (nat_list_cmp_total.trans a b p.0 h below.0, below_trans a b ps h below.1)
-
-below_at : {T : Type 0} (a : List ℕ) (ps : List (List ℕ × T)) (i : ℕ) (d : List ℕ × T) → i < length ps → IsBelow a ps → slice_cmp nat_cmp a (get_or ps i d).0 ≡ Less
+pub below_at : {T : Type 0} (a : List ℕ) (ps : List (List ℕ × T)) (i : ℕ) (d : List ℕ × T) → i < length ps → IsBelow a ps → slice_cmp nat_cmp a (get_or ps i d).0 ≡ Less
 below_at a [] i d lt below = absurd (omega arith)
 below_at a (p ∷ ps) zero d lt below = below.0
 below_at a (p ∷ ps) (suc i) d lt below = below_at a ps i d (omega arith) below.1
-
--- a name above one is above those before it
-pub above_through : {T : Type 0} (s : List ℕ) (ps : List (List ℕ × T)) (i : ℕ) (d : List ℕ × T) → i < length ps → AreRising ps → slice_cmp nat_cmp (get_or ps i d).0 s ≡ Less → IsAbove s (take (suc i) ps)
-above_through s [] i d lt rising h = absurd (omega arith)
-above_through s (p ∷ ps) zero d lt rising h = (h, tt)
-above_through s (p ∷ ps) (suc i) d lt rising h =
-    (nat_list_cmp_total.trans p.0 (get_or ps i d).0 s (below_at p.0 ps i d (omega arith) rising.0) h, above_through s ps i d (omega arith) rising.1 h)
-
--- a name below one is below those after it
-pub below_from : {T : Type 0} (s : List ℕ) (ps : List (List ℕ × T)) (i : ℕ) (d : List ℕ × T) → i < length ps → AreRising ps → slice_cmp nat_cmp s (get_or ps i d).0 ≡ Less → IsBelow s (drop i ps)
-below_from s [] i d lt rising h = absurd (omega arith)
-below_from s (p ∷ ps) zero d lt rising h = (h, below_trans s p.0 ps h rising.0)
-below_from s (p ∷ ps) (suc i) d lt rising h = below_from s ps i d (omega arith) rising.1 h
 
 pub turned : (a b : List ℕ) → slice_cmp nat_cmp a b ≡ Greater → slice_cmp nat_cmp b a ≡ Less
 turned a b h = nat_list_cmp_total.antisymm b a ∙ ap ordering_reverse h

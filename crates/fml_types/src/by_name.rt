@@ -4,7 +4,6 @@ ghost use Rattle.fml_types.specs.Named.{IsAbove, AreRising, IsPlace, found, has_
 
 use sequences::Text;
 use std::alloc::{AllocError, Global};
-use std::cmp::Ordering;
 use std::marker::Model;
 
 /// Names that rise by their bytes, so that no two are the same, each with what stands under it.
@@ -118,15 +117,5 @@ fn place_of<T>(pairs: &[(Text, T)], name: &str) -> Result<usize, usize>
     ensures there { IfOk result (λ i. place name.now pairs.now ≡ Some i) }
     ensures absent { IfErr result (λ i. IsPlace name.now pairs.now i) }
 {
-    let mut low = 0;
-    let mut high = pairs.len();
-    while low < high {
-        let middle = low + (high - low) / 2;
-        match pairs[middle].0.as_str().cmp(name) {
-            Ordering::Less => low = middle + 1,
-            Ordering::Equal => return Ok(middle),
-            Ordering::Greater => high = middle,
-        }
-    }
-    Err(low)
+    pairs.binary_search_by(|pair| pair.0.as_str().cmp(name))
 }

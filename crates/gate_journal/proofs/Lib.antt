@@ -4,6 +4,7 @@ mod Fronts
 mod Gates
 mod Making
 pub mod Opening
+mod Parts
 pub mod Ranges
 pub mod Standing
 pub mod Unique

@@ -12,10 +12,10 @@ ghost use Rattle.gate_journal.specs.Records.{made_on, recorded, place_of, IsClos
 use crate::faults::{AppendFault, OpenFault};
 use crate::format::{CLOSED, FIRST_GATE, MAX_SIDE_END, OPEN};
 use crate::frame::Frame;
+use crate::payloads::Payloads;
 use crate::reading::{is_open, read_header, read_records, read_side, without_header};
 use crate::writing::write_synced;
 use host_model::{DiskFailed, Host, Side};
-use sequences::Sequence;
 use std::alloc::Global;
 use std::marker::Model;
 
@@ -51,6 +51,14 @@ impl Journal {
         ensures known { result ≤ 2 }
     {
         self.generation
+    }
+
+    /// Where the next record begins, which is the place of the gate that ends the records.
+    pub fn place(&self) -> u64
+        ensures place { result ≡ self.now.place }
+        ensures within { result < MAX_SIDE_END }
+    {
+        self.place
     }
 
     /// Where the next record would end, with the gate behind it.
@@ -130,7 +138,7 @@ impl Journal {
         alloc: Global,
         host: &mut H,
         side: Side,
-    ) -> Result<(Journal, Sequence<Sequence<u8>>), OpenFault>
+    ) -> Result<(Journal, Payloads), OpenFault>
         ensures opened { H.tells → IfOk result (λ found. Stands H.Host found.0 host.new found.1) }
         ensures side { IfOk result (λ found. found.0.side ≡ side) }
         ensures opened_where { H.tells → (generation : ℕ) (payloads : List (List ℕ)) → IsOpen generation payloads (H.reads host.old side)
@@ -211,7 +219,7 @@ fn find_journal<H: Host>(
     alloc: Global,
     host: &mut H,
     side: Side,
-) -> Result<(Journal, Sequence<Sequence<u8>>), OpenFault>
+) -> Result<(Journal, Payloads), OpenFault>
     ensures opened { H.tells → IfOk result (λ found. IsOpen found.0.generation found.1 (H.reads host.old side)) }
     ensures place { IfOk result (λ found. found.0.place ≡ place_of found.1) }
     ensures side { IfOk result (λ found. found.0.side ≡ side) }
@@ -241,7 +249,7 @@ fn read_open<H: Host>(
     alloc: Global,
     host: &mut H,
     side: Side,
-) -> Result<(Journal, Sequence<Sequence<u8>>), OpenFault>
+) -> Result<(Journal, Payloads), OpenFault>
     ensures opened { H.tells → IfOk result (λ found. IsOpen found.0.generation found.1 (H.reads host.old side)) }
     ensures place { IfOk result (λ found. found.0.place ≡ place_of found.1) }
     ensures side { IfOk result (λ found. found.0.side ≡ side) }
@@ -259,29 +267,25 @@ fn read_open<H: Host>(
     ensures say_faults { H.say_faults host.new ≡ H.say_faults host.old }
 {
     let bytes = read_side(alloc, host, side)?;
-    read_journal(alloc, side, &bytes)
+    read_journal(alloc, side, bytes)
 }
 
 // The journal of a side with these bytes, and its payloads.
-fn read_journal(
-    alloc: Global,
-    side: Side,
-    bytes: &[u8],
-) -> Result<(Journal, Sequence<Sequence<u8>>), OpenFault>
-    ensures opened { IfOk result (λ found. IsOpen found.0.generation found.1 bytes.now) }
+fn read_journal(alloc: Global, side: Side, bytes: Vec<u8>) -> Result<(Journal, Payloads), OpenFault>
+    ensures opened { IfOk result (λ found. IsOpen found.0.generation found.1 bytes.items) }
     ensures place { IfOk result (λ found. found.0.place ≡ place_of found.1) }
     ensures side { IfOk result (λ found. found.0.side ≡ side) }
-    ensures opened_where { (generation : ℕ) (payloads : List (List ℕ)) → IsOpen generation payloads bytes.now → IsOk result ⊎ HasFailed result }
-    ensures closed { IsErrOf result OpenFault.Closed → IsClosed bytes.now }
-    ensures closed_where { IsClosed bytes.now → IsErrOf result OpenFault.Closed ⊎ HasFailed result }
-    ensures no_journal { IsErrOf result OpenFault.NotAJournal → IsNoJournal bytes.now }
-    ensures no_journal_where { IsNoJournal bytes.now → IsErrOf result OpenFault.NotAJournal ⊎ HasFailed result }
+    ensures opened_where { (generation : ℕ) (payloads : List (List ℕ)) → IsOpen generation payloads bytes.items → IsOk result ⊎ HasFailed result }
+    ensures closed { IsErrOf result OpenFault.Closed → IsClosed bytes.items }
+    ensures closed_where { IsClosed bytes.items → IsErrOf result OpenFault.Closed ⊎ HasFailed result }
+    ensures no_journal { IsErrOf result OpenFault.NotAJournal → IsNoJournal bytes.items }
+    ensures no_journal_where { IsNoJournal bytes.items → IsErrOf result OpenFault.NotAJournal ⊎ HasFailed result }
     ensures no_fault { IsErrOf result OpenFault.DiskFault → ⊥ }
 {
-    let Some((generation, rest)) = read_header(bytes) else {
-        return Err(without_header(bytes));
+    let Some(generation) = read_header(&bytes) else {
+        return Err(without_header(&bytes));
     };
-    let Some((place, payloads)) = read_records(alloc, rest)? else {
+    let Some((place, parts)) = read_records(alloc, &bytes)? else {
         return Err(OpenFault::NotAJournal);
     };
     Ok((
@@ -290,6 +294,6 @@ fn read_journal(
             generation,
             place,
         },
-        payloads,
+        Payloads::new(bytes, parts),
     ))
 }

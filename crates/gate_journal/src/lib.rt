@@ -10,6 +10,7 @@ mod format;
 mod frame;
 mod journal;
 mod laws;
+mod payloads;
 mod reading;
 mod writing;
 
@@ -18,3 +19,4 @@ pub use format::MAX_SIDE_END;
 pub use frame::{Frame, FrameFault, MAX_PAYLOAD};
 pub use journal::Journal;
 pub use laws::one_reading;
+pub use payloads::Payloads;

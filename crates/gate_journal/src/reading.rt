@@ -1,5 +1,6 @@
 // What a side has, read from its bytes.
-ghost use Rattle.std.specs.Prelude.{◌≡◌, ◌⊎◌, ◌≤◌, ◌++◌, ◌∷◌, false, length, take, IfOk, OnOk, IfSome, IfNone, IsErrOf, IsTrue};
+ghost use Rattle.std.specs.Prelude.{◌≡◌, ◌⊎◌, ◌≤◌, ◌++◌, ◌∷◌, false, length, take, drop, IfOk, OnOk, IfSome, IfNone, IsErrOf, IsTrue};
+ghost use Rattle.gate_journal.specs.Parts.{payloads_in, AreWithin};
 ghost use Rattle.gate_journal.specs.Reading.{HasNoHeader, HasNoRecords, HasRecords, IsNext};
 ghost use Rattle.gate_journal.specs.Records.{header, place_of, IsClosed, IsNoJournal};
 ghost use Rattle.host_model.specs.Causes.{HasCause, Rose};
@@ -7,14 +8,15 @@ ghost use Rattle.host_model.specs.Hosts.{MeetsAll, NowOf, StillAll};
 
 use crate::faults::OpenFault;
 use crate::format::{CLOSED, FIRST_GATE, MAX_SIDE_END, OPEN};
+use crate::payloads::Part;
 use host_model::{DiskFailed, Host, Side};
-use sequences::Sequence;
 use std::alloc::{AllocError, Global};
 
-/// The generation and the bytes behind it.
-pub(crate) fn read_header(bytes: &[u8]) -> Option<(u8, &[u8])>
-    ensures header { IfSome result (λ found. bytes.now ≡ 1 ∷ header found.0 ++ found.1.now) }
-    ensures known { IfSome result (λ found. found.0 ≤ 2) }
+/// The generation of the header that stands first.
+pub(crate) fn read_header(bytes: &[u8]) -> Option<u8>
+    ensures header { IfSome result (λ generation. bytes.now ≡ 1 ∷ header generation ++ drop FIRST_GATE bytes.now) }
+    ensures known { IfSome result (λ generation. generation ≤ 2) }
+    ensures long { IfSome result (λ _. FIRST_GATE ≤ length bytes.now) }
     ensures none { IfNone result (HasNoHeader bytes.now) }
 {
     match bytes {
@@ -28,8 +30,8 @@ pub(crate) fn read_header(bytes: &[u8]) -> Option<(u8, &[u8])>
             b'S',
             b'1',
             generation,
-            rest @ ..,
-        ] if *generation <= 2 => { Some((*generation, rest)) }
+            ..
+        ] if *generation <= 2 => { Some(*generation) }
         _ => None,
     }
 }
@@ -65,18 +67,20 @@ pub(crate) fn next_record(bytes: &[u8]) -> Next<'_>
     }
 }
 
-/// Where whole records end that begin at the first gate, and their payloads, up to a gate that isn't open. A record
-/// that would end past the last place is refused before its payload is copied.
+/// Where whole records end that begin at the first gate, and which parts of the side's bytes their payloads are, up to a gate
+/// that isn't open. A record that would end past the last place is refused.
 pub(crate) fn read_records(
     alloc: Global,
     bytes: &[u8],
-) -> Result<Option<(u64, Sequence<Sequence<u8>>)>, AllocError>
-    ensures some { IfOk result (λ found. IfSome found (λ records. HasRecords records.1 bytes.now)) }
-    ensures place { IfOk result (λ found. IfSome found (λ records. records.0 ≡ place_of records.1)) }
-    ensures none { IfOk result (λ found. IfNone found (HasNoRecords bytes.now)) }
+) -> Result<Option<(u64, Vec<Part>)>, AllocError>
+    requires { FIRST_GATE ≤ length bytes.now }
+    ensures some { IfOk result (λ found. IfSome found (λ records. HasRecords (payloads_in bytes.now records.1.items) (drop FIRST_GATE bytes.now))) }
+    ensures place { IfOk result (λ found. IfSome found (λ records. records.0 ≡ place_of (payloads_in bytes.now records.1.items))) }
+    ensures within { IfOk result (λ found. IfSome found (λ records. AreWithin bytes.now records.1.items)) }
+    ensures none { IfOk result (λ found. IfNone found (HasNoRecords (drop FIRST_GATE bytes.now))) }
 {
-    let mut payloads = Sequence::new(alloc);
-    let mut rest = bytes;
+    let mut parts = Vec::new(alloc);
+    let mut rest = &bytes[FIRST_GATE as usize..];
     let mut place = FIRST_GATE;
     loop {
         match next_record(rest) {
@@ -90,14 +94,16 @@ pub(crate) fn read_records(
                 if end >= MAX_SIDE_END {
                     return Ok(None);
                 }
-                let copy = Sequence::from_vec(payload.to_vec(alloc)?);
-                payloads.push(copy)?;
+                parts.push(Part {
+                    start: place as usize + 5,
+                    len: payload.len(),
+                })?;
                 rest = behind;
                 place = end;
             }
         }
     }
-    Ok(Some((place, payloads)))
+    Ok(Some((place, parts)))
 }
 
 /// Why a side without a header is not open.

@@ -13,17 +13,17 @@ use Rattle.jexl_eval.specs.Meaning.{meaning}
 use Rattle.jexl_eval.specs.Seen.{found_as_json}
 
 -- the fault that was had is the answer
-exit : (meant : Result Json Fault) (r : Result Found EvalFault) (f : EvalFault) → IsErrAnd r (λ e. e ≡ f) → Fails f meant → Gives found_as_json r meant
-exit meant r f h fails = let p = err_from_is_err_and r h in subst (λ s. Gives found_as_json s meant) (sym p.1) (subst (λ e. Fails e meant) (sym p.2) fails)
+pub exit : {X Y : Type 0} (view : X → Y) (meant : Result Y Fault) (r : Result X EvalFault) (f : EvalFault) → IsErrAnd r (λ e. e ≡ f) → Fails f meant → Gives view r meant
+exit view meant r f h fails = let p = err_from_is_err_and r h in subst (λ s. Gives view s meant) (sym p.1) (subst (λ e. Fails e meant) (sym p.2) fails)
 
--- want of memory is
-pub exit_memory : (meant : Result Json Fault) (r : Result Found EvalFault) → IsErrAnd r (λ e. e ≡ faults.OutOfMemory) → Gives found_as_json r meant
-exit_memory meant r h = exit meant r faults.OutOfMemory h tt
+-- so is want of memory
+pub exit_memory : {X Y : Type 0} (view : X → Y) (meant : Result Y Fault) (r : Result X EvalFault) → IsErrAnd r (λ e. e ≡ faults.OutOfMemory) → Gives view r meant
+exit_memory view meant r h = exit view meant r faults.OutOfMemory h tt
 
 -- along the tree that a node is: a fault, an answer, a value
 module _ (has : List ℕ → Bool) (attributes : Members) (current : Json) (t u : Tree) where
   pub fails_at : (r : Result Found EvalFault) (f : EvalFault) → IsErrAnd r (λ e. e ≡ f) → t ≡ u → Fails f (meaning has attributes current u) → Gives found_as_json r (meaning has attributes current t)
-  fails_at r f h e fails = exit (meaning has attributes current t) r f h (subst (λ v. Fails f (meaning has attributes current v)) (sym e) fails)
+  fails_at r f h e fails = exit found_as_json (meaning has attributes current t) r f h (subst (λ v. Fails f (meaning has attributes current v)) (sym e) fails)
 
   pub gives_at : (r : Result Found EvalFault) → t ≡ u → Gives found_as_json r (meaning has attributes current u) → Gives found_as_json r (meaning has attributes current t)
   gives_at r e h = subst (λ v. Gives found_as_json r (meaning has attributes current v)) (sym e) h

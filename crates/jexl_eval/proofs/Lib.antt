@@ -5,6 +5,7 @@ pub mod Walking
 pub mod Faulting
 pub mod Lists
 pub mod Arms
+pub mod FirstValues
 pub mod Exits
 pub mod Steps
 pub mod Stepping

@@ -13,7 +13,7 @@ use Rattle.jexl_parser.specs.View.{view, views, view_pairs}
 use Rattle.jexl_parser.proofs.Views.{views_push, pairs_push}
 use Rattle.jexl_eval.specs.declared.step.Step.{Step}
 use Rattle.jexl_eval.specs.declared.step.Step.TheVariants as steps
-use Rattle.jexl_eval.specs.Steps.{tree_of, trees_of, list_trees, list_pairs, Extends, IsPart, AllFit, PairsFit, IsPrepared, IsPlaced}
+use Rattle.jexl_eval.specs.Steps.{tree_of, trees_of, list_trees, list_pairs, Extends, IsPart, AllFit, PairsFit, IsPrepared, ArePrepared, MembersPrepared, IsPlaced}
 use Rattle.jexl_eval.proofs.Steps.{list_tree, members_tree, transform_tree, all_list, all_members, all_transform, all_push, pairs_fit_push}
 
 pub extends_on : (ps qs rs : List Tree) → Extends ps qs → Extends qs rs → Extends ps rs
@@ -53,9 +53,6 @@ part_later : (ps qs : List Tree) (t : Tree) (place : Option ℕ) → Extends ps 
 part_later ps qs t None grows h = tt
 part_later ps qs t (Some k) grows h = (grows k t h.0, h.1)
 
-pub prepared_later : (ps qs : List Tree) (t : Tree) (s : Step) → Extends ps qs → IsPrepared ps t s → IsPrepared qs t s
-prepared_later ps qs t s grows h = (h.0, λ us x. h.1 us (extends_on ps qs us grows x))
-
 -- as the part at a place
 pub placed : (ps qs : List Tree) (t : Tree) (place : Option ℕ) (s r : Step) → IsPart ps t place → Extends ps qs → IsPrepared qs t s → IsPlaced place s r → IsPrepared qs t r
 placed ps qs t place s r part grows h p =
@@ -70,41 +67,46 @@ on_ok (Ok u) h = h
 on_ok (Err e) h = tt
 
 module _ (qs : List Tree) (t : Tree) where
-  boxed : (a : Tree) (b : Box Step Global) (s : Step) → b.value ≡ s → IsPrepared qs a s → IsPrepared qs a b.value
-  boxed a b s is h = subst (IsPrepared qs a) (sym is) h
+  pub member_prepared : (a : Tree) (b : Box Step Global) (n : Bor (List ℕ)) → t ≡ trees.Member a n.now → IsPrepared qs a b.value → IsPrepared qs t (steps.Member b n)
+  member_prepared a b n e h = (ap (λ u. trees.Member u n.now) h.0 ∙ sym e, λ us x. h.1 us x)
 
-  pub member_prepared : (a : Tree) (b : Box Step Global) (n : Bor (List ℕ)) (s : Step) → t ≡ trees.Member a n.now → b.value ≡ s → IsPrepared qs a s → IsPrepared qs t (steps.Member b n)
-  member_prepared a b n s e is h = let g = boxed a b s is h in (ap (λ u. trees.Member u n.now) g.0 ∙ sym e, λ us x. g.1 us x)
+  pub not_prepared : (a : Tree) (b : Box Step Global) → t ≡ trees.Not a → IsPrepared qs a b.value → IsPrepared qs t (steps.Not b)
+  not_prepared a b e h = (ap trees.Not h.0 ∙ sym e, λ us x. h.1 us x)
 
-  pub not_prepared : (a : Tree) (b : Box Step Global) (s : Step) → t ≡ trees.Not a → b.value ≡ s → IsPrepared qs a s → IsPrepared qs t (steps.Not b)
-  not_prepared a b s e is h = let g = boxed a b s is h in (ap trees.Not g.0 ∙ sym e, λ us x. g.1 us x)
+  pub list_prepared : (ns : List Node) (v : Vec Step Global) → ArePrepared qs ns v.items → t ≡ trees.Items (views ns) → IsPrepared qs t (steps.List v)
+  list_prepared ns v h e = (list_tree v ∙ ap trees.Items h.0 ∙ sym e, λ us x. all_list us v (h.1 us x))
 
-  module _ (a c : Tree) (b d : Box Step Global) (s r : Step) (is : b.value ≡ s) (has : d.value ≡ r) (h : IsPrepared qs a s) (k : IsPrepared qs c r) where
-    pub index_prepared : t ≡ trees.Index a c → IsPrepared qs t (steps.Index b d)
-    index_prepared e = let g = boxed a b s is h in let f = boxed c d r has k in (ap₂ trees.Index g.0 f.0 ∙ sym e, λ us x. (g.1 us x, f.1 us x))
+  pub pairs_prepared : (ps : List (List ℕ × Node)) (v : Vec (Bor (List ℕ) × Step) Global) → MembersPrepared qs ps v.items → t ≡ trees.Members (view_pairs ps) → IsPrepared qs t (steps.Members v)
+  pairs_prepared ps v h e = (members_tree v ∙ ap trees.Members h.0 ∙ sym e, λ us x. all_members us v (h.1 us x))
 
-    pub filter_prepared : t ≡ trees.Filter a c → IsPrepared qs t (steps.Filter b d)
-    filter_prepared e = let g = boxed a b s is h in let f = boxed c d r has k in (ap₂ trees.Filter g.0 f.0 ∙ sym e, λ us x. (g.1 us x, f.1 us x))
+  -- a first part, which was prepared before the others
+  module _ (ps : List Tree) (a : Tree) (b : Box Step Global) (h : IsPrepared ps a b.value) where
+    pub transform_prepared : (n : Bor (List ℕ)) (ns : List Node) (v : Vec Step Global) → Extends ps qs → ArePrepared qs ns v.items → t ≡ trees.Transform a n.now (views ns) → IsPrepared qs t (steps.Transform b n v)
+    transform_prepared n ns v grows k e = (
+      transform_tree b n v ∙ ap₂ (λ y z. trees.Transform y n.now z) h.0 k.0 ∙ sym e,
+      λ us x. all_transform us b n v (h.1 us (extends_on ps qs us grows x)) (k.1 us x),
+    )
 
-    pub or_else_prepared : t ≡ trees.OrElse a c → IsPrepared qs t (steps.OrElse b d)
-    or_else_prepared e = let g = boxed a b s is h in let f = boxed c d r has k in (ap₂ trees.OrElse g.0 f.0 ∙ sym e, λ us x. (g.1 us x, f.1 us x))
+    module _ (c : Tree) (d : Box Step Global) (k : IsPrepared qs c d.value) (grows : Extends ps qs) where
+      pub index_prepared : t ≡ trees.Index a c → IsPrepared qs t (steps.Index b d)
+      index_prepared e = (ap₂ trees.Index h.0 k.0 ∙ sym e, λ us x. (h.1 us (extends_on ps qs us grows x), k.1 us x))
 
-    pub binary_prepared : (o : BinarySign) → t ≡ trees.Binary o a c → IsPrepared qs t (steps.Binary o b d)
-    binary_prepared o e = let g = boxed a b s is h in let f = boxed c d r has k in (ap₂ (trees.Binary o) g.0 f.0 ∙ sym e, λ us x. (g.1 us x, f.1 us x))
+      pub filter_prepared : t ≡ trees.Filter a c → IsPrepared qs t (steps.Filter b d)
+      filter_prepared e = (ap₂ trees.Filter h.0 k.0 ∙ sym e, λ us x. (h.1 us (extends_on ps qs us grows x), k.1 us x))
 
-    pub choose_prepared : (u : Tree) (v : Box Step Global) (w : Step) → v.value ≡ w → IsPrepared qs u w → t ≡ trees.Choose a c u → IsPrepared qs t (steps.Choose b d v)
-    choose_prepared u v w was l e =
-        let g = boxed a b s is h in
-        let f = boxed c d r has k in
-        let j = boxed u v w was l in
-        (ap₂ (λ y z. trees.Choose y z (tree_of v.value)) g.0 f.0 ∙ ap (trees.Choose a c) j.0 ∙ sym e, λ us x. (g.1 us x, f.1 us x, j.1 us x))
+      pub or_else_prepared : t ≡ trees.OrElse a c → IsPrepared qs t (steps.OrElse b d)
+      or_else_prepared e = (ap₂ trees.OrElse h.0 k.0 ∙ sym e, λ us x. (h.1 us (extends_on ps qs us grows x), k.1 us x))
 
--- steps so far, for the first trees of a list
-abbrev pub AreSteps : List Tree → List Node → List Step → Type 0
-AreSteps parts ns ss = (list_trees ss ≡ views ns) × ((qs : List Tree) → Extends parts qs → AllFit qs ss)
+      pub binary_prepared : (o : BinarySign) → t ≡ trees.Binary o a c → IsPrepared qs t (steps.Binary o b d)
+      binary_prepared o e = (ap₂ (trees.Binary o) h.0 k.0 ∙ sym e, λ us x. (h.1 us (extends_on ps qs us grows x), k.1 us x))
 
-abbrev pub AreMembers : List Tree → List (List ℕ × Node) → List (Bor (List ℕ) × Step) → Type 0
-AreMembers parts ps ss = (list_pairs ss ≡ view_pairs ps) × ((qs : List Tree) → Extends parts qs → PairsFit qs ss)
+    pub choose_prepared : (rs : List Tree) (c : Tree) (d : Box Step Global) (u : Tree) (v : Box Step Global) → Extends ps rs → IsPrepared rs c d.value → Extends rs qs → IsPrepared qs u v.value → t ≡ trees.Choose a c u → IsPrepared qs t (steps.Choose b d v)
+    choose_prepared rs c d u v first k second l e = (
+      ap₂ (λ y z. trees.Choose y z (tree_of v.value)) h.0 k.0 ∙ ap (trees.Choose a c) l.0 ∙ sym e,
+      λ us x.
+          let later = extends_on rs qs us second x in
+          (h.1 us (extends_on ps rs us first later), k.1 us later, l.1 us x),
+    )
 
 trees_push : (ss : List Step) (s : Step) → list_trees (ss ++ (s ∷ [])) ≡ add (list_trees ss) (tree_of s)
 trees_push [] s = refl
@@ -114,38 +116,30 @@ tree_pairs_push : (ss : List (Bor (List ℕ) × Step)) (p : Bor (List ℕ) × St
 tree_pairs_push [] p = refl
 tree_pairs_push (x ∷ xs) p = ap (λ ps. pair x.0.now (tree_of x.1) ps) (tree_pairs_push xs p)
 
-pub steps_none : (parts : List Tree) (ns : List Node) (ss : List Step) → ss ≡ [] → AreSteps parts (take 0 ns) ss
-steps_none parts ns ss e = subst (AreSteps parts (take 0 ns)) (sym e) (refl, λ qs x. tt)
+pub steps_none : (parts : List Tree) (ns : List Node) (ss : List Step) → ss ≡ [] → ArePrepared parts (take 0 ns) ss
+steps_none parts ns ss e = subst (ArePrepared parts (take 0 ns)) (sym e) (refl, λ qs x. tt)
 
-pub members_none : (parts : List Tree) (ps : List (List ℕ × Node)) (ss : List (Bor (List ℕ) × Step)) → ss ≡ [] → AreMembers parts (take 0 ps) ss
-members_none parts ps ss e = subst (AreMembers parts (take 0 ps)) (sym e) (refl, λ qs x. tt)
+pub members_none : (parts : List Tree) (ps : List (List ℕ × Node)) (ss : List (Bor (List ℕ) × Step)) → ss ≡ [] → MembersPrepared parts (take 0 ps) ss
+members_none parts ps ss e = subst (MembersPrepared parts (take 0 ps)) (sym e) (refl, λ qs x. tt)
 
-pub steps_more : (parts more : List Tree) (ns : List Node) (i : ℕ) (n : Node) (ss new : List Step) (s : Step) → Extends parts more → AreSteps parts (take i ns) ss → i < length ns → n ≡ get_or ns i n
-    → IsPrepared more (view n) s → new ≡ ss ++ (s ∷ []) → AreSteps more (take (i + 1) ns) new
+pub steps_more : (parts more : List Tree) (ns : List Node) (i : ℕ) (n : Node) (ss new : List Step) (s : Step) → Extends parts more → ArePrepared parts (take i ns) ss → i < length ns → n ≡ get_or ns i n
+    → IsPrepared more (view n) s → new ≡ ss ++ (s ∷ []) → ArePrepared more (take (i + 1) ns) new
 steps_more parts more ns i n ss new s grows h b is prepared e = (
   ap list_trees e ∙ trees_push ss s ∙ ap₂ add h.0 (prepared.0 ∙ ap view is) ∙ sym (views_push (take i ns) (get_or ns i n)) ∙ ap views (sym (take_more ns i n b)),
   λ qs x. subst (AllFit qs) (sym e) (all_push qs ss s (h.1 qs (extends_on parts more qs grows x)) (prepared.1 qs x)),
 )
 
-pub members_more : (parts more : List Tree) (ps : List (List ℕ × Node)) (i : ℕ) (p : List ℕ × Node) (ss new : List (Bor (List ℕ) × Step)) (q : Bor (List ℕ) × Step) → Extends parts more → AreMembers parts (take i ps) ss → i < length ps → p ≡ get_or ps i p
-    → q.0.now ≡ p.0 → IsPrepared more (view p.1) q.1 → new ≡ ss ++ (q ∷ []) → AreMembers more (take (i + 1) ps) new
+pub members_more : (parts more : List Tree) (ps : List (List ℕ × Node)) (i : ℕ) (p : List ℕ × Node) (ss new : List (Bor (List ℕ) × Step)) (q : Bor (List ℕ) × Step) → Extends parts more → MembersPrepared parts (take i ps) ss → i < length ps → p ≡ get_or ps i p
+    → q.0.now ≡ p.0 → IsPrepared more (view p.1) q.1 → new ≡ ss ++ (q ∷ []) → MembersPrepared more (take (i + 1) ps) new
 members_more parts more ps i p ss new q grows h b is name prepared e = (
   ap list_pairs e ∙ tree_pairs_push ss q ∙ ap (λ ts. add_pair ts q.0.now (tree_of q.1)) h.0 ∙ ap₂ (add_pair (view_pairs (take i ps))) (name ∙ ap (λ z. z.0) is) (prepared.0 ∙ ap (λ z. view z.1) is)
       ∙ sym (pairs_push (take i ps) (get_or ps i p)) ∙ ap view_pairs (sym (take_more ps i p b)),
   λ qs x. subst (PairsFit qs) (sym e) (pairs_fit_push qs ss q (h.1 qs (extends_on parts more qs grows x)) (prepared.1 qs x)),
 )
 
-module _ (parts : List Tree) (t : Tree) where
-  pub list_prepared : (ns : List Node) (i : ℕ) (v : Vec Step Global) → AreSteps parts (take i ns) v.items → length ns ≤ i → t ≡ trees.Items (views ns) → IsPrepared parts t (steps.List v)
-  list_prepared ns i v h b e =
-      (list_tree v ∙ ap trees.Items (h.0 ∙ ap views (take_all i ns b)) ∙ sym e, λ qs x. all_list qs v (h.1 qs x))
+-- the whole list, once its end was come to
+pub all_prepared : (parts : List Tree) (ns : List Node) (i : ℕ) (ss : List Step) → length ns ≤ i → ArePrepared parts (take i ns) ss → ArePrepared parts ns ss
+all_prepared parts ns i ss b h = subst (λ ms. ArePrepared parts ms ss) (take_all i ns b) h
 
-  pub pairs_prepared : (ps : List (List ℕ × Node)) (i : ℕ) (v : Vec (Bor (List ℕ) × Step) Global) → AreMembers parts (take i ps) v.items → length ps ≤ i → t ≡ trees.Members (view_pairs ps) → IsPrepared parts t (steps.Members v)
-  pairs_prepared ps i v h b e =
-      (members_tree v ∙ ap trees.Members (h.0 ∙ ap view_pairs (take_all i ps b)) ∙ sym e, λ qs x. all_members qs v (h.1 qs x))
-
-  pub transform_prepared : (a : Tree) (b : Box Step Global) (n : Bor (List ℕ)) (s : Step) (ns : List Node) (i : ℕ) (v : Vec Step Global) → b.value ≡ s → IsPrepared parts a s → AreSteps parts (take i ns) v.items → length ns ≤ i
-      → t ≡ trees.Transform a n.now (views ns) → IsPrepared parts t (steps.Transform b n v)
-  transform_prepared a b n s ns i v is k h l e =
-      let g = subst (IsPrepared parts a) (sym is) k in
-      (transform_tree b n v ∙ ap₂ (λ y z. trees.Transform y n.now z) g.0 (h.0 ∙ ap views (take_all i ns l)) ∙ sym e, λ qs x. all_transform qs b n v (g.1 qs x) (h.1 qs x))
+pub all_members_prepared : (parts : List Tree) (ps : List (List ℕ × Node)) (i : ℕ) (ss : List (Bor (List ℕ) × Step)) → length ps ≤ i → MembersPrepared parts (take i ps) ss → MembersPrepared parts ps ss
+all_members_prepared parts ps i ss b h = subst (λ ms. MembersPrepared parts ms ss) (take_all i ps b) h

@@ -7,4 +7,5 @@ pub mod Gives
 pub mod Seen
 pub mod Steps
 pub mod Parts
+pub mod FirstValues
 pub mod Expressions

@@ -4,7 +4,7 @@ use Rattle.std.specs.Borrow.{Bor}
 use Rattle.jexl_parser.specs.declared.node.Node.{Node}
 use Rattle.jexl_parser.specs.Tree as trees
 use Rattle.jexl_parser.specs.Tree.{Tree, Trees, Pairs, none, one_more, no_pair, pair, has_relative}
-use Rattle.jexl_parser.specs.View.{view, constant}
+use Rattle.jexl_parser.specs.View.{view, views, view_pairs, constant}
 use Rattle.jexl_eval.specs.declared.step.Step.{Step, Row_of-Step, end_of-Step, more_of-Step, Row_of-Step-Members-0-2, end_of-Step-Members-0-2, more_of-Step-Members-0-2}
 use Rattle.jexl_eval.specs.declared.step.Step.TheVariants as steps
 
@@ -93,6 +93,13 @@ module _ (parts : List Tree) where
 -- the steps are those of the tree, whatever parts come
 abbrev pub IsPrepared : List Tree → Tree → Step → Type 0
 IsPrepared parts t s = (tree_of s ≡ t) × ((qs : List Tree) → Extends parts qs → Fits qs s)
+
+-- so for lists of trees and of members
+abbrev pub ArePrepared : List Tree → List Node → List Step → Type 0
+ArePrepared parts ns ss = (list_trees ss ≡ views ns) × ((qs : List Tree) → Extends parts qs → AllFit qs ss)
+
+abbrev pub MembersPrepared : List Tree → List (List ℕ × Node) → List (Bor (List ℕ) × Step) → Type 0
+MembersPrepared parts ps ss = (list_pairs ss ≡ view_pairs ps) × ((qs : List Tree) → Extends parts qs → PairsFit qs ss)
 
 -- the same tree, as the part at a place
 pub record IsPlaced (place : Option ℕ) (s r : Step) : Type 0 where

@@ -4,7 +4,7 @@
 // `preparing.rt` says which, is evaluated where the first item asks for it, and is known from then on
 // until the whole expression was evaluated. So filters within conditions don't multiply, unless their
 // subjects depend on the item.
-ghost use Rattle.std.specs.Prelude.{◌≡◌, [], ◌∷◌, ◌++◌, Ok, OnOk, if◌then◌else◌};
+ghost use Rattle.std.specs.Prelude.{◌≡◌, [], ◌∷◌, ◌++◌, Some, Ok, OnOk, if◌then◌else◌};
 ghost use Rattle.json_tree.specs.Json.{null, members_of};
 ghost use Rattle.jexl_parser.specs.View.{view, constant as literal_of};
 ghost use Rattle.jexl_value.specs.Meaning.{is_truthy};
@@ -13,20 +13,21 @@ ghost use Rattle.jexl_value.specs.Value.{as_json};
 ghost use Rattle.jexl_transforms.specs.Table.{has_transform};
 ghost use Rattle.jexl_eval.specs.Gives.{Gives};
 ghost use Rattle.jexl_eval.specs.Seen.{found_as_json};
-ghost use Rattle.jexl_eval.specs.Steps.{tree_of, trees_of, Fits};
+ghost use Rattle.jexl_eval.specs.Steps.{tree_of, trees_of, list_trees, list_pairs, Fits, AllFit, PairsFit, IsPart};
 ghost use Rattle.jexl_eval.specs.Parts.{values_of, AreKnown};
-ghost use Rattle.jexl_eval.specs.Meaning.{meaning, constant, truth_of, truth_meant};
+ghost use Rattle.jexl_eval.specs.FirstValues.{members_meant, index_meant, filter_meant, operation_meant};
+ghost use Rattle.jexl_eval.specs.Meaning.{meaning, meanings, pair_meanings, constant, truth_of, truth_meant};
 
 use crate::elements::{index, member, member_of, value_or_null};
 use crate::fault::EvalFault;
-use crate::found::{Found, truth};
+use crate::found::{Found, list, object, opposite, truth};
 use crate::known::Known;
 use crate::operations::{decided, filter_items, operate};
 use crate::preparing::prepare;
 use crate::scene::Scene;
 use crate::step::Step;
-use crate::transforms::transformed;
-use jexl_parser::{Expr, Literal};
+use crate::transforms::{TransformCalls, transformed};
+use jexl_parser::{BinarySign, Expr, Literal};
 use jexl_transforms::TransformTable;
 use jexl_value::{Attributes, NamedValues, Text, Value, Values, truthy};
 use std::alloc::{AllocError, Global};
@@ -104,117 +105,205 @@ fn found<'a>(
         attributes,
         table,
         parts: parts.as_slice(),
+        current: nothing,
     };
-    evaluate(&step, &scene, nothing, &mut known)
+    evaluate(&step, &scene, &mut known)
 }
 
-// The value of a tree, borrowed where it lies in the attributes or in `current`, the item that relative
-// names speak of. It is one function, since its loops go over steps of the tree, and what each operation
-// does stands in functions over values.
-fn evaluate<'a>(
+// The value of a tree, borrowed where it lies in the attributes or in the current item.
+#[cycle(evaluate)]
+fn evaluate<'a, C: TransformCalls>(
     step: &Step,
-    scene: &Scene<'a, '_>,
-    current: &'a Value,
+    scene: &Scene<'a, '_, C>,
     known: &mut Known,
 ) -> Result<Found<'a>, EvalFault>
     requires fits { Fits (trees_of scene.now.parts.now) step.now }
-    requires known { AreKnown (has_transform scene.now.table.now) (members_of scene.now.attributes.now.pairs) (trees_of scene.now.parts.now) (values_of known.old) }
-    ensures value { Gives found_as_json result (meaning (has_transform scene.now.table.now) (members_of scene.now.attributes.now.pairs) (as_json current.now) (tree_of step.now)) }
-    ensures known { OnOk result (AreKnown (has_transform scene.now.table.now) (members_of scene.now.attributes.now.pairs) (trees_of scene.now.parts.now) (values_of known.new)) }
+    requires known { AreKnown (C.TransformCalls.has scene.now.table.now) (members_of scene.now.attributes.now.pairs) (trees_of scene.now.parts.now) (values_of known.old) }
+    ensures value { Gives found_as_json result (meaning (C.TransformCalls.has scene.now.table.now) (members_of scene.now.attributes.now.pairs) (as_json scene.now.current.now) (tree_of step.now)) }
+    ensures known { OnOk result (AreKnown (C.TransformCalls.has scene.now.table.now) (members_of scene.now.attributes.now.pairs) (trees_of scene.now.parts.now) (values_of known.new)) }
 {
     match step {
         Step::Literal(literal) => constant(literal),
         Step::Name(name) => Ok(value_or_null(scene.attributes.get(name.as_str()))),
-        Step::Relative(name) => Ok(member_of(current, name.as_str())),
-        Step::List(steps) => {
-            let steps = steps.as_slice();
-            let mut values = Values::new(scene.alloc);
-            for step in steps {
-                let value = evaluate(step, scene, current, known)?;
-                push(&mut values, value)?;
-            }
-            Ok(Found::Owned(Value::List(values)))
-        }
-        Step::Members(pairs) => {
-            let pairs = pairs.as_slice();
-            let mut members = NamedValues::new(scene.alloc);
-            for (name, step) in pairs {
-                let member = evaluate(step, scene, current, known)?;
-                put(&mut members, name, member)?;
-            }
-            Ok(Found::Owned(Value::Object(members)))
-        }
-        Step::Member(subject, name) => {
-            let subject = evaluate(subject, scene, current, known)?;
-            member(subject, name.as_str())
-        }
-        Step::Index(subject, key) => {
-            let subject = evaluate(subject, scene, current, known)?;
-            let key = evaluate(key, scene, current, known)?;
-            index(subject, key.value())
-        }
+        Step::Relative(name) => Ok(member_of(scene.current, name.as_str())),
+        Step::List(steps) => Ok(list(each(steps.as_slice(), scene, known)?)),
+        Step::Members(pairs) => Ok(object(each_member(pairs.as_slice(), scene, known)?)),
+        Step::Member(subject, name) => member(evaluate(subject, scene, known)?, name.as_str()),
+        Step::Index(subject, key) => indexed(evaluate(subject, scene, known)?, key, scene, known),
         Step::Filter(subject, condition) => {
-            let subject = evaluate(subject, scene, current, known)?;
-            let items = filter_items(subject.value())?;
-            let mut kept = Values::new(scene.alloc);
-            for item in items {
-                let verdict = evaluate(condition, scene, item, known)?;
-                keep_if(&mut kept, verdict.value(), item)?;
-            }
-            Ok(Found::Owned(Value::List(kept)))
+            filtered(evaluate(subject, scene, known)?, condition, scene, known)
         }
         Step::Transform(subject, name, arguments) => {
-            let subject = evaluate(subject, scene, current, known)?;
-            let arguments = arguments.as_slice();
-            let mut values = Values::new(scene.alloc);
-            for argument in arguments {
-                let value = evaluate(argument, scene, current, known)?;
-                push(&mut values, value)?;
-            }
-            transformed(
-                scene.table,
-                name.as_str(),
-                scene.attributes,
-                subject.value(),
-                values.as_slice(),
-            )
+            let subject = evaluate(subject, scene, known)?;
+            let arguments = each(arguments.as_slice(), scene, known)?;
+            transformed(scene, name.as_str(), subject.value(), arguments.as_slice())
         }
-        Step::Not(inside) => {
-            let value = evaluate(inside, scene, current, known)?;
-            Ok(truth(!truthy(value.value())))
-        }
+        Step::Not(inside) => Ok(opposite(evaluate(inside, scene, known)?)),
         Step::Binary(sign, left, right) => {
-            let left = evaluate(left, scene, current, known)?;
-            if let Some(decided) = decided(*sign, left.value()) {
-                return Ok(truth(decided));
-            }
-            let right = evaluate(right, scene, current, known)?;
-            operate(scene.alloc, *sign, left, right.value())
+            operation(*sign, evaluate(left, scene, known)?, right, scene, known)
         }
         Step::Choose(condition, first, second) => {
-            let condition = evaluate(condition, scene, current, known)?;
+            let condition = evaluate(condition, scene, known)?;
             if truthy(condition.value()) {
-                evaluate(first, scene, current, known)
+                evaluate(first, scene, known)
             } else {
-                evaluate(second, scene, current, known)
+                evaluate(second, scene, known)
             }
         }
         Step::OrElse(first, second) => {
-            let first = evaluate(first, scene, current, known)?;
-            if truthy(first.value()) {
-                Ok(first)
-            } else {
-                evaluate(second, scene, current, known)
-            }
+            or_else(evaluate(first, scene, known)?, second, scene, known)
         }
-        Step::Kept(place, part) => {
-            if let Some(value) = known.at(*place) {
-                return Ok(Found::Shared(value.clone()?));
-            }
-            let value = evaluate(part, scene, current, known)?;
-            Ok(known.keep(scene.alloc, *place, value)?)
-        }
+        Step::Kept(place, part) => kept_part(*place, part, scene, known),
     }
+}
+
+// The values of trees, from the left.
+#[cycle(evaluate)]
+fn each<'a, C: TransformCalls>(
+    steps: &[Step],
+    scene: &Scene<'a, '_, C>,
+    known: &mut Known,
+) -> Result<Values, EvalFault>
+    requires fits { AllFit (trees_of scene.now.parts.now) steps.now }
+    requires known { AreKnown (C.TransformCalls.has scene.now.table.now) (members_of scene.now.attributes.now.pairs) (trees_of scene.now.parts.now) (values_of known.old) }
+    ensures value { Gives (λ xs. xs) result (meanings (C.TransformCalls.has scene.now.table.now) (members_of scene.now.attributes.now.pairs) (as_json scene.now.current.now) (list_trees steps.now)) }
+    ensures known { OnOk result (AreKnown (C.TransformCalls.has scene.now.table.now) (members_of scene.now.attributes.now.pairs) (trees_of scene.now.parts.now) (values_of known.new)) }
+{
+    let mut values = Values::new(scene.alloc);
+    for step in steps {
+        let value = evaluate(step, scene, known)?;
+        push(&mut values, value)?;
+    }
+    Ok(values)
+}
+
+// The members that get the values of trees, one after another.
+#[cycle(evaluate)]
+fn each_member<'a, C: TransformCalls>(
+    pairs: &[(&Text, Step)],
+    scene: &Scene<'a, '_, C>,
+    known: &mut Known,
+) -> Result<NamedValues, EvalFault>
+    requires fits { PairsFit (trees_of scene.now.parts.now) pairs.now }
+    requires known { AreKnown (C.TransformCalls.has scene.now.table.now) (members_of scene.now.attributes.now.pairs) (trees_of scene.now.parts.now) (values_of known.old) }
+    ensures value { Gives (λ ms. ms) result (members_meant (pair_meanings (C.TransformCalls.has scene.now.table.now) (members_of scene.now.attributes.now.pairs) (as_json scene.now.current.now) (list_pairs pairs.now))) }
+    ensures known { OnOk result (AreKnown (C.TransformCalls.has scene.now.table.now) (members_of scene.now.attributes.now.pairs) (trees_of scene.now.parts.now) (values_of known.new)) }
+{
+    let mut members = NamedValues::new(scene.alloc);
+    for (name, step) in pairs {
+        let member = evaluate(step, scene, known)?;
+        put(&mut members, name, member)?;
+    }
+    Ok(members)
+}
+
+// The part of a value at a key.
+#[cycle(evaluate)]
+fn indexed<'a, C: TransformCalls>(
+    subject: Found<'a>,
+    key: &Step,
+    scene: &Scene<'a, '_, C>,
+    known: &mut Known,
+) -> Result<Found<'a>, EvalFault>
+    requires fits { Fits (trees_of scene.now.parts.now) key.now }
+    requires known { AreKnown (C.TransformCalls.has scene.now.table.now) (members_of scene.now.attributes.now.pairs) (trees_of scene.now.parts.now) (values_of known.old) }
+    ensures value { Gives found_as_json result (index_meant (found_as_json subject.entry) (meaning (C.TransformCalls.has scene.now.table.now) (members_of scene.now.attributes.now.pairs) (as_json scene.now.current.now) (tree_of key.now))) }
+    ensures known { OnOk result (AreKnown (C.TransformCalls.has scene.now.table.now) (members_of scene.now.attributes.now.pairs) (trees_of scene.now.parts.now) (values_of known.new)) }
+{
+    let key = evaluate(key, scene, known)?;
+    index(subject, key.value())
+}
+
+// The items for which the condition's value counts as true.
+#[cycle(evaluate)]
+fn filtered<'a, C: TransformCalls>(
+    subject: Found<'a>,
+    condition: &Step,
+    scene: &Scene<'a, '_, C>,
+    known: &mut Known,
+) -> Result<Found<'a>, EvalFault>
+    requires fits { Fits (trees_of scene.now.parts.now) condition.now }
+    requires known { AreKnown (C.TransformCalls.has scene.now.table.now) (members_of scene.now.attributes.now.pairs) (trees_of scene.now.parts.now) (values_of known.old) }
+    ensures value { Gives found_as_json result (filter_meant (λ x. meaning (C.TransformCalls.has scene.now.table.now) (members_of scene.now.attributes.now.pairs) x (tree_of condition.now)) (found_as_json subject.entry)) }
+    ensures known { OnOk result (AreKnown (C.TransformCalls.has scene.now.table.now) (members_of scene.now.attributes.now.pairs) (trees_of scene.now.parts.now) (values_of known.new)) }
+{
+    let items = filter_items(subject.value())?;
+    let mut kept = Values::new(scene.alloc);
+    for item in items {
+        let around = Scene {
+            alloc: scene.alloc,
+            attributes: scene.attributes,
+            table: scene.table,
+            parts: scene.parts,
+            current: item,
+        };
+        let verdict = evaluate(condition, &around, known)?;
+        keep_if(&mut kept, verdict.value(), item)?;
+    }
+    Ok(list(kept))
+}
+
+// What an operator makes of a value and the value of its right side, which isn't evaluated where the
+// left one decides.
+#[cycle(evaluate)]
+fn operation<'a, C: TransformCalls>(
+    sign: BinarySign,
+    left: Found<'a>,
+    right: &Step,
+    scene: &Scene<'a, '_, C>,
+    known: &mut Known,
+) -> Result<Found<'a>, EvalFault>
+    requires fits { Fits (trees_of scene.now.parts.now) right.now }
+    requires known { AreKnown (C.TransformCalls.has scene.now.table.now) (members_of scene.now.attributes.now.pairs) (trees_of scene.now.parts.now) (values_of known.old) }
+    ensures value { Gives found_as_json result (operation_meant sign (found_as_json left.entry) (meaning (C.TransformCalls.has scene.now.table.now) (members_of scene.now.attributes.now.pairs) (as_json scene.now.current.now) (tree_of right.now))) }
+    ensures known { OnOk result (AreKnown (C.TransformCalls.has scene.now.table.now) (members_of scene.now.attributes.now.pairs) (trees_of scene.now.parts.now) (values_of known.new)) }
+{
+    if let Some(decided) = decided(sign, left.value()) {
+        return Ok(truth(decided));
+    }
+    let right = evaluate(right, scene, known)?;
+    operate(scene.alloc, sign, left, right.value())
+}
+
+// The first value, or that of the second tree where the first one doesn't count as true.
+#[cycle(evaluate)]
+fn or_else<'a, C: TransformCalls>(
+    first: Found<'a>,
+    second: &Step,
+    scene: &Scene<'a, '_, C>,
+    known: &mut Known,
+) -> Result<Found<'a>, EvalFault>
+    requires fits { Fits (trees_of scene.now.parts.now) second.now }
+    requires known { AreKnown (C.TransformCalls.has scene.now.table.now) (members_of scene.now.attributes.now.pairs) (trees_of scene.now.parts.now) (values_of known.old) }
+    ensures value { Gives found_as_json result (if is_truthy (found_as_json first.entry) then Ok (found_as_json first.entry) else meaning (C.TransformCalls.has scene.now.table.now) (members_of scene.now.attributes.now.pairs) (as_json scene.now.current.now) (tree_of second.now)) }
+    ensures known { OnOk result (AreKnown (C.TransformCalls.has scene.now.table.now) (members_of scene.now.attributes.now.pairs) (trees_of scene.now.parts.now) (values_of known.new)) }
+{
+    if truthy(first.value()) {
+        Ok(first)
+    } else {
+        evaluate(second, scene, known)
+    }
+}
+
+// The value of a part that is kept, which is evaluated unless it is known.
+#[cycle(evaluate)]
+fn kept_part<'a, C: TransformCalls>(
+    place: usize,
+    part: &Step,
+    scene: &Scene<'a, '_, C>,
+    known: &mut Known,
+) -> Result<Found<'a>, EvalFault>
+    requires part { IsPart (trees_of scene.now.parts.now) (tree_of part.now) (Some place) }
+    requires fits { Fits (trees_of scene.now.parts.now) part.now }
+    requires known { AreKnown (C.TransformCalls.has scene.now.table.now) (members_of scene.now.attributes.now.pairs) (trees_of scene.now.parts.now) (values_of known.old) }
+    ensures value { Gives found_as_json result (meaning (C.TransformCalls.has scene.now.table.now) (members_of scene.now.attributes.now.pairs) (as_json scene.now.current.now) (tree_of part.now)) }
+    ensures known { OnOk result (AreKnown (C.TransformCalls.has scene.now.table.now) (members_of scene.now.attributes.now.pairs) (trees_of scene.now.parts.now) (values_of known.new)) }
+{
+    if let Some(value) = known.at(place) {
+        return Ok(Found::Shared(value.clone()?));
+    }
+    let value = evaluate(part, scene, known)?;
+    Ok(known.keep(scene.alloc, place, value)?)
 }
 
 // A value is put at the end, copied where it is borrowed.

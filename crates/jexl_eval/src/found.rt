@@ -1,10 +1,11 @@
 // A value that lies in the attributes or in an item, one that was built, or one that is kept.
-ghost use Rattle.std.specs.Prelude.{◌≡◌, IfOk};
+ghost use Rattle.std.specs.Prelude.{◌≡◌, not, IfOk};
 ghost use Rattle.json_tree.specs.Json as json;
+ghost use Rattle.jexl_value.specs.Meaning.{is_truthy};
 ghost use Rattle.jexl_value.specs.Value.{as_json};
 ghost use Rattle.jexl_eval.specs.Seen.{found_as_json};
 
-use jexl_value::Value;
+use jexl_value::{NamedValues, Value, Values, truthy};
 use std::alloc::{AllocError, Global};
 use std::rc::Rc;
 
@@ -56,4 +57,25 @@ pub(crate) fn truth<'a>(truth: bool) -> Found<'a>
     ensures { found_as_json result ≡ json.truth truth }
 {
     Found::Owned(Value::Truth(truth))
+}
+
+/// The opposite of what a value counts as. It takes no memory.
+pub(crate) fn opposite<'a>(value: Found<'a>) -> Found<'a>
+    ensures { found_as_json result ≡ json.truth (not (is_truthy (found_as_json value.entry))) }
+{
+    truth(!truthy(value.value()))
+}
+
+/// A list that was built. It takes no memory.
+pub(crate) fn list<'a>(values: Values) -> Found<'a>
+    ensures { found_as_json result ≡ json.list (json.items_of values) }
+{
+    Found::Owned(Value::List(values))
+}
+
+/// An object that was built. It takes no memory.
+pub(crate) fn object<'a>(members: NamedValues) -> Found<'a>
+    ensures { found_as_json result ≡ json.object (json.members_of members) }
+{
+    Found::Owned(Value::Object(members))
 }

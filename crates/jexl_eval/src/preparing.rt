@@ -6,15 +6,17 @@
 // aren't: a look at them takes no longer than a look at what would be kept.
 ghost use Rattle.std.specs.Prelude.{IfOk, OnOk};
 ghost use Rattle.jexl_parser.specs.View.{view};
-ghost use Rattle.jexl_eval.specs.Steps.{trees_of, Extends, IsPart, IsPlaced, IsPrepared};
+ghost use Rattle.jexl_eval.specs.Steps.{trees_of, Extends, IsPart, IsPlaced, IsPrepared, ArePrepared, MembersPrepared};
 
 use crate::relative::has_relative;
 use crate::step::Step;
 use jexl_parser::Node;
+use jexl_value::Text;
 use std::alloc::{AllocError, Global};
 
 /// The steps of a tree. Where `keeps` says so, in the condition of a filter, a part that has one value
 /// for all items gets a place, and is put into `parts` there.
+#[cycle(prepare)]
 pub(crate) fn prepare<'e>(
     alloc: Global,
     node: &'e Node,
@@ -25,88 +27,112 @@ pub(crate) fn prepare<'e>(
     ensures prepared { IfOk result (λ s. IsPrepared (trees_of parts.new.items) (view node.now) s) }
 {
     let place = place_for(node, keeps, parts)?;
-    let below = keeps && place.is_none();
+    let step = unplaced(alloc, node, keeps && place.is_none(), parts)?;
+    at_place(alloc, place, step)
+}
+
+// The step of a tree that has no place itself.
+#[cycle(prepare)]
+fn unplaced<'e>(
+    alloc: Global,
+    node: &'e Node,
+    keeps: bool,
+    parts: &mut Vec<&'e Node>,
+) -> Result<Step<'e>, AllocError>
+    ensures grows { OnOk result (Extends (trees_of parts.old.items) (trees_of parts.new.items)) }
+    ensures prepared { IfOk result (λ s. IsPrepared (trees_of parts.new.items) (view node.now) s) }
+{
     match node {
         Node::Literal(literal) => Ok(Step::Literal(literal)),
         Node::Name(name) => Ok(Step::Name(name)),
         Node::Relative(name) => Ok(Step::Relative(name)),
-        Node::List(nodes) => {
-            let nodes = nodes.as_slice();
-            let mut steps = Vec::new(alloc);
-            for node in nodes {
-                let step = prepare(alloc, node, below, parts)?;
-                steps.push(step)?;
-            }
-            at_place(alloc, place, Step::List(steps))
-        }
+        Node::List(nodes) => Ok(Step::List(each(alloc, nodes.as_slice(), keeps, parts)?)),
         Node::Members(pairs) => {
-            let pairs = pairs.as_slice();
-            let mut steps = Vec::new(alloc);
-            for (name, node) in pairs {
-                let step = prepare(alloc, node, below, parts)?;
-                steps.push((name, step))?;
-            }
-            at_place(alloc, place, Step::Members(steps))
+            Ok(Step::Members(each_member(alloc, pairs.as_slice(), keeps, parts)?))
         }
-        Node::Member(subject, name) => {
-            let subject = prepare(alloc, subject, below, parts)?;
-            let subject = Box::new(alloc, subject)?;
-            at_place(alloc, place, Step::Member(subject, name))
-        }
-        Node::Index(subject, key) => {
-            let subject = prepare(alloc, subject, below, parts)?;
-            let key = prepare(alloc, key, below, parts)?;
-            let subject = Box::new(alloc, subject)?;
-            let key = Box::new(alloc, key)?;
-            at_place(alloc, place, Step::Index(subject, key))
-        }
-        Node::Filter(subject, condition) => {
-            let subject = prepare(alloc, subject, below, parts)?;
-            let condition = prepare(alloc, condition, true, parts)?;
-            let subject = Box::new(alloc, subject)?;
-            let condition = Box::new(alloc, condition)?;
-            at_place(alloc, place, Step::Filter(subject, condition))
-        }
-        Node::Transform(subject, name, arguments) => {
-            let subject = prepare(alloc, subject, below, parts)?;
-            let subject = Box::new(alloc, subject)?;
-            let arguments = arguments.as_slice();
-            let mut steps = Vec::new(alloc);
-            for argument in arguments {
-                let step = prepare(alloc, argument, below, parts)?;
-                steps.push(step)?;
-            }
-            at_place(alloc, place, Step::Transform(subject, name, steps))
-        }
-        Node::Not(inside) => {
-            let inside = prepare(alloc, inside, below, parts)?;
-            let inside = Box::new(alloc, inside)?;
-            at_place(alloc, place, Step::Not(inside))
-        }
-        Node::Binary(sign, left, right) => {
-            let left = prepare(alloc, left, below, parts)?;
-            let right = prepare(alloc, right, below, parts)?;
-            let left = Box::new(alloc, left)?;
-            let right = Box::new(alloc, right)?;
-            at_place(alloc, place, Step::Binary(*sign, left, right))
-        }
-        Node::Choose(condition, first, second) => {
-            let condition = prepare(alloc, condition, below, parts)?;
-            let first = prepare(alloc, first, below, parts)?;
-            let second = prepare(alloc, second, below, parts)?;
-            let condition = Box::new(alloc, condition)?;
-            let first = Box::new(alloc, first)?;
-            let second = Box::new(alloc, second)?;
-            at_place(alloc, place, Step::Choose(condition, first, second))
-        }
-        Node::OrElse(first, second) => {
-            let first = prepare(alloc, first, below, parts)?;
-            let second = prepare(alloc, second, below, parts)?;
-            let first = Box::new(alloc, first)?;
-            let second = Box::new(alloc, second)?;
-            at_place(alloc, place, Step::OrElse(first, second))
-        }
+        Node::Member(subject, name) => Ok(Step::Member(boxed(alloc, subject, keeps, parts)?, name)),
+        Node::Index(subject, key) => Ok(Step::Index(
+            boxed(alloc, subject, keeps, parts)?,
+            boxed(alloc, key, keeps, parts)?,
+        )),
+        Node::Filter(subject, condition) => Ok(Step::Filter(
+            boxed(alloc, subject, keeps, parts)?,
+            boxed(alloc, condition, true, parts)?,
+        )),
+        Node::Transform(subject, name, arguments) => Ok(Step::Transform(
+            boxed(alloc, subject, keeps, parts)?,
+            name,
+            each(alloc, arguments.as_slice(), keeps, parts)?,
+        )),
+        Node::Not(inside) => Ok(Step::Not(boxed(alloc, inside, keeps, parts)?)),
+        Node::Binary(sign, left, right) => Ok(Step::Binary(
+            *sign,
+            boxed(alloc, left, keeps, parts)?,
+            boxed(alloc, right, keeps, parts)?,
+        )),
+        Node::Choose(condition, first, second) => Ok(Step::Choose(
+            boxed(alloc, condition, keeps, parts)?,
+            boxed(alloc, first, keeps, parts)?,
+            boxed(alloc, second, keeps, parts)?,
+        )),
+        Node::OrElse(first, second) => Ok(Step::OrElse(
+            boxed(alloc, first, keeps, parts)?,
+            boxed(alloc, second, keeps, parts)?,
+        )),
     }
+}
+
+// The steps of a tree below another one.
+#[cycle(prepare)]
+fn boxed<'e>(
+    alloc: Global,
+    node: &'e Node,
+    keeps: bool,
+    parts: &mut Vec<&'e Node>,
+) -> Result<Box<Step<'e>>, AllocError>
+    ensures grows { OnOk result (Extends (trees_of parts.old.items) (trees_of parts.new.items)) }
+    ensures prepared { IfOk result (λ b. IsPrepared (trees_of parts.new.items) (view node.now) b.value) }
+{
+    let step = prepare(alloc, node, keeps, parts)?;
+    Ok(Box::new(alloc, step)?)
+}
+
+// The steps of trees, in their order.
+#[cycle(prepare)]
+fn each<'e>(
+    alloc: Global,
+    nodes: &'e [Node],
+    keeps: bool,
+    parts: &mut Vec<&'e Node>,
+) -> Result<Vec<Step<'e>>, AllocError>
+    ensures grows { OnOk result (Extends (trees_of parts.old.items) (trees_of parts.new.items)) }
+    ensures prepared { IfOk result (λ ss. ArePrepared (trees_of parts.new.items) nodes.now ss.items) }
+{
+    let mut steps = Vec::new(alloc);
+    for node in nodes {
+        let step = prepare(alloc, node, keeps, parts)?;
+        steps.push(step)?;
+    }
+    Ok(steps)
+}
+
+// The names of members and the steps of their trees, in their order.
+#[cycle(prepare)]
+fn each_member<'e>(
+    alloc: Global,
+    pairs: &'e [(Text, Node)],
+    keeps: bool,
+    parts: &mut Vec<&'e Node>,
+) -> Result<Vec<(&'e Text, Step<'e>)>, AllocError>
+    ensures grows { OnOk result (Extends (trees_of parts.old.items) (trees_of parts.new.items)) }
+    ensures prepared { IfOk result (λ ss. MembersPrepared (trees_of parts.new.items) pairs.now ss.items) }
+{
+    let mut steps = Vec::new(alloc);
+    for (name, node) in pairs {
+        let step = prepare(alloc, node, keeps, parts)?;
+        steps.push((name, step))?;
+    }
+    Ok(steps)
 }
 
 // The next place, for a tree that is a part to be kept.

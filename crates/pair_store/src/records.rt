@@ -1,16 +1,15 @@
 // What stands on a side.
 ghost use Rattle.std.specs.Prelude.{◌≡◌};
 
-use gate_journal::Journal;
+use gate_journal::{Journal, Payloads};
 use host_model::Side;
-use sequences::Sequence;
 
 /// A side that is open, with its payloads.
 #[derive(Drop)]
 pub(crate) struct Records {
     pub(crate) side: Side,
     pub(crate) journal: Journal,
-    pub(crate) payloads: Sequence<Sequence<u8>>,
+    pub(crate) payloads: Payloads,
     ghost of_side: { side ≡ journal.side },
 }
 

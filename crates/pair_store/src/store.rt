@@ -17,9 +17,8 @@ use crate::reading::found_both;
 use crate::records::Records;
 use crate::repair::shut_side;
 use crate::sides::{generation_after, other};
-use gate_journal::{AppendFault, Frame, Journal};
+use gate_journal::{AppendFault, Frame, Journal, Payloads};
 use host_model::{DiskFailed, Host, Side};
-use sequences::Sequence;
 use std::alloc::Global;
 use std::marker::Model;
 
@@ -47,7 +46,7 @@ impl Model for PairStore {
 }
 
 // The store of a side that counts, and its payloads.
-fn store_of(records: Records) -> (PairStore, Sequence<Sequence<u8>>)
+fn store_of(records: Records) -> (PairStore, Payloads)
     ensures store { result.0 ≡ records.journal }
     ensures payloads { result.1 ≡ records.payloads }
 {
@@ -98,10 +97,7 @@ impl PairStore {
     /// Want of memory and a fault of the disk aside, it answers `Ok` exactly where the pair has a list, `NoStore`
     /// exactly where neither side's first byte is 1, and `BadStore` exactly where neither holds. Both sides are synced
     /// also where memory is wanting.
-    pub fn open<H: Host>(
-        alloc: Global,
-        host: &mut H,
-    ) -> Result<(PairStore, Sequence<Sequence<u8>>), PairFault>
+    pub fn open<H: Host>(alloc: Global, host: &mut H) -> Result<(PairStore, Payloads), PairFault>
         ensures list { H.tells → IfOk result (λ found. HasList (H.reads host.old Side.Left) (H.reads host.old Side.Right) found.1) }
         ensures opened { H.tells → IfOk result (λ found. PairStands H.Host found.0 host.new found.1) }
         ensures gate { H.tells → IfOk result (λ found. (payloads : List (List ℕ)) → HasKeptList (H.reads host.old Side.Left) (H.reads host.old Side.Right) payloads
@@ -145,12 +141,12 @@ impl PairStore {
         Ok(store_of(choice.records))
     }
 
-    /// Whether the next record would end, with the gate behind it, past byte 33,554,432. Then the next change is a
-    /// checkpoint.
-    pub fn wants_checkpoint(&self, next: &Frame) -> bool
-        ensures { IsTrue result ↔ (MAX_RECORD_END < self.now.place + length next.now + 6) }
+    /// Whether the record of a payload of so many bytes would end, with the gate behind it, past byte 33,554,432. Then the
+    /// next change is a checkpoint.
+    pub fn wants_checkpoint(&self, bytes: u64) -> bool
+        ensures { IsTrue result ↔ (MAX_RECORD_END < self.now.place + bytes + 6) }
     {
-        self.journal.end_after(next) > MAX_RECORD_END
+        bytes.saturating_add(self.journal.place() + 6) > MAX_RECORD_END
     }
 
     /// Adds a payload. At `Ok` each image has it.

@@ -21,3 +21,4 @@ pub mod BindingOrder
 pub mod FeatureRanges
 pub mod SameSettings
 pub mod HeldAll
+pub mod HeldApart

@@ -1,4 +1,4 @@
--- What is read of bytes and rows is all that they can spell.
+-- What is read of bytes and rows is all that they can encode.
 use Rattle.std.proofs.Common.{◌≡◌, ℕ, ◌<◌, List, [], ◌∷◌, ◌++◌, length, get_or, Option, Some, None, Err, refl, sym, ap, ◌∙◌, subst, arith}
 use Rattle.std.specs.Prelude.{IsErrOf}
 use Rattle.json_tree.specs.Bytes.{tree_of}

@@ -133,14 +133,14 @@ none_holds (Some k) e = absurd (cc)
 abbrev holder_in : Option Preference → Option (List ℕ)
 holder_in o = option_and_then (λ p. option_map (λ h. h.holder) p.hold) o
 
-free_here : (name : List ℕ) (p : Preference) (ps : List Preference) → slug_cmp name p.name ≡ Equal → holder_of name (p ∷ ps) ≡ None → p.hold ≡ None
+pub free_here : (name : List ℕ) (p : Preference) (ps : List Preference) → slug_cmp name p.name ≡ Equal → holder_of name (p ∷ ps) ≡ None → p.hold ≡ None
 free_here name p ps even free =
     none_holds p.hold (sym (ap holder_in (found_step name p ps true (equal_texts p.name name (turned_even name p.name even)))) ∙ free)
 
-free_behind : (name : List ℕ) (p : Preference) (ps : List Preference) → slug_cmp name p.name ≡ Greater → holder_of name (p ∷ ps) ≡ None → holder_of name ps ≡ None
+pub free_behind : (name : List ℕ) (p : Preference) (ps : List Preference) → slug_cmp name p.name ≡ Greater → holder_of name (p ∷ ps) ≡ None → holder_of name ps ≡ None
 free_behind name p ps greater free = sym (ap holder_in (found_step name p ps false (lesser_texts p.name name (turned_down name p.name greater)))) ∙ free
 
-abbrev own : List ℕ → Tree → Preference
+abbrev pub own : List ℕ → Tree → Preference
 own name v = record { name = name; value = v; hold = None }
 
 sets_at : (o : Ordering) (name : List ℕ) (v : Tree) (p : Preference) (ps : List Preference) → slug_cmp name p.name ≡ o → AreAbove p.name (names_of ps) → holder_of name (p ∷ ps) ≡ None

@@ -8,3 +8,4 @@ pub mod Reading
 pub mod Bindings
 pub mod Bound
 pub mod Laws
+pub mod Held

@@ -6,6 +6,7 @@ mod bindings;
 mod bound;
 mod fault;
 mod feature_range;
+mod held;
 mod joining;
 mod laws;
 mod leaving;

@@ -1,11 +1,14 @@
 // The preferences that have a value.
 ghost use Rattle.std.specs.Prelude.{◌≡◌, ◌≤◌, ◌^◌, [], ⊤, length, IfOk, IsTrue, MatchOption, None, Some, option_map};
+ghost use Rattle.std.specs.List.{AllByRecursion};
 ghost use Rattle.plain_text.specs.Names.{is_name};
 ghost use Rattle.row_batches.specs.Batch.{puts_text};
 ghost use Rattle.pref_bindings.specs.Changes.{AreSettings, joined, left, set_by_user, without_name};
-ghost use Rattle.pref_bindings.specs.Preferences.{AreHeld, IsSound, IsValue, found, holder_of, value_of};
+ghost use Rattle.pref_bindings.specs.Held.{held_preferences};
+ghost use Rattle.pref_bindings.specs.Preferences.{AreHeld, IsPreference, IsSound, IsValue, found, holder_of, value_of};
 ghost use Rattle.pref_bindings.specs.Rows.{rows_of};
 
+use crate::held::held_preferences;
 use crate::joining::joined;
 use crate::leaving::{holds_none, left};
 use crate::preference::Preference;
@@ -29,6 +32,8 @@ const MOST_BYTES: u128 = 1 << 100;
 #[derive(Drop)]
 pub struct Prefs {
     preferences: SharedList<Preference>,
+    // Those of them that somebody holds.
+    held: SharedList<Preference>,
     // How many bytes the puts of the rows have.
     size: u128,
 }
@@ -38,7 +43,7 @@ impl Model for Prefs {
     ghost use Rattle.std.specs.Coded.{codes};
     ghost use Rattle.json_tree.specs.Json.{json_code};
     ghost use Rattle.pref_bindings.specs.declared.preference.Preference.{Preference};
-    ghost use Rattle.pref_bindings.specs.Sizes.{AreSized};
+    ghost use Rattle.pref_bindings.specs.Held.{AreKept};
 
     ghost Value = { List Preference };
 
@@ -46,7 +51,7 @@ impl Model for Prefs {
 
     ghost view = { λ p. p.preferences };
 
-    ghost invariant = { λ p. AreSized p.preferences p.size };
+    ghost invariant = { λ p. AreKept p.preferences p.held p.size };
 }
 
 /// The same preferences. It takes no memory.
@@ -56,6 +61,7 @@ impl Clone for Prefs {
     fn clone(&self) -> Result<Prefs, AllocError> {
         Ok(Prefs {
             preferences: self.preferences.clone()?,
+            held: self.held.clone()?,
             size: self.size,
         })
     }
@@ -72,6 +78,7 @@ impl Prefs {
     {
         Prefs {
             preferences: SharedList::new(alloc),
+            held: SharedList::new(alloc),
             size: 0,
         }
     }
@@ -82,6 +89,15 @@ impl Prefs {
         ensures sound { IsSound self.now }
     {
         self.preferences.as_slice()
+    }
+
+    /// Those that somebody holds, in order by name. It takes no memory.
+    #[tactic(auto, using(crate::proofs::HeldApart::each_held))]
+    pub(crate) fn held(&self) -> &[Preference]
+        ensures held { result.now ≡ held_preferences self.now }
+        ensures each { AllByRecursion IsPreference result.now }
+    {
+        self.held.as_slice()
     }
 
     /// How many bytes the puts of the preferences' rows have, of holds and of values. They were counted before. It takes no memory.
@@ -155,12 +171,13 @@ impl Prefs {
     }
 
     /// The preferences where each that the slug holds has its value of before again, or none where there was none. The one error
-    /// is want of memory. The list is walked once where the slug holds none, which takes no memory, and else twice.
-    #[tactic(auto, using(crate::proofs::UserMaps::left_none))]
+    /// is want of memory. Where the slug holds none, only those that somebody holds are walked, which takes no memory; else all are
+    /// walked.
+    #[tactic(auto, using(crate::proofs::HeldApart::left_held))]
     pub fn leave(&self, alloc: Global, slug: &Slug) -> Result<Prefs, AllocError>
         ensures { IfOk result (λ prefs. prefs ≡ left slug.now self.now) }
     {
-        if holds_none(slug, self.as_slice()) {
+        if holds_none(slug, self.held()) {
             return self.clone();
         }
         let preferences = left(alloc, slug, self.as_slice())?;
@@ -193,6 +210,7 @@ impl Prefs {
 
     // The preferences where the user sets this one.
     fn with_value(self, name: &Text, value: &Tree) -> Result<Prefs, AllocError>
+        requires free { holder_of name.now self ≡ None }
         requires name { IsTrue (is_name name.now) }
         requires value { IsValue value.now }
         ensures { IfOk result (λ prefs. prefs ≡ set_by_user name.now (Some value.now) self) }
@@ -203,16 +221,25 @@ impl Prefs {
             return Err(AllocError);
         };
         let preferences = with_preference(self.preferences, preference)?;
-        Ok(Prefs { preferences, size })
+        Ok(Prefs {
+            preferences,
+            held: self.held,
+            size,
+        })
     }
 
     // The preferences where the user takes the value of this one away.
     fn without_value(self, name: &Text) -> Result<Prefs, AllocError>
+        requires { holder_of name.now self ≡ None }
         ensures { IfOk result (λ prefs. prefs ≡ set_by_user name.now None self) }
     {
         let size = self.size_of_others(name.as_str());
         let preferences = without_name(self.preferences, name)?;
-        Ok(Prefs { preferences, size })
+        Ok(Prefs {
+            preferences,
+            held: self.held,
+            size,
+        })
     }
 
     // How many bytes the puts of the rows of the preferences of other names have. It takes no memory.
@@ -237,8 +264,12 @@ impl Prefs {
         let Some(size) = preferences_size(preferences.as_slice(), MOST_BYTES) else {
             return Err(AllocError);
         };
-        let preferences = SharedList::from_sequence(alloc, preferences)?;
-        Ok(Prefs { preferences, size })
+        let held = held_preferences(alloc, preferences.as_slice())?;
+        Ok(Prefs {
+            preferences: SharedList::from_sequence(alloc, preferences)?,
+            held: SharedList::from_sequence(alloc, held)?,
+            size,
+        })
     }
 }
 

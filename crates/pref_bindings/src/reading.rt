@@ -230,7 +230,7 @@ pub(crate) struct Parts<'a> {
     pub before: &'a [u8],
 }
 
-// The hold that the bytes spell.
+// The hold that the bytes encode.
 fn hold_in(alloc: Global, bytes: &[u8]) -> Result<Hold, PrefsFault>
     ensures text { IfOk result (λ hold. bytes.now ≡ hold_text hold.holder hold.before) }
     ensures sound { IfOk result (λ hold. IsHold (Some hold)) }
@@ -270,7 +270,7 @@ fn slug_in(alloc: Global, bytes: &[u8]) -> Result<Slug, PrefsFault>
     }
 }
 
-// The value of before that the bytes spell; no bytes spell none.
+// The value of before that the bytes encode; no bytes encode none.
 fn before_in(alloc: Global, bytes: &[u8]) -> Result<Option<Tree>, PrefsFault>
     ensures text { IfOk result (λ before. bytes.now ≡ before_text before) }
     ensures value { IfOk result IsValueOrNone }
@@ -299,7 +299,7 @@ fn value_in(alloc: Global, bytes: &[u8]) -> Result<Tree, PrefsFault>
     Ok(value)
 }
 
-// The tree that the bytes spell, in any form.
+// The tree that the bytes encode, in any form.
 #[tactic(auto, using(crate::proofs::Values::read_none, crate::proofs::Values::not_deep))]
 fn tree_in(alloc: Global, bytes: &[u8]) -> Result<Tree, PrefsFault>
     ensures tree { IfOk result (λ tree. tree_of bytes.now ≡ Some (json_of tree)) }

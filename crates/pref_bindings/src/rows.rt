@@ -25,11 +25,12 @@ impl Prefs {
     }
 
     /// The rows of the holds alone, in the order of their keys.
+    #[tactic(auto, using(crate::proofs::HeldApart::rows_of_held))]
     pub fn hold_rows(&self, alloc: Global) -> Result<Sequence<StoreRow>, AllocError>
         ensures { IfOk result (λ rows. rows ≡ hold_rows self.now) }
     {
         let mut rows = Sequence::new(alloc);
-        add_rows(alloc, &mut rows, &HoldRows, self.as_slice())?;
+        add_rows(alloc, &mut rows, &HoldRows, self.held())?;
         Ok(rows)
     }
 

@@ -14,6 +14,7 @@ pub mod Shallows
 pub mod Conditions
 pub mod FirstReason
 pub mod RecordSums
+pub mod Members
 pub mod Shorts
 pub mod Taken
 pub mod Searching

@@ -1,25 +1,24 @@
 -- A record that is not skipped is the recipe whose fields it states.
-use Rattle.std.proofs.Common.{◌≡◌, ℕ, pos, List as Seq, [], ◌∷◌, Bool, true, false, Option, Some, None, Result, Ok, Err, refl, sym, ap, ◌∙◌, subst}
-use Rattle.std.specs.Prelude.{◌&&◌, nat_le, codes, option_and_then, if◌then◌else◌}
+use Rattle.std.proofs.Common.{◌≡◌, ℕ, pos, List as Seq, [], ◌∷◌, Bool, false, Option, Some, None, Result, Ok, refl, sym, ap, ◌∙◌, subst}
+use Rattle.std.specs.Prelude.{◌&&◌, nat_le, codes, option_and_then}
 use Rattle.std.specs.Option.{unwrap_or}
 use Rattle.json_tree.specs.Json.{Json, null, truth, whole, text, list, object, Items, no_items, item, no_members, get}
 use Rattle.json_tree.specs.Tree.{json_of}
 use Rattle.json_tree.specs.declared.tree.Tree.{Tree}
 use Rattle.json_tree.specs.declared.tree.Tree.TheVariants.{Object}
 use Rattle.recipe_reader.specs.declared.recipe.SkipReason.{SkipReason}
-use Rattle.recipe_reader.specs.declared.recipe.SkipReason.TheVariants.{BadSlug, BadField, BadBucket, BadBranches}
-use Rattle.recipe_reader.specs.declared.recipe.Recipe.{Recipe}
+use Rattle.recipe_reader.specs.declared.recipe.SkipReason.TheVariants.{BadSlug, BadBucket, BadBranches}
 use Rattle.recipe_reader.specs.declared.recipe.Fields.{Fields}
 use Rattle.recipe_reader.specs.declared.recipe.Bucket.{Bucket}
 use Rattle.recipe_reader.specs.declared.recipe.Branch.{Branch}
 use Rattle.recipe_reader.specs.declared.recipe.FeatureValue.{FeatureValue}
-use Rattle.recipe_reader.specs.Outcome.{◌>>=◌, needed, only_if}
+use Rattle.recipe_reader.specs.Outcome.{needed, only_if}
 use Rattle.recipe_reader.specs.Trees.{tree_from}
 use Rattle.recipe_reader.specs.Values.{text_at, as_count, count_at, present, optional_text, truth_or_absent, optional_truth, kept_if, has_bytes, has_more_than_blanks, is_moment, is_sized}
 use Rattle.recipe_reader.specs.Parts.{object_in, slug_in, schema_in, fields_in, sized_text, bucket_of, bucket_in}
 use Rattle.recipe_reader.specs.Branches.{each, is_feature_value, value_of, feature_of, is_feature_count, features_of, single, listed, branch_of, is_branch_count, branches_of, as_list, branches_in}
 use Rattle.recipe_reader.specs.Records.{recipe_of}
-use Rattle.recipe_reader.specs.Stated.{text_with, is_true, AreEach, IsBucketOf, IsFeatureOf, feature_items, IsBranchOf, IsRecipeOf, RecipesAreStated}
+use Rattle.recipe_reader.specs.Stated.{text_with, is_true, AreEach, IsBucketOf, IsFeatureOf, feature_items, IsBranchOf, RecipesAreStated}
 use Rattle.recipe_reader.proofs.Trees.{same_values}
 use Rattle.recipe_reader.proofs.Steps.{ok_is, bind_ok, needed_ok, only_if_ok}
 use Rattle.recipe_reader.proofs.FieldsAgain.{fields_of_parts, bucket_parts}

@@ -6,7 +6,6 @@ pub mod Branches
 pub mod Records
 pub mod Payloads
 pub mod Kinds
-pub mod Shared
 pub mod Reasons
 pub mod Equal
 pub mod Equals

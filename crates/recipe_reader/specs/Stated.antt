@@ -1,5 +1,5 @@
 -- Which recipe a record is, said of the whole record, field by field.
-use Rattle.std.specs.Prelude.{◌≡◌, ℕ, pos, Bool, false, List as Seq, [], ◌∷◌, Option, Some, None, Result, Ok, ⊤, codes}
+use Rattle.std.specs.Prelude.{◌≡◌, ℕ, pos, Bool, false, List as Seq, [], ◌∷◌, Option, Some, None, Ok, ⊤, codes}
 use Rattle.std.specs.Option.{unwrap_or}
 use Rattle.json_tree.specs.Json.{Json, truth, whole, text, list, object, Items, no_items, item, no_members, get}
 use Rattle.json_tree.specs.Tree.{json_of}

@@ -102,7 +102,8 @@ fn are_slugs_distinct(branches: &[Branch]) -> bool
     }
 }
 
-fn has_slug(branches: &[Branch], slug: &str) -> bool
+/// Whether a branch has that slug.
+pub fn has_slug(branches: &[Branch], slug: &str) -> bool
     ensures { result ≡ list_any (λ b. bytes_eq b.slug slug.now) branches.now }
 {
     branches.iter().any(|branch| branch.slug.text() == slug)
@@ -212,10 +213,9 @@ fn feature_of(alloc: Global, entry: &Tree) -> Result<FeatureValue, RecordFault>
     if !is_name(id.as_bytes()) {
         return Err(BAD);
     }
-    let value = value_of(alloc, present(entry.get("value")))?;
     Ok(FeatureValue {
         feature: Text::new(alloc, id)?,
-        value,
+        value: value_of(alloc, present(entry.get("value")))?,
     })
 }
 

@@ -2,7 +2,7 @@
 ghost use Rattle.std.specs.Prelude.{◌≡◌, IfOk};
 
 use crate::recipe::{Branch, Bucket, FeatureValue, Recipe};
-use sequences::{Sequence, Text};
+use sequences::{ExactClone, Sequence, Text};
 use std::alloc::AllocError;
 
 impl Clone for Recipe {
@@ -21,6 +21,10 @@ impl Clone for Recipe {
             published: copy_of_text(&self.published)?,
         })
     }
+}
+
+impl ExactClone for Recipe {
+    ghost exact = { λ r s same. same };
 }
 
 impl Clone for Bucket {

@@ -2,6 +2,7 @@
 ghost use Rattle.std.specs.Prelude.{◌≡◌};
 ghost use Rattle.recipe_reader.specs.Kinds.{kind_of, published_at, has_branch};
 
+use crate::branches::has_slug;
 use crate::recipe::Recipe;
 use plain_text::read_moment;
 
@@ -39,9 +40,6 @@ impl Recipe {
     pub fn has_branch(&self, branch: &str) -> bool
         ensures { result ≡ has_branch self.now branch.now }
     {
-        self.branches
-            .as_slice()
-            .iter()
-            .any(|other| other.slug.text() == branch)
+        has_slug(self.branches.as_slice(), branch)
     }
 }

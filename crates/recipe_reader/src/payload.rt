@@ -111,6 +111,7 @@ impl Taken {
         ensures valid { OnOk result (IsValid recipe → AreValid (so_far self.old).recipes → AreValid (so_far self.new).recipes) }
     {
         if has_slug(&self.recipes, &recipe.slug) {
+            drop(recipe);
             return self.skip(index, SkipReason::Duplicate);
         }
         insert(&mut self.recipes, recipe)
@@ -150,7 +151,8 @@ fn insert(recipes: &mut BTreeMap<Slug, Recipe>, recipe: Recipe) -> Result<(), Al
     ensures slugs { OnOk result (HaveOwnSlugs recipes.new.entries) }
     ensures valid { OnOk result (IsValid recipe → AreValid (values_of recipes.old.entries) → AreValid (values_of recipes.new.entries)) }
 {
-    recipes.insert(recipe.slug.clone()?, recipe)?;
+    let slug = recipe.slug.clone()?;
+    drop(recipes.insert(slug, recipe)?);
     Ok(())
 }
 

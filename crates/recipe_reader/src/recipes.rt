@@ -1,23 +1,19 @@
 // Recipes in order by slug.
-ghost use Rattle.std.specs.Prelude.{◌≡◌, ◌≤◌, ◌++◌, ◌∷◌, [], length, true, not, IfOk, IfErr, OnOk, OnErr, option_map, slice_get, if◌then◌else◌};
-ghost use Rattle.std.specs.List.{insert};
+ghost use Rattle.std.specs.Prelude.{◌≡◌, ◌++◌, ◌∷◌, [], true, not, IfOk, IfErr, OnOk, OnErr, option_map, slice_get, if◌then◌else◌};
 ghost use Rattle.recipe_reader.specs.Records.{IsValid};
 ghost use Rattle.recipe_reader.specs.Payloads.{AreInOrder, AreBelow, AreValid, IsPlace, has_slug, recipe_with, with_recipe};
-ghost use Rattle.recipe_reader.specs.Shared.{shared_recipes};
 
 use crate::recipe::Recipe;
-use sequences::Sequence;
+use sequences::SharedList;
 use std::alloc::{AllocError, Global};
 use std::marker::Model;
-use std::rc::Rc;
 
 /// Recipes whose slugs rise by their bytes, so that no two have one slug. Contracts see it as the
 /// list of the recipes. A clone shares the list, and a list with several owners is copied before
 /// one of them changes it.
 #[derive(Drop)]
 pub struct Recipes {
-    alloc: Global,
-    list: Option<Rc<Sequence<Recipe>>>,
+    list: SharedList<Recipe>,
 }
 
 impl Model for Recipes {
@@ -31,11 +27,10 @@ impl Model for Recipes {
     ghost coded = { Prim.hlevel (codes, json_code) };
 
     ghost use Rattle.recipe_reader.specs.Payloads.{AreInOrder};
-    ghost use Rattle.recipe_reader.specs.Shared.{shared_recipes};
 
-    ghost view = { λ a. shared_recipes a.list };
+    ghost view = { λ a. a.list };
 
-    ghost invariant = { λ a. AreInOrder (shared_recipes a.list) };
+    ghost invariant = { λ a. AreInOrder a.list };
 }
 
 /// The same list with one more owner. It takes no memory.
@@ -44,18 +39,8 @@ impl Clone for Recipes {
 
     fn clone(&self) -> Result<Recipes, AllocError> {
         Ok(Recipes {
-            alloc: self.alloc,
-            list: share(&self.list)?,
+            list: self.list.clone()?,
         })
-    }
-}
-
-fn share(list: &Option<Rc<Sequence<Recipe>>>) -> Result<Option<Rc<Sequence<Recipe>>>, AllocError>
-    ensures { IfOk result (λ l. shared_recipes l ≡ shared_recipes list.now) }
-{
-    match list {
-        Some(recipes) => Ok(Some(recipes.clone()?)),
-        None => Ok(None),
     }
 }
 
@@ -80,7 +65,9 @@ impl Recipes {
     pub fn new(alloc: Global) -> Recipes
         ensures { result ≡ [] }
     {
-        Recipes { alloc, list: None }
+        Recipes {
+            list: SharedList::new(alloc),
+        }
     }
 
     /// The recipes, in order. It takes no memory.
@@ -88,7 +75,7 @@ impl Recipes {
         ensures recipes { result.now ≡ self.now }
         ensures in_order { AreInOrder self.now }
     {
-        slice_of(&self.list)
+        self.list.as_slice()
     }
 
     /// The recipe with the slug, by a binary search. It takes no memory.
@@ -109,8 +96,7 @@ impl Recipes {
         ensures ok { OnOk result (self.new ≡ self.old ++ recipe ∷ []) }
         ensures err { OnErr result (self.new ≡ self.old) }
     {
-        let place = self.as_slice().len();
-        put(self.alloc, &mut self.list, place, recipe)?;
+        self.list.push(recipe)?;
         Ok(())
     }
 
@@ -123,54 +109,16 @@ impl Recipes {
         ensures err { OnErr result (self.new ≡ self.old) }
     {
         match place_of(self.as_slice(), recipe.slug.text()) {
-            Ok(_) => Ok(false),
+            Ok(_) => {
+                drop(recipe);
+                Ok(false)
+            }
             Err(place) => {
-                put(self.alloc, &mut self.list, place, recipe)?;
+                self.list.insert(place, recipe)?;
                 Ok(true)
             }
         }
     }
-}
-
-fn slice_of(list: &Option<Rc<Sequence<Recipe>>>) -> &[Recipe]
-    ensures { result.now ≡ shared_recipes list.now }
-{
-    match list {
-        Some(recipes) => recipes.as_slice(),
-        None => &[],
-    }
-}
-
-/// Puts a recipe before the one at `place`. Want of memory leaves the recipes as they were.
-fn put(
-    alloc: Global,
-    list: &mut Option<Rc<Sequence<Recipe>>>,
-    place: usize,
-    recipe: Recipe,
-) -> Result<(), AllocError>
-    requires { place ≤ length (shared_recipes list.old) }
-    ensures ok { OnOk result (shared_recipes list.new ≡ insert (shared_recipes list.old) place recipe) }
-    ensures err { OnErr result (shared_recipes list.new ≡ shared_recipes list.old) }
-{
-    match list {
-        Some(recipes) => put_in(recipes, place, recipe),
-        None => {
-            let mut recipes = Sequence::new(alloc);
-            recipes.insert(place, recipe)?;
-            *list = Some(Rc::new(alloc, recipes)?);
-            Ok(())
-        }
-    }
-}
-
-/// The same of recipes that are there, which are copied where they have other owners.
-fn put_in(list: &mut Rc<Sequence<Recipe>>, place: usize, recipe: Recipe) -> Result<(), AllocError>
-    requires { place ≤ length list.old.value }
-    ensures ok { OnOk result (list.new.value ≡ insert list.old.value place recipe) }
-    ensures err { OnErr result (list.new.value ≡ list.old.value) }
-{
-    let recipes = Rc::make_mut(list)?;
-    recipes.insert(place, recipe)
 }
 
 /// Where the recipe with the slug is, or else where one belongs, by a binary search.

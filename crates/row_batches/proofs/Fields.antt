@@ -11,7 +11,7 @@ front_same v w r t len same = sym (take_at v r (length v) refl) ∙ ap (take (le
 pub rest_same : (v w r t : List ℕ) → length v ≡ length w → v ++ r ≡ w ++ t → r ≡ t
 rest_same v w r t len same = sym (drop_at v r (length v) refl) ∙ ap (drop (length v)) same ∙ drop_at w t (length v) (sym len)
 
--- head spells a number below bound in k bytes, which tell it
+-- head encodes a number below bound in k bytes, which tell it
 module _ (head : ℕ → List ℕ) (k bound : ℕ) (sized : (n : ℕ) → length (head n) ≡ k) (tells : (n m : ℕ) → n < bound → m < bound → head n ≡ head m → n ≡ m) where
   abbrev field : List ℕ → List ℕ
   field f = head (length f) ++ f

@@ -7,7 +7,7 @@ pub mod Joining
 pub mod ItemWalks
 pub mod Keeping
 pub mod Merged
-pub mod OneSpelling
+pub mod OneEncoding
 pub mod Ordered
 pub mod RowFields
 pub mod Sides

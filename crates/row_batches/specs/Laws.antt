@@ -5,9 +5,9 @@ use Rattle.row_batches.specs.Batch.{ChangeList, IsBatch, applied, batch_text}
 use Rattle.row_batches.specs.Between.{changes_between, between}
 use Rattle.row_batches.specs.Rows.{AreRows}
 
--- batches that have one spelling are one
-abbrev pub HasOneSpelling : Type 0
-HasOneSpelling = (b c : ChangeList) → IsBatch b → IsBatch c → batch_text b ≡ batch_text c → b ≡ c
+-- batches that have one encoding are one
+abbrev pub HasOneEncoding : Type 0
+HasOneEncoding = (b c : ChangeList) → IsBatch b → IsBatch c → batch_text b ≡ batch_text c → b ≡ c
 
 -- the batch between two maps is empty exactly where they are equal
 abbrev pub IsEmptyWhereEqual : Type 0

@@ -23,7 +23,7 @@ mod writing;
 pub use batch::Batch;
 pub use change::RowChange;
 pub use fault::BatchFault;
-pub use laws::{between_makes, empty_between, one_spelling};
+pub use laws::{between_makes, empty_between, one_encoding};
 pub use reading::batch_of;
 pub use row_form::RowForm;
 pub use row_map::RowMap;

@@ -1,10 +1,12 @@
 -- Payloads make one map at most, and one payload more makes of it what its batch does.
-use Rattle.std.proofs.Common.{◌≡◌, ℕ, List, [], ◌∷◌, ◌++◌, Bool, true, false, IsTrue, Ok, Err, inl, inr, ◌+◌, ◌≤◌, length, refl, sym, ap, ◌∙◌, subst}
+use Rattle.std.proofs.Common.{◌≡◌, ℕ, List, [], ◌∷◌, ◌++◌, Bool, true, false, IsTrue, Ok, Err, Some, inl, inr, ◌+◌, ◌≤◌, length, drop, slice_get, suc, refl, sym, ap, ◌∙◌, subst, arith}
+use Rattle.std.proofs.Math.Seq.{drop-cons}
+use Rattle.std.proofs.lemmas.Option.{get_or_from_slice_get, slice_get_within}
 use Rattle.row_batches.specs.Batch.{ChangeList, IsBatch, batch_text, applied, whole_of}
 use Rattle.row_batches.specs.Batches.{HaveRoom}
 use Rattle.row_batches.specs.Rows.{AreRows}
 use Rattle.row_batches.specs.declared.store_row.StoreRow.{StoreRow}
-use Rattle.row_batches.proofs.OneSpelling.{one_spelling}
+use Rattle.row_batches.proofs.OneEncoding.{one_encoding}
 use Rattle.row_batches.proofs.Walks.{whole_rule, applied_whole}
 use Rattle.row_batches.proofs.Found.{rise_applied, room_applied}
 use Rattle.row_batches.specs.RowRoom.{AreSoundRows}
@@ -32,7 +34,7 @@ use Rattle.pair_store.proofs.Standing.{each_has_kept_list}
 use Rattle.pair_store.proofs.Unique.{one_list}
 
 same_batch : (payload : List ℕ) (b c : ChangeList) → IsBatchOf payload b → IsBatchOf payload c → b ≡ c
-same_batch payload b c b_is c_is = one_spelling b c b_is.rules c_is.rules (sym b_is.bytes ∙ c_is.bytes)
+same_batch payload b c b_is c_is = one_encoding b c b_is.rules c_is.rules (sym b_is.bytes ∙ c_is.bytes)
 
 pub one_fold : (payloads : List (List ℕ)) (before after other : List StoreRow) → Fold payloads before after → Fold payloads before other → after ≡ other
 one_fold [] before after other first second = sym first ∙ second
@@ -150,3 +152,10 @@ pub fold_back : (payload : List ℕ) (payloads : List (List ℕ)) (before after 
 fold_back payload payloads before after batch is taken rows made =
     let same = same_batch payload made.0 batch made.1 is in
     subst (λ (rs : List StoreRow). Fold payloads rs rows) (ap (λ (b : ChangeList). applied b before) same ∙ sym taken) made.2
+
+-- the payloads from a place on: the one that stands there, and those behind it
+pub payloads_from : (payloads : List (List ℕ)) (at : ℕ) (payload : List ℕ) → slice_get payloads at ≡ Some payload → drop at payloads ≡ payload ∷ drop (at + 1) payloads
+payloads_from payloads at payload is =
+    let next : suc at ≡ at + 1 = omega arith in
+    drop-cons payloads at payload (slice_get_within payloads at payload is) ∙ ap (λ (p : List ℕ). p ∷ drop (suc at) payloads) (get_or_from_slice_get payloads at payload payload is)
+    ∙ ap (λ (n : ℕ). payload ∷ drop n payloads) next

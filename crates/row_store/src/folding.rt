@@ -6,6 +6,7 @@ ghost use Rattle.row_batches.specs.Rows.{AreRows, after_change, after_changes};
 ghost use Rattle.row_store.specs.Folding.{Fold};
 ghost use Rattle.row_store.specs.Listing.{rows_in};
 
+use gate_journal::Payloads;
 use row_batches::{Batch, BatchFault, RowChange, RowMap, StoreRow, batch_of};
 use sequences::Sequence;
 use std::alloc::{AllocError, Global};
@@ -14,19 +15,19 @@ use std::collections::BTreeMap;
 /// Rows by their keys.
 type RowTree = BTreeMap<Vec<u8>, Sequence<u8>>;
 
-/// The rows that the payloads make from none, one after the other. Each payload is let go once it is read.
+/// The rows that the payloads make from none, one after the other.
 ///
 /// A change is a search of an ordered map, and the rows are listed once at the end. Keys and values are moved.
-pub(crate) fn fold_rows(
-    alloc: Global,
-    payloads: Sequence<Sequence<u8>>,
-) -> Result<RowMap, BatchFault>
-    ensures rows { IfOk result (λ map. Fold payloads [] map.rows) }
-    ensures none { IsErrOf result BatchFault.NotABatch → (rows : List StoreRow) → Fold payloads [] rows → ⊥ }
+pub(crate) fn fold_rows(alloc: Global, payloads: &Payloads) -> Result<RowMap, BatchFault>
+    ensures rows { IfOk result (λ map. Fold payloads.now [] map.rows) }
+    ensures none { IsErrOf result BatchFault.NotABatch → (rows : List StoreRow) → Fold payloads.now [] rows → ⊥ }
 {
     let mut tree = BTreeMap::new(alloc);
-    for payload in payloads.into_vec() {
-        let batch = batch_of(alloc, payload.as_slice())?;
+    for place in 0..payloads.len() {
+        let Some(payload) = payloads.get(place) else {
+            unreachable!()
+        };
+        let batch = batch_of(alloc, payload)?;
         take_batch(&mut tree, batch)?;
     }
     let rows = listed(alloc, tree)?;

@@ -13,7 +13,7 @@ ghost use Rattle.pair_store.specs.Pair.{HasNoList, HasNoStore};
 ghost use Rattle.pair_store.specs.Repair.{repair_cost, shut_first, IsLeftByOpening, IsUnwritten};
 ghost use Rattle.pair_store.specs.Store.{store_made, IsClosedOn, HasFailed, PairStandsWithGate};
 ghost use Rattle.row_batches.specs.declared.store_row.StoreRow.{StoreRow};
-ghost use Rattle.row_batches.specs.Batch.{applied, IsBatch, batch_text, whole_of};
+ghost use Rattle.row_batches.specs.Batch.{applied, batch_text, whole_of};
 ghost use Rattle.row_batches.specs.Batches.{HaveRoom};
 ghost use Rattle.row_batches.specs.Rows.{AreRows, value_of};
 ghost use Rattle.row_store.specs.Folding.{Fold};
@@ -29,11 +29,10 @@ use crate::faults::RowMakeFault;
 use crate::folding::fold_rows;
 use crate::ready::Ready;
 use crate::writing::write_payload;
-use gate_journal::{Frame, FrameFault};
+use gate_journal::{Frame, FrameFault, Payloads};
 use host_model::{DiskFailed, Host};
 use pair_store::{PairFault, PairStore};
 use row_batches::{Batch, BatchFault, RowMap, StoreRow};
-use sequences::Sequence;
 use std::alloc::{AllocError, Global};
 use std::marker::Model;
 
@@ -213,7 +212,7 @@ impl RowStore {
     }
 }
 
-// The batch with what is written of it.
+// The batch with what is written of it: its bytes, or those of the whole map. The batch's size tells which, before bytes are made.
 fn ready_for(
     alloc: Global,
     pair: &PairStore,
@@ -223,13 +222,10 @@ fn ready_for(
     requires size { length (batch_text batch.now) ≤ MAX_PAYLOAD }
     requires whole_size { length (batch_text (whole_of (applied batch.now rows.old.rows))) ≤ MAX_WHOLE }
     ensures batch { IfOk result (λ ready. ready.batch ≡ batch.now) }
-    ensures rules { IfOk result (λ _. IsBatch batch.now) }
     ensures written { IfOk result (λ ready. IsWritten ready.is_whole (record { records = pair.now; rows = rows.old.rows; room = rows.old.room }) batch.now ready.payload) }
     ensures same { rows.new ≡ rows.old }
 {
-    let bytes = batch.bytes(alloc)?;
-    let frame = frame_of(alloc, &bytes)?;
-    if pair.wants_checkpoint(&frame) {
+    if pair.wants_checkpoint(batch.size() as u64) {
         let whole = whole_bytes(alloc, rows, batch)?;
         Ok(Ready {
             batch: copy_of(alloc, batch)?,
@@ -237,9 +233,10 @@ fn ready_for(
             is_whole: true,
         })
     } else {
+        let bytes = batch.bytes(alloc)?;
         Ok(Ready {
             batch: copy_of(alloc, batch)?,
-            frame,
+            frame: frame_of(alloc, &bytes)?,
             is_whole: false,
         })
     }
@@ -284,12 +281,12 @@ fn frame_of(alloc: Global, payload: &[u8]) -> Result<Frame, AllocError>
 }
 
 // The rows that the payloads make.
-fn rows_of(alloc: Global, payloads: Sequence<Sequence<u8>>) -> Result<RowMap, PairFault>
+fn rows_of(alloc: Global, payloads: Payloads) -> Result<RowMap, PairFault>
     ensures rows { IfOk result (λ map. Fold payloads [] map.rows) }
     ensures none { IsErrOf result PairFault.BadStore → (rows : List StoreRow) → Fold payloads [] rows → ⊥ }
     ensures no_other { (IsErrOf result PairFault.NoStore → ⊥) × (IsErrOf result PairFault.DiskFault → ⊥) }
 {
-    match fold_rows(alloc, payloads) {
+    match fold_rows(alloc, &payloads) {
         Ok(rows) => Ok(rows),
         Err(BatchFault::NotABatch) => Err(PairFault::BadStore),
         Err(BatchFault::OutOfMemory) => Err(PairFault::OutOfMemory),

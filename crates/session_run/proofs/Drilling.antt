@@ -174,7 +174,7 @@ module _ {H : Type 0} (h : Ghosts H) (start count now : ℕ) where
         ends = refl;
         left = λ states all. met_weaker h.moment h.might old old _ (IsLeftAmong (h.said old) states) run (λ l r u met. (all l r met.0 met.1, met.2));
         memory = λ is. record { moments = met_weaker h.moment h.might old old _ (IsOpening h old) run (λ l r u met. inl met); text = refl; most = omega arith };
-        spelled = λ is. absurd cc;
+        encoded = λ is. absurd cc;
         placed = λ is. absurd cc;
         closed = λ is. absurd cc;
         cost = λ is. absurd cc;

@@ -25,7 +25,7 @@ mod Placing
 mod Preferences
 mod Running
 mod SoundRuns
-mod SpelledStores
+mod EncodedStores
 mod Starting
 mod Stepping
 mod Undone

@@ -7,7 +7,7 @@ use Rattle.host_model.specs.Hosts.{MeetsAll}
 use Rattle.host_model.specs.Moments.{IsSaying, Elapses, KeepsSide}
 use Rattle.row_store.specs.Rows.{HasRows, HasPlace}
 use Rattle.client_store.specs.NewStates.{fresh}
-use Rattle.client_state.specs.Spelling.{rows_of}
+use Rattle.client_state.specs.Encoding.{rows_of}
 use Rattle.client_store.specs.Moments.{IsQuiet}
 use Rattle.client_store.specs.OpenStore.{AllKept}
 use Rattle.client_store.specs.Places.{making_bytes, place_made}
@@ -22,7 +22,7 @@ use Rattle.session_run.proofs.Judging.{among_not_absent}
 -- what is known of a store that was made for this id
 pub record IsMade {H : Type 0} (h : Ghosts H) (old mid : H) (id : List ℕ) (now : ℕ) : Type 0 where
   pub kept : AllKept h mid (fresh id now)
-  pub spelled : HasRows (h.reads mid Left) (h.reads mid Right) (rows_of (fresh id now))
+  pub encoded : HasRows (h.reads mid Left) (h.reads mid Right) (rows_of (fresh id now))
   pub placed : HasPlace (h.reads mid Left) (h.reads mid Right) (place_made (fresh id now))
   pub closed : h.reads mid Right ≡ 0 ∷ drop 1 (h.reads old Right)
   pub cost : h.written mid ≡ h.written old + making_bytes (fresh id now)
@@ -40,7 +40,7 @@ module _ {H : Type 0} (h : Ghosts H) (old mid new : H) (id text : List ℕ) (now
     ends = ends;
     left = λ states all. absurd (among_not_absent (h.reads old Left) (h.reads old Right) states (all (h.reads old Left) (h.reads old Right) left right) absent);
     memory = λ is. absurd (other is);
-    spelled = λ is. read_as (λ (l r : List ℕ). HasRows l r (rows_of (fresh id now))) made.spelled;
+    encoded = λ is. read_as (λ (l r : List ℕ). HasRows l r (rows_of (fresh id now))) made.encoded;
     placed = λ is. read_as (λ (l r : List ℕ). HasPlace l r (place_made (fresh id now))) made.placed;
     closed = λ is. (still Right).reads_same ∙ made.closed;
     cost = λ is. written ∙ made.cost;

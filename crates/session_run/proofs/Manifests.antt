@@ -28,7 +28,7 @@ use Rattle.pref_bindings.specs.declared.bindings.Binding.{Binding}
 use Rattle.client_state.specs.declared.client_state.ClientState.{ClientState}
 use Rattle.client_state.specs.Following.{enrolment_ended, is_spent}
 use Rattle.client_state.specs.Sound.{max_size}
-use Rattle.client_state.specs.Spelling.{spelling}
+use Rattle.client_state.specs.Encoding.{encoding}
 use Rattle.fml_types.specs.declared.manifest.Manifest.{Manifest}
 use Rattle.fml_value.specs.Typed.{TypedValue}
 use Rattle.feature_serving.specs.Serving.{served}
@@ -86,7 +86,7 @@ module _ (at : Setting) (s : ClientState) (session : Session) where
   Keeps (Refused answer) = Unit {0}
 
   done-keeps : (asked : Outcome) → Keeps asked → (done s session asked).session.manifest ≡ session.manifest
-  done-keeps (Accepted t next answer) keeps = either_step (λ to. to.session.manifest ≡ session.manifest) (nat_lt max_size (length (spelling t))) _ _ refl keeps
+  done-keeps (Accepted t next answer) keeps = either_step (λ to. to.session.manifest ≡ session.manifest) (nat_lt max_size (length (encoding t))) _ _ refl keeps
   done-keeps (Refused answer) keeps = refl
 
   -- whether the outbox has numbers for the changes or not
@@ -196,7 +196,7 @@ module _ (at : Setting) (s : ClientState) (session : Session) where
 
   -- it is done, unless the state is too large
   made : (m found : Manifest) (large : Bool)
-      → let to : Step = if large then record { state = s; session = session; answer = StateTooLarge (length (spelling s)) } else record { state = s; session = with_manifest session found; answer = Okay } in
+      → let to : Step = if large then record { state = s; session = session; answer = StateTooLarge (length (encoding s)) } else record { state = s; session = with_manifest session found; answer = Okay } in
       to.session.manifest ≡ Some m → ((to.answer ≡ Okay) × (found ≡ m)) ⊎ ((session.manifest ≡ Some m) × (to.answer ≡ Okay → ⊥))
   made m found true is = inr (is, λ okay. absurd cc)
   made m found false is = inl (refl, some_one is)
@@ -213,7 +213,7 @@ module _ (at : Setting) (s : ClientState) (session : Session) where
         manifest = makes ∙ ap Ok done_as.1;
       }))
       (λ refused. inr (refused.0, λ that sets. refused.1 (subst (λ (read : Result Manifest Answer). answer_to read ≡ Okay) makes sets.answer)))
-      (made m found (nat_lt max_size (length (spelling s))) is)
+      (made m found (nat_lt max_size (length (encoding s))) is)
   manifest-sets file channel m (Err refusal) makes is = inr (is, λ that sets. none that sets)
     where
       none : (that : Manifest) → Sets at s session (commands.Manifest file channel) that → ⊥

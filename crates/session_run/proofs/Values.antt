@@ -39,7 +39,7 @@ apart n below is = absurd (omega (arith, below, is))
 record IsValue (answer : Answer) (text : List ℕ) : Type 0 where
   tree : Tree
   is_value : answer ≡ Value tree
-  spelled : text_of (json_of tree) ≡ text
+  encoded : text_of (json_of tree) ≡ text
 
 same_text : (a b : List ℕ) → value_line a ≡ value_line b → a ≡ b
 same_text a b is = append_cancel_left (codes "value ") a b (append_cancel_right (codes "value " ++ a) (codes "value " ++ b) (10 ∷ []) is)
@@ -59,7 +59,7 @@ preferences_apart (preference ∷ preferences) text is = apart 112 (omega arith)
 -- no other answer begins with `v`
 value_in : (answer : Answer) (text : List ℕ) → answer_lines answer ≡ value_line text → IsValue answer text
 unfolding answer_lines fetched_lines shown_lines
-value_in (Value tree) text is = record { tree = tree; is_value = refl; spelled = same_text (text_of (json_of tree)) text is }
+value_in (Value tree) text is = record { tree = tree; is_value = refl; encoded = same_text (text_of (json_of tree)) text is }
 value_in Okay text is = apart 111 (omega arith) (ap first is)
 value_in (Fetched kept skipped) text is = apart 102 (omega arith) (ap first is)
 value_in (Applied enrolled rows) text is = apart 97 (omega arith) (ap first is)
@@ -90,7 +90,7 @@ typed_line at run line sound text is =
     let said = value_of_line at run (command_of line) text is in
     let tree = said.value.tree in
     let found = values_have_types at run.state run.session said.command tree sound.state sound.session said.value.is_value in
-    record { name = found.0; command = said.is_command ∙ ap Ok found.1; tree = tree; spelled = sym said.value.spelled; value = found.2 }
+    record { name = found.0; command = said.is_command ∙ ap Ok found.1; tree = tree; encoded = sym said.value.encoded; value = found.2 }
 
 -- each value of a run is of the manifest that was set last
 pub serves_values : (start : Start) → start.at.now ≤ last_moment → IsSound start.state → ServesValues start

@@ -41,7 +41,7 @@ higher n above is = absurd (omega (arith, above, is))
 record IsManifest (answer : Answer) (text : List ℕ) : Type 0 where
   tree : Tree
   is_manifest : answer ≡ Manifest tree
-  spelled : text_of (json_of tree) ≡ text
+  encoded : text_of (json_of tree) ≡ text
 
 same_text : (a b : List ℕ) → manifest_line a ≡ manifest_line b → a ≡ b
 same_text a b is = append_cancel_left (codes "manifest ") a b (append_cancel_right (codes "manifest " ++ a) (codes "manifest " ++ b) (10 ∷ []) is)
@@ -61,7 +61,7 @@ preferences_apart (preference ∷ preferences) text is = higher 112 (omega arith
 -- no other answer begins with `m`
 manifest_in : (answer : Answer) (text : List ℕ) → answer_lines answer ≡ manifest_line text → IsManifest answer text
 unfolding answer_lines fetched_lines shown_lines
-manifest_in (Manifest tree) text is = record { tree = tree; is_manifest = refl; spelled = same_text (text_of (json_of tree)) text is }
+manifest_in (Manifest tree) text is = record { tree = tree; is_manifest = refl; encoded = same_text (text_of (json_of tree)) text is }
 manifest_in Okay text is = higher 111 (omega arith) (ap first is)
 manifest_in (Fetched kept skipped) text is = lower 102 (omega arith) (ap first is)
 manifest_in (Applied enrolled rows) text is = lower 97 (omega arith) (ap first is)
@@ -97,5 +97,5 @@ writes_manifests start k line text is_line is_command answered =
     record {
       manifest = made.manifest;
       set = set_last at start.state start.lines k (omega (arith, at_within start.lines k line is_line)) made.manifest made.set;
-      again = subst (λ (t : List ℕ). MakesAgain t made.manifest) it.spelled made.again;
+      again = subst (λ (t : List ℕ). MakesAgain t made.manifest) it.encoded made.again;
     }

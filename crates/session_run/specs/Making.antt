@@ -6,7 +6,7 @@ use Rattle.host_model.specs.Hosts.{MeetsAll}
 use Rattle.row_store.specs.Rows.{HasRows, HasPlace}
 use Rattle.client_state.specs.declared.client_state.ClientState.{ClientState}
 use Rattle.client_store.specs.NewStates.{fresh}
-use Rattle.client_state.specs.Spelling.{rows_of}
+use Rattle.client_state.specs.Encoding.{rows_of}
 use Rattle.client_store.specs.Moments.{IsLeftAmong}
 use Rattle.client_store.specs.OpenStore.{AllKept, AllKeptAmong}
 use Rattle.client_store.specs.Places.{making_bytes, place_made}
@@ -50,8 +50,8 @@ pub record Made {H : Type 0} (h : Ghosts H) (id : List ℕ) (now : ℕ) (old new
   pub left : (states : List ClientState) → AllKeptAmong h old states → MeetsAll h old new (IsLeftAmong (h.said old) states)
   -- where memory is wanting, nothing is said, and no byte is written but that of an opening
   pub memory : status ≡ OutOfMemory → WritesNoMore h old new
-  -- the rows of a store that is made are spelled, and in no older form
-  pub spelled : status ≡ Done → HasRows (h.reads new Left) (h.reads new Right) (rows_of (fresh id now))
+  -- the rows of a store that is made are encoded, and in no older form
+  pub encoded : status ≡ Done → HasRows (h.reads new Left) (h.reads new Right) (rows_of (fresh id now))
   -- they stand on the left side, the next record begins behind them, and the right side is closed
   pub placed : status ≡ Done → HasPlace (h.reads new Left) (h.reads new Right) (place_made (fresh id now))
   pub closed : status ≡ Done → h.reads new Right ≡ 0 ∷ drop 1 (h.reads old Right)

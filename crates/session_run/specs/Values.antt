@@ -25,7 +25,7 @@ pub record IsTypedValue (run : RunState) (line text : List ℕ) : Type 0 where
   pub name : List ℕ
   pub command : command_of line ≡ Ok (Feature name)
   pub tree : Tree
-  pub spelled : text ≡ text_of (json_of tree)
+  pub encoded : text ≡ text_of (json_of tree)
   pub value : IsServedWithType run.state run.session name tree
 
 -- where the line is answered a value, it is such a one

@@ -11,7 +11,7 @@ ghost use Rattle.recipe_drill.specs.Parts as parts;
 ghost use Rattle.recipe_drill.specs.Parts.{drill_id, parts_of, HasRoom};
 ghost use Rattle.recipe_drill.specs.Summary as counts;
 ghost use Rattle.row_store.specs.Rows.{HasRows, HasPlace};
-ghost use Rattle.client_state.specs.Spelling.{rows_of};
+ghost use Rattle.client_state.specs.Encoding.{rows_of};
 ghost use Rattle.client_store.specs.OpenStore.{AllKept};
 ghost use Rattle.client_store.specs.Places.{place_made};
 ghost use Rattle.session_run.specs.DrillEnds.{SummaryEnds, ScriptEnds, made_start, Drilled};
@@ -95,7 +95,7 @@ fn run_script<H: Host>(
     requires drill { parts_of drill ≡ parts.drill start count }
     requires room { HasRoom drill }
     requires made { H.tells → AllKept H.Host host.old (drill_fresh now) }
-    requires spelled { H.tells → HasRows (H.reads host.old Left) (H.reads host.old Right) (rows_of (drill_fresh now)) }
+    requires encoded { H.tells → HasRows (H.reads host.old Left) (H.reads host.old Right) (rows_of (drill_fresh now)) }
     requires placed { H.tells → HasPlace (H.reads host.old Left) (H.reads host.old Right) (place_made (drill_fresh now)) }
     requires whole { H.tells → repair_cost (H.reads host.old Left) (H.reads host.old Right) ≡ 0 }
 

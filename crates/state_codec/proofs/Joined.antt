@@ -11,7 +11,7 @@ use Rattle.row_batches.specs.declared.change.RowChange.{RowChange}
 use Rattle.row_batches.specs.declared.store_row.StoreRow.{StoreRow}
 use Rattle.row_batches.proofs.Joining.{Precede, between-append}
 use Rattle.row_batches.proofs.Turns as turns
-use Rattle.state_codec.specs.Spelling.{row, key_row, recipe_row, status_row, status_rows, last_rows, pending_recipes, first_rows, later_rows, rows_with}
+use Rattle.state_codec.specs.Encoding.{row, key_row, recipe_row, status_row, status_rows, last_rows, pending_recipes, first_rows, later_rows, rows_with}
 use Rattle.state_codec.specs.RecipeChanges.{live_changes, pending_changes}
 use Rattle.state_values.specs.Values.{hyphenated, bit}
 use Rattle.std.specs.Option.{is_some}

@@ -12,8 +12,8 @@ use Rattle.enrol_states.proofs.Ordered.{map_itself}
 use Rattle.enrol_states.specs.declared.state.Row.{Row}
 use Rattle.row_batches.specs.Rows.{key_of, AreRows}
 use Rattle.row_batches.proofs.Joining.{Precede}
-use Rattle.state_values.specs.Values.{hyphenated, participation}
-use Rattle.state_codec.specs.Spelling.{row, key_row, recipe_row, status_row, status_rows, last_rows, pending_recipes, rows_behind_recipes, first_rows, later_rows, rows_with, rows_of}
+use Rattle.state_values.specs.Values.{hyphenated, participation_byte}
+use Rattle.state_codec.specs.Encoding.{row, key_row, recipe_row, status_row, status_rows, last_rows, pending_recipes, rows_behind_recipes, first_rows, later_rows, rows_with, rows_of}
 use Rattle.row_batches.specs.declared.store_row.StoreRow.{StoreRow}
 
 -- the key is below those of all these rows
@@ -68,6 +68,12 @@ pending_order (Some rs) are = are.in_order
 pub first_rise : (s : State) → IsConsistent s → AreRows (first_rows s)
 unfolding first_rows
 first_rise s is = rise_section 99 (λ (t : List ℕ). t) (key_row (99 ∷ [])) (λ t. refl) (λ a b. refl) s.coenrolling (subst Rise (sym (map_itself s.coenrolling)) is.coenrolling_order)
+
+pub opted_out_rise : (s : State) → IsConsistent s → AreRows (map (key_row (111 ∷ [])) s.opted_out)
+opted_out_rise s is = rise_section 111 (λ (t : List ℕ). t) (key_row (111 ∷ [])) (λ t. refl) (λ a b. refl) s.opted_out (subst Rise (sym (map_itself s.opted_out)) is.opted_out_order)
+
+pub client_rows_rise : (s : State) → IsConsistent s → AreRows (map status_row s.rows)
+client_rows_rise s is = rise_section 114 (λ (w : Row). w.slug) status_row (λ w. refl) (λ a b. refl) s.rows is.row_order
 
 module _ (byte : ℕ) (s : State) where
   -- behind the lists the sections follow one another
@@ -126,7 +132,7 @@ module _ (byte : ℕ) (s : State) where
   unfolding IsStrictlySortedBy
   statuses_rise is =
       let last : AreRows (last_rows s) = ((refl, (refl, tt)), ((refl, tt), (tt, tt))) in
-      let rows = rise_append (map status_row s.rows) (last_rows s) (rise_section 114 (λ (w : Row). w.slug) status_row (λ w. refl) (λ a b. refl) s.rows is.row_order) last (all_below status_row s.rows (last_rows s) (λ w. client_rows_below w.slug)) in
+      let rows = rise_append (map status_row s.rows) (last_rows s) (client_rows_rise s is) last (all_below status_row s.rows (last_rows s) (λ w. client_rows_below w.slug)) in
       let behind_q : IsBelow (113 ∷ []) (map status_row s.rows ++ last_rows s) = below_append (113 ∷ []) (map status_row s.rows) (last_rows s) (below_map (113 ∷ []) status_row s.rows (λ w. refl)) (refl, (refl, (refl, tt))) in
       let behind_p : IsBelow (112 ∷ []) (map status_row s.rows ++ last_rows s) = below_append (112 ∷ []) (map status_row s.rows) (last_rows s) (below_map (112 ∷ []) status_row s.rows (λ w. refl)) (refl, (refl, (refl, tt))) in
       ((refl, behind_p), (behind_q, rows))
@@ -134,7 +140,7 @@ module _ (byte : ℕ) (s : State) where
   opt_outs_rise : IsConsistent s → AreRows from_opt_outs
   opt_outs_rise is =
       rise_append (map (key_row (111 ∷ [])) s.opted_out) from_statuses
-      (rise_section 111 (λ (t : List ℕ). t) (key_row (111 ∷ [])) (λ t. refl) (λ a b. refl) s.opted_out (subst Rise (sym (map_itself s.opted_out)) is.opted_out_order))
+      (opted_out_rise s is)
       (statuses_rise is)
       (all_below (key_row (111 ∷ [])) s.opted_out from_statuses opt_outs_below)
 
@@ -171,4 +177,4 @@ module _ (byte : ℕ) (s : State) where
       (all_below (key_row (99 ∷ [])) s.coenrolling from_id features_below)
 
 pub rows_rise : (s : State) → IsConsistent s → AreRows (rows_of s)
-rows_rise s is = with_rise (participation s) s is
+rows_rise s is = with_rise (participation_byte s) s is

@@ -8,7 +8,7 @@ use Rattle.enrol_states.specs.declared.state.State.{State}
 use Rattle.enrol_states.specs.declared.state.Row.{Row}
 use Rattle.row_batches.specs.declared.store_row.StoreRow.{StoreRow}
 use Rattle.state_values.specs.Statuses.{number, status_bytes}
-use Rattle.state_codec.specs.Spelling.{row, key_row, recipe_row, status_row, last_rows, pending_recipes, first_rows, later_rows, hyphenated, recipe_text, bit}
+use Rattle.state_codec.specs.Encoding.{row, key_row, recipe_row, status_row, last_rows, pending_recipes, first_rows, later_rows, hyphenated, recipe_text, bit}
 
 pub all_append : (P : StoreRow → Type 0) (rs ss : List StoreRow) → AllByRecursion P rs → AllByRecursion P ss → AllByRecursion P (rs ++ ss)
 all_append P [] ss r_are s_are = s_are

@@ -10,12 +10,13 @@ pub mod OneState
 pub mod Forms
 pub mod Migrating
 pub mod Fresh
-pub mod Spelled
+pub mod Encoded
 pub mod Valids
 pub mod Added
 pub mod KeyOrder
 pub mod Letters
 pub mod Items
 pub mod Joined
+pub mod ListParts
 pub mod SameRows
 pub mod Changed

@@ -16,8 +16,8 @@ use Rattle.row_batches.proofs.Sizes.{put_size}
 use Rattle.row_batches.proofs.Turns as turns
 use Rattle.row_batches.proofs.Walks.{applied_between}
 use Rattle.state_codec.specs.Forms.{old_rows}
-use Rattle.state_values.specs.Values.{bit, hyphenated, participation}
-use Rattle.state_codec.specs.Spelling.{row, key_row, recipe_row, status_row, last_rows, pending_recipes, first_rows, later_rows, rows_with, rows_of, spelling}
+use Rattle.state_values.specs.Values.{bit, hyphenated, participation_byte}
+use Rattle.state_codec.specs.Encoding.{row, key_row, recipe_row, status_row, last_rows, pending_recipes, first_rows, later_rows, rows_with, rows_of, encoding}
 use Rattle.state_codec.proofs.Joined.{between_itself}
 use Rattle.state_codec.proofs.KeyOrder.{from_statuses, from_opt_outs, from_pending, from_live, from_id, with_rise}
 
@@ -33,11 +33,11 @@ one_put : (byte : ℕ) → IsBatch (of_list (Put (byte_row byte) ∷ []))
 unfolding IsStrictlySortedBy
 one_put byte = record { rise = (tt, tt); room = (record { key = omega arith; value = omega arith }, tt); puts = λ is. absurd cc }
 
-pub one_change : (s : State) (start changes : List RowChange) (r : StoreRow) → start ≡ [] → changes ≡ start ++ Put r ∷ [] → r ≡ byte_row (participation s) → changes ≡ Put (byte_row (participation s)) ∷ []
+pub one_change : (s : State) (start changes : List RowChange) (r : StoreRow) → start ≡ [] → changes ≡ start ++ Put r ∷ [] → r ≡ byte_row (participation_byte s) → changes ≡ Put (byte_row (participation_byte s)) ∷ []
 one_change s start changes r none grows is = grows ∙ ap (λ (l : List RowChange). l ++ Put r ∷ []) none ∙ ap (λ (q : StoreRow). Put q ∷ []) is
 
-pub one_rule : (s : State) (changes : List RowChange) → changes ≡ Put (byte_row (participation s)) ∷ [] → IsBatch (of_list changes)
-one_rule s changes are = subst (λ (cs : List RowChange). IsBatch (of_list cs)) (sym are) (one_put (participation s))
+pub one_rule : (s : State) (changes : List RowChange) → changes ≡ Put (byte_row (participation_byte s)) ∷ [] → IsBatch (of_list changes)
+one_rule s changes are = subst (λ (cs : List RowChange). IsBatch (of_list cs)) (sym are) (one_put (participation_byte s))
 
 -- ---- the batch between the two forms
 
@@ -67,21 +67,21 @@ differ true false = refl
 differ false true = refl
 differ false false = refl
 
-old_differs : (s : State) → bytes_eq (bit s.experiments ∷ []) (participation s ∷ []) ≡ false
-unfolding participation
+old_differs : (s : State) → bytes_eq (bit s.experiments ∷ []) (participation_byte s ∷ []) ≡ false
+unfolding participation_byte
 old_differs s = differ s.experiments s.rollouts
 
-pub migrating : (s : State) → changes_between (old_rows s) (rows_of s) ≡ Put (byte_row (participation s)) ∷ []
-migrating s = with_bytes (bit s.experiments) (participation s) s (old_differs s)
+pub migrating : (s : State) → changes_between (old_rows s) (rows_of s) ≡ Put (byte_row (participation_byte s)) ∷ []
+migrating s = with_bytes (bit s.experiments) (participation_byte s) s (old_differs s)
 
-pub migrated : (s : State) (batch : ChangeList) → batch ≡ record { clear = false; changes = Put (byte_row (participation s)) ∷ [] } → batch ≡ between (old_rows s) (rows_of s)
+pub migrated : (s : State) (batch : ChangeList) → batch ≡ record { clear = false; changes = Put (byte_row (participation_byte s)) ∷ [] } → batch ≡ between (old_rows s) (rows_of s)
 migrated s batch is = is ∙ ap of_list (sym (migrating s))
 
 pub rows_migrated : (s : State) (batch : ChangeList) → IsConsistent s → batch ≡ between (old_rows s) (rows_of s) → applied batch (old_rows s) ≡ rows_of s
-rows_migrated s batch is between_is = applied_between (old_rows s) (rows_of s) batch (with_rise (bit s.experiments) s is) (with_rise (participation s) s is) between_is
+rows_migrated s batch is between_is = applied_between (old_rows s) (rows_of s) batch (with_rise (bit s.experiments) s is) (with_rise (participation_byte s) s is) between_is
 
-pub text_migrated : (s : State) (rows : List StoreRow) → rows ≡ rows_of s → batch_text (whole_of rows) ≡ spelling s
-unfolding spelling
+pub text_migrated : (s : State) (rows : List StoreRow) → rows ≡ rows_of s → batch_text (whole_of rows) ≡ encoding s
+unfolding encoding
 text_migrated s rows is = ap (λ (rs : List StoreRow). batch_text (whole_of rs)) is
 
 pub nine : (byte : ℕ) → length (puts_text (byte_row byte ∷ [])) ≡ 9

@@ -4,10 +4,10 @@ use Rattle.std.specs.Prelude.{if◌then◌else◌}
 use Rattle.std.proofs.lemmas.List.{append-nil, drop_all, take_all, take_more}
 use Rattle.enrol_states.specs.declared.state.State.{State}
 use Rattle.row_batches.specs.declared.store_row.StoreRow.{StoreRow}
-use Rattle.state_values.specs.Values.{bit, participation}
+use Rattle.state_values.specs.Values.{bit, participation_byte}
 use Rattle.state_codec.specs.Forms.{IsForm, IsLaterForm, AreParts}
 use Rattle.state_codec.specs.Reading.{is_of_id, before_id, from_id}
-use Rattle.state_codec.specs.Spelling.{key_row, first_rows, later_rows, rows_with}
+use Rattle.state_codec.specs.Encoding.{key_row, first_rows, later_rows, rows_with}
 
 one_whole : (b : Bool) (r : StoreRow) (before from rs : List StoreRow) → before ++ from ≡ rs → (if b then [] else r ∷ before) ++ (if b then r ∷ rs else from) ≡ r ∷ rs
 one_whole true r before from rs whole = refl
@@ -35,7 +35,7 @@ later_of byte s = from_features s.coenrolling (later_rows byte s)
 
 -- rows that are a form of a state are its parts
 pub form_parts : (rows : List StoreRow) (s : State) → IsForm s rows → AreParts s (before_id rows) (from_id rows)
-form_parts rows s (inl is) = record { first_are = ap before_id is ∙ first_of (participation s) s; later_are = inl (ap from_id is ∙ later_of (participation s) s) }
+form_parts rows s (inl is) = record { first_are = ap before_id is ∙ first_of (participation_byte s) s; later_are = inl (ap from_id is ∙ later_of (participation_byte s) s) }
 form_parts rows s (inr old) = record {
   first_are = ap before_id old.same ∙ first_of (bit s.experiments) s;
   later_are = inr (record { one_flag = old.one_flag; same = ap from_id old.same ∙ later_of (bit s.experiments) s });
@@ -47,7 +47,7 @@ unfolding rows_with
 both byte s first later first_are later_are = ap₂ (λ (a b : List StoreRow). a ++ b) first_are later_are
 
 joined_form : (s : State) (first later : List StoreRow) → first ≡ first_rows s → IsLaterForm s later → IsForm s (first ++ later)
-joined_form s first later first_are (inl is) = inl (both (participation s) s first later first_are is)
+joined_form s first later first_are (inl is) = inl (both (participation_byte s) s first later first_are is)
 joined_form s first later first_are (inr old) = inr (record { one_flag = old.one_flag; same = both (bit s.experiments) s first later first_are old.same })
 
 pub parts_form : (s : State) (first later : List StoreRow) → AreParts s first later → IsForm s (first ++ later)

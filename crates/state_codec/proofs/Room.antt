@@ -1,4 +1,4 @@
--- The rows of a state that isn't spelled in 4 GiB have room in a batch.
+-- The rows of a state that isn't encoded in 4 GiB have room in a batch.
 use Rattle.std.proofs.Common.{◌<◌, ◌≤◌, ◌^◌, ◌++◌, ◌∷◌, [], List, ℕ, Option, Some, None, map, length, All, IsTrue, arith}
 use Rattle.std.specs.Prelude.{⊤}
 use Rattle.std.proofs.lemmas.List.Elements.{All-head, All-tail}
@@ -11,8 +11,8 @@ use Rattle.enrol_states.specs.declared.state.State.{State}
 use Rattle.enrol_states.specs.declared.state.Row.{Row}
 use Rattle.row_batches.specs.Batch.{batch_text, puts_text, whole_of}
 use Rattle.row_batches.specs.Batches.{HaveRoom}
-use Rattle.state_values.specs.Values.{participation}
-use Rattle.state_codec.specs.Spelling.{key_row, recipe_row, status_row, status_rows, last_rows, pending_recipes, first_rows, later_rows, rows_with, rows_of, spelling}
+use Rattle.state_values.specs.Values.{participation_byte}
+use Rattle.state_codec.specs.Encoding.{key_row, recipe_row, status_row, status_rows, last_rows, pending_recipes, first_rows, later_rows, rows_with, rows_of, encoding}
 use Rattle.state_codec.specs.Sound.{IsSound}
 use Rattle.row_batches.specs.declared.store_row.StoreRow.{StoreRow}
 use Rattle.state_values.proofs.Names.{slug_short, name_short, recipe_slug}
@@ -72,9 +72,9 @@ puts_fit rows fits = omega (arith, fits)
 pub with_room : (byte : ℕ) (s : State) → IsConsistent s → length (batch_text (whole_of (rows_with byte s))) < 2 ^ 32 → HaveRoom (rows_with byte s)
 with_room byte s is fits = room_of (rows_with byte s) (keys_short byte s is) (puts_fit (rows_with byte s) fits)
 
-pub rows_room : (s : State) → IsConsistent s → length (spelling s) < 2 ^ 32 → HaveRoom (rows_of s)
-unfolding spelling
-rows_room s is fits = with_room (participation s) s is fits
+pub rows_room : (s : State) → IsConsistent s → length (encoding s) < 2 ^ 32 → HaveRoom (rows_of s)
+unfolding encoding
+rows_room s is fits = with_room (participation_byte s) s is fits
 
 pub sound_room : (s : State) → IsSound s → HaveRoom (rows_of s)
 sound_room s is = rows_room s is.consistent (omega (arith, is.size))

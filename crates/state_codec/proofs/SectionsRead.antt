@@ -16,7 +16,7 @@ use Rattle.state_values.specs.Statuses.{number}
 use Rattle.state_values.specs.Outcome.{◌>>=◌}
 use Rattle.state_codec.specs.Folds.{folded, with_last, keeping}
 use Rattle.state_values.specs.Values.{hyphenated, bit}
-use Rattle.state_codec.specs.Spelling.{row, key_row, recipe_row, status_row, status_rows, last_rows, pending_recipes, later_rows}
+use Rattle.state_codec.specs.Encoding.{row, key_row, recipe_row, status_row, status_rows, last_rows, pending_recipes, later_rows}
 use Rattle.state_codec.specs.Sound.{AreRecords}
 use Rattle.state_codec.specs.Reading as reading
 use Rattle.state_codec.specs.Reading.{after_tag, value_if, value_under, inserted, inserting}

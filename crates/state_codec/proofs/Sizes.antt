@@ -7,11 +7,11 @@ use Rattle.row_batches.specs.Batch.{batch_text, puts_text, whole_of}
 use Rattle.uuid.proofs.TextLemmas.{by_index_length}
 use Rattle.recipe_reader.specs.declared.recipe.Recipe.{Recipe}
 use Rattle.enrol_states.specs.declared.state.State.{State}
-use Rattle.state_codec.specs.Forms.{old_spelling}
-use Rattle.state_values.specs.Values.{hyphenated, participation, bit}
-use Rattle.state_codec.specs.Sizes.{recipes_size}
+use Rattle.state_codec.specs.Forms.{old_encoding}
+use Rattle.state_values.specs.Values.{hyphenated, participation_byte, bit}
+use Rattle.state_codec.specs.Sizes.{recipes_size, rows_size, slugs_size}
 use Rattle.state_codec.specs.Sound.{IsSound}
-use Rattle.state_codec.specs.Spelling.{row, key_row, recipe_row, status_row, status_rows, last_rows, pending_recipes, first_rows, later_rows, rows_with, spelling}
+use Rattle.state_codec.specs.Encoding.{row, key_row, recipe_row, status_row, status_rows, last_rows, pending_recipes, first_rows, later_rows, rows_with, encoding}
 use Rattle.state_values.specs.Statuses.{number}
 use Rattle.row_batches.specs.declared.store_row.StoreRow.{StoreRow}
 use Rattle.state_values.proofs.ValuesRead.{length-number}
@@ -34,7 +34,7 @@ size_more f xs i x within is =
     let some = puts_text (map f (take i xs)) in
     ap length (puts_more f xs i x within is) ∙ length-append some (puts_text (f x ∷ [])) ∙ ap (λ n. length some + n) (omega (arith, put_size (f x) []))
 
--- ---- the spelling
+-- ---- the encoding
 
 status_rows_size : (byte : ℕ) (s : State) → length (puts_text (status_rows byte s)) ≡ 18 + length (puts_text (map status_row s.rows))
 status_rows_size byte s =
@@ -63,23 +63,29 @@ length-with byte s =
     let last = status_rows byte s ++ last_rows s in
     omega (arith, puts_size-append c (i ∷ (l ++ (n ++ (o ++ last)))), put_size i (l ++ (n ++ (o ++ last))), length-hyphenated s.id, puts_size-append l (n ++ (o ++ last)), puts_size-append n (o ++ last), recipe_rows_size 108 s.live, recipe_rows_size 110 (pending_recipes s.pending), puts_size-append o last, puts_size-append (status_rows byte s) (last_rows s), status_rows_size byte s, last_rows_size s)
 
-pub length-spelling : (s : State) → length (spelling s)
+pub length-encoding : (s : State) → length (encoding s)
     ≡ 103 + length (puts_text (map (key_row (99 ∷ [])) s.coenrolling)) + length (puts_text (map (key_row (111 ∷ [])) s.opted_out)) + length (puts_text (map status_row s.rows)) + length s.version
     + (recipes_size s.live + recipes_size (pending_recipes s.pending))
-unfolding spelling
-length-spelling s = length-with (participation s) s
+unfolding encoding
+length-encoding s = length-with (participation_byte s) s
 
 -- rows are as long whatever the byte of participation is
 pub length-byte : (byte other : ℕ) (s : State) → length (batch_text (whole_of (rows_with byte s))) ≡ length (batch_text (whole_of (rows_with other s)))
 length-byte byte other s = length-with byte s ∙ sym (length-with other s)
 
-pub length-old : (s : State) → length (old_spelling s) ≡ length (spelling s)
-unfolding old_spelling spelling
-length-old s = length-byte (bit s.experiments) (participation s) s
+pub length-old : (s : State) → length (old_encoding s) ≡ length (encoding s)
+unfolding old_encoding encoding
+length-old s = length-byte (bit s.experiments) (participation_byte s) s
 
 -- the parts of a sound state are short
 pub live_short : (s : State) → IsSound s → recipes_size s.live ≤ 2 ^ 24
-live_short s is = omega (arith, length-spelling s, is.size)
+live_short s is = omega (arith, length-encoding s, is.size)
 
 pub pending_short : (s : State) → IsSound s → recipes_size (pending_recipes s.pending) ≤ 2 ^ 24
-pending_short s is = omega (arith, length-spelling s, is.size)
+pending_short s is = omega (arith, length-encoding s, is.size)
+
+pub opted_out_short : (s : State) → IsSound s → slugs_size s.opted_out ≤ 2 ^ 24
+opted_out_short s is = omega (arith, length-encoding s, is.size)
+
+pub rows_short : (s : State) → IsSound s → rows_size s.rows ≤ 2 ^ 24
+rows_short s is = omega (arith, length-encoding s, is.size)

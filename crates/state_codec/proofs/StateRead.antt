@@ -11,7 +11,7 @@ use Rattle.enrol_states.specs.declared.state.State.{State}
 use Rattle.enrol_states.specs.declared.state.Row.{Row}
 use Rattle.state_values.specs.Outcome.{◌>>=◌}
 use Rattle.state_codec.specs.Folds.{keeping}
-use Rattle.state_codec.specs.Spelling.{key_row, recipe_row, status_row, pending_recipes, first_rows, later_rows}
+use Rattle.state_codec.specs.Encoding.{key_row, recipe_row, status_row, pending_recipes, first_rows, later_rows}
 use Rattle.state_codec.specs.Sound.{AreRecords, HaveRecords}
 use Rattle.state_values.specs.Reading as values
 use Rattle.state_codec.specs.Reading as reading

@@ -5,8 +5,8 @@ use Rattle.std.specs.List.{list_any}
 use Rattle.row_batches.specs.Batch.{ChangeList, batch_text, whole_of}
 use Rattle.row_batches.specs.declared.store_row.StoreRow.{StoreRow}
 use Rattle.enrol_states.specs.declared.state.State.{State}
-use Rattle.state_values.specs.Values.{bit, participation}
-use Rattle.state_codec.specs.Spelling.{first_rows, later_rows, rows_with, rows_of, spelling}
+use Rattle.state_values.specs.Values.{bit, participation_byte}
+use Rattle.state_codec.specs.Encoding.{first_rows, later_rows, rows_with, rows_of, encoding}
 
 -- participation is on in both kinds or off in both
 abbrev pub HasOneFlag : State → Type 0
@@ -17,8 +17,8 @@ abbrev pub old_rows : State → List StoreRow
 old_rows s = rows_with (bit s.experiments) s
 
 -- the bytes of a clear and of a put of each row of the old form
-unfoldable pub old_spelling : State → List ℕ
-old_spelling s = batch_text (whole_of (old_rows s))
+unfoldable pub old_encoding : State → List ℕ
+old_encoding s = batch_text (whole_of (old_rows s))
 
 -- these rows are the old form of the state
 pub record IsOldForm (s : State) (rows : List StoreRow) : Type 0 where
@@ -36,7 +36,7 @@ pub record IsOldLater (s : State) (later : List StoreRow) : Type 0 where
 
 -- these are the later rows of the state, or those of its old form
 abbrev pub IsLaterForm : State → List StoreRow → Type 0
-IsLaterForm s later = (later ≡ later_rows (participation s) s) ⊎ IsOldLater s later
+IsLaterForm s later = (later ≡ later_rows (participation_byte s) s) ⊎ IsOldLater s later
 
 -- these are the first rows of the state, and its later ones or those of its old form
 pub record AreParts (s : State) (first later : List StoreRow) : Type 0 where
@@ -49,14 +49,14 @@ pub record MakesForm (s : State) (batch : ChangeList) : Type 0 where
   pub form : IsForm s rows
   pub whole : batch ≡ whole_of rows
 
--- these bytes spell the old form of the state
-pub record IsOldSpelling (s : State) (bytes : List ℕ) : Type 0 where
+-- these bytes encode the old form of the state
+pub record IsOldEncoding (s : State) (bytes : List ℕ) : Type 0 where
   pub one_flag : HasOneFlag s
-  pub same : bytes ≡ old_spelling s
+  pub same : bytes ≡ old_encoding s
 
--- these bytes are the spelling of the state, or spell its old form
-abbrev pub IsSpelled : State → List ℕ → Type 0
-IsSpelled s bytes = (bytes ≡ spelling s) ⊎ IsOldSpelling s bytes
+-- these bytes are the encoding of the state, or encode its old form
+abbrev pub IsEncoded : State → List ℕ → Type 0
+IsEncoded s bytes = (bytes ≡ encoding s) ⊎ IsOldEncoding s bytes
 
 -- the row of participation, in the old form
 abbrev pub is_old : StoreRow → Bool

@@ -1,10 +1,11 @@
 pub mod Kinds
-pub mod Spelling
+pub mod Encoding
 pub mod Forms
 pub mod Sound
 pub mod Laws
 pub mod Folds
 pub mod Reading
 pub mod RecipeChanges
+pub mod ListParts
 pub mod RecipeLists
 pub mod Sizes

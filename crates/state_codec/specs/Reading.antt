@@ -1,4 +1,4 @@
--- What rows of a store say of a state. Of rows that spell one it is the state; what it makes of other rows doesn't matter.
+-- What rows of a store say of a state. Of rows that encode one it is the state; what it makes of other rows doesn't matter.
 use Rattle.std.specs.Prelude.{ℕ, ◌==◌, ◌||◌, nat_le, Bool, true, false, List, [], ◌∷◌, length, Option, Some, None, if◌then◌else◌, codes, bytes_eq, ⊤}
 use Rattle.recipe_reader.specs.Records.{IsValid}
 use Rattle.recipe_reader.specs.Payloads.{AreValid, has_slug, with_recipe}

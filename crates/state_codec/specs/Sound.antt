@@ -5,9 +5,9 @@ use Rattle.recipe_reader.specs.Records.{record_json}
 use Rattle.recipe_reader.specs.declared.recipe.Recipe.{Recipe}
 use Rattle.enrol_states.specs.Consistent.{IsConsistent}
 use Rattle.enrol_states.specs.declared.state.State.{State}
-use Rattle.state_codec.specs.Spelling.{pending_recipes, spelling}
+use Rattle.state_codec.specs.Encoding.{pending_recipes, encoding}
 
--- the most bytes that a state is spelled in
+-- the most bytes that a state is encoded in
 abbrev pub max_size : ℕ
 max_size = 16777216
 
@@ -23,4 +23,4 @@ pub record HaveRecords (s : State) : Type 0 where
 pub record IsSound (s : State) : Type 0 where
   pub consistent : IsConsistent s
   pub records : HaveRecords s
-  pub size : length (spelling s) ≤ max_size
+  pub size : length (encoding s) ≤ max_size

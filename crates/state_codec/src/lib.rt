@@ -1,9 +1,10 @@
-//! The state of a client in bytes: its rows, its one spelling, and the state of both. An old form of the rows, which earlier
+//! The state of a client in bytes: its rows, its one encoding, and the state of both. An old form of the rows, which earlier
 //! builds left, is read as well, and one batch makes the rows of it.
 #![tactic(auto)]
 
 mod changes;
 mod laws;
+mod list_part;
 mod old_form;
 mod reading;
 mod recipe_lists;
@@ -18,7 +19,8 @@ mod size;
 mod state_reading;
 
 pub use changes::{change_between, first_changes, later_changes, whole_batch, write_state};
-pub use laws::{one_spelling, one_state};
+pub use laws::{one_encoding, one_state};
+pub use list_part::ListPart;
 pub use old_form::{migration, needs_migration};
 pub use reading::read_state;
 pub use recipe_lists::RecipeLists;

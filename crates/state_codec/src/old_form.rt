@@ -6,8 +6,8 @@ ghost use Rattle.row_batches.specs.Batch.{applied, batch_text, whole_of};
 ghost use Rattle.row_batches.specs.Between.{between};
 ghost use Rattle.row_batches.specs.declared.change.RowChange.TheVariants.{Put};
 ghost use Rattle.state_codec.specs.Forms.{old_rows, is_old, needs_migration, IsForm, IsOldForm};
-ghost use Rattle.state_values.specs.Values.{participation};
-ghost use Rattle.state_codec.specs.Spelling.{row, rows_of, spelling};
+ghost use Rattle.state_values.specs.Values.{participation_byte};
+ghost use Rattle.state_codec.specs.Encoding.{row, rows_of, encoding};
 
 use crate::row_kind::RowKind;
 use crate::row_making::participation_row;
@@ -20,7 +20,7 @@ use std::alloc::{AllocError, Global};
 pub fn needs_migration(rows: &[StoreRow]) -> bool
     ensures row { result ≡ needs_migration rows.now }
     ensures old { IsTrue result → (s : State) → IsForm s rows.now → IsOldForm s rows.now }
-    ensures spelled { result ≡ false → (s : State) → IsForm s rows.now → rows.now ≡ rows_of s }
+    ensures encoded { result ≡ false → (s : State) → IsForm s rows.now → rows.now ≡ rows_of s }
 {
     has_old(rows)
 }
@@ -42,10 +42,10 @@ fn is_old(row: &StoreRow) -> bool
 /// The batch that makes the rows of a state of their old form: a put of the row `p`. It has 9 bytes.
 pub fn migration(alloc: Global, state: &State) -> Result<Batch, AllocError>
     requires { IsConsistent state.now }
-    ensures put { IfOk result (λ batch. batch ≡ record { clear = false; changes = Put (row (codes "p") (participation state.now ∷ [])) ∷ [] }) }
+    ensures put { IfOk result (λ batch. batch ≡ record { clear = false; changes = Put (row (codes "p") (participation_byte state.now ∷ [])) ∷ [] }) }
     ensures between { IfOk result (λ batch. batch ≡ between (old_rows state.now) (rows_of state.now)) }
     ensures gives { IfOk result (λ batch. applied batch (old_rows state.now) ≡ rows_of state.now) }
-    ensures whole { IfOk result (λ batch. batch_text (whole_of (applied batch (old_rows state.now))) ≡ spelling state.now) }
+    ensures whole { IfOk result (λ batch. batch_text (whole_of (applied batch (old_rows state.now))) ≡ encoding state.now) }
     ensures size { IfOk result (λ batch. length (batch_text batch) ≡ 9) }
 {
     let mut changes = Sequence::new(alloc);

@@ -1,7 +1,7 @@
 // The state of bytes.
 ghost use Rattle.std.specs.Prelude.{IfOk, IsErrOf};
 ghost use Rattle.enrol_states.specs.declared.state.State.{State};
-ghost use Rattle.state_codec.specs.Forms.{IsSpelled, MakesForm};
+ghost use Rattle.state_codec.specs.Forms.{IsEncoded, MakesForm};
 ghost use Rattle.state_codec.specs.Sound.{IsSound};
 
 use crate::row_reading::{MAX_STATE_BYTES, state_of};
@@ -10,10 +10,10 @@ use row_batches::{Batch, BatchFault, RowMap, batch_of};
 use state_values::CodecFault;
 use std::alloc::Global;
 
-/// The sound state of which the bytes are the spelling, or spell the old form. `NotAState` comes exactly where there is none.
+/// The sound state of which the bytes are the encoding, or encode the old form. `NotAState` comes exactly where there is none.
 pub fn read_state(alloc: Global, bytes: &[u8]) -> Result<State, CodecFault>
-    ensures state { IfOk result (λ s. IsSound s × IsSpelled s bytes.now) }
-    ensures not_a_state { IsErrOf result CodecFault.NotAState → (s : State) → IsSound s → IsSpelled s bytes.now → ⊥ }
+    ensures state { IfOk result (λ s. IsSound s × IsEncoded s bytes.now) }
+    ensures not_a_state { IsErrOf result CodecFault.NotAState → (s : State) → IsSound s → IsEncoded s bytes.now → ⊥ }
 {
     if bytes.len() > MAX_STATE_BYTES {
         return Err(CodecFault::NotAState);

@@ -4,7 +4,7 @@ ghost use Rattle.recipe_reader.specs.Records.{IsValid};
 ghost use Rattle.enrol_states.specs.Statuses.{IsStatus};
 ghost use Rattle.state_codec.specs.Kinds.{letter};
 ghost use Rattle.state_values.specs.Values.{recipe_text};
-ghost use Rattle.state_codec.specs.Spelling.{item_row};
+ghost use Rattle.state_codec.specs.Encoding.{item_row};
 ghost use Rattle.state_values.specs.Statuses.{status_bytes};
 
 use crate::row_kind::RowKind;

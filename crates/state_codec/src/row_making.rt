@@ -1,8 +1,8 @@
 // The rows that a state has one of each.
 ghost use Rattle.std.specs.Prelude.{◌≡◌, ◌∷◌, [], codes, IfOk};
 ghost use Rattle.state_codec.specs.Kinds.{letter};
-ghost use Rattle.state_values.specs.Values.{hyphenated, bit, participation};
-ghost use Rattle.state_codec.specs.Spelling.{row};
+ghost use Rattle.state_values.specs.Values.{hyphenated, bit, participation_byte};
+ghost use Rattle.state_codec.specs.Encoding.{row};
 ghost use Rattle.state_values.specs.Statuses as statuses;
 
 use crate::row_kind::RowKind;
@@ -60,7 +60,7 @@ pub(crate) fn byte_row(alloc: Global, kind: RowKind, byte: u8) -> Result<StoreRo
 
 /// The row of participation.
 pub(crate) fn participation_row(alloc: Global, state: &State) -> Result<StoreRow, AllocError>
-    ensures { IfOk result (λ r. r ≡ row (codes "p") (participation state.now ∷ [])) }
+    ensures { IfOk result (λ r. r ≡ row (codes "p") (participation_byte state.now ∷ [])) }
 {
     byte_row(alloc, RowKind::Participation, participation_byte(state))
 }

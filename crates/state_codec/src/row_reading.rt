@@ -18,7 +18,7 @@ use row_batches::StoreRow;
 use state_values::CodecFault;
 use std::alloc::{AllocError, Global};
 
-/// The most bytes that a state is spelled in.
+/// The most bytes that a state is encoded in.
 pub const MAX_STATE_BYTES: usize = 16_777_216;
 
 /// The sound state that has exactly these rows, in this order, or of which they are the old form. `NotAState` comes exactly

@@ -2,8 +2,8 @@
 ghost use Rattle.std.specs.Prelude.{◌≡◌, ◌++◌, IfOk, OnOk};
 ghost use Rattle.enrol_states.specs.Consistent.{IsConsistent};
 ghost use Rattle.row_batches.specs.Rows.{AreRows};
-ghost use Rattle.state_codec.specs.Spelling.{status_rows, last_rows, first_rows, later_rows, rows_of};
-ghost use Rattle.state_values.specs.Values.{participation};
+ghost use Rattle.state_codec.specs.Encoding.{status_rows, last_rows, first_rows, later_rows, rows_of};
+ghost use Rattle.state_values.specs.Values.{participation_byte};
 
 use crate::changes::pending_recipes;
 use crate::row_kind::RowKind;
@@ -14,7 +14,7 @@ use sequences::Sequence;
 use state_values::participation_byte;
 use std::alloc::{AllocError, Global};
 
-/// The rows of the state, in the order of their keys. The length of the state's spelling is not limited.
+/// The rows of the state, in the order of their keys. The length of the state's encoding is not limited.
 pub fn rows_of(alloc: Global, state: &State) -> Result<Sequence<StoreRow>, AllocError>
     requires { IsConsistent state.now }
     ensures rows { IfOk result (λ rows. rows ≡ rows_of state.now) }
@@ -26,7 +26,7 @@ pub fn rows_of(alloc: Global, state: &State) -> Result<Sequence<StoreRow>, Alloc
 }
 
 /// The first rows of the state.
-#[tactic(auto, unfolding(crate::specs::Spelling::first_rows))]
+#[tactic(auto, unfolding(crate::specs::Encoding::first_rows))]
 pub fn first_rows_of(alloc: Global, state: &State) -> Result<Sequence<StoreRow>, AllocError>
     ensures { IfOk result (λ rows. rows ≡ first_rows state.now) }
 {
@@ -42,7 +42,7 @@ pub fn first_rows_of(alloc: Global, state: &State) -> Result<Sequence<StoreRow>,
 
 /// The later rows of the state.
 pub fn later_rows_of(alloc: Global, state: &State) -> Result<Sequence<StoreRow>, AllocError>
-    ensures { IfOk result (λ rows. rows ≡ later_rows (participation state.now) state.now) }
+    ensures { IfOk result (λ rows. rows ≡ later_rows (participation_byte state.now) state.now) }
 {
     later_rows(alloc, participation_byte(state), state)
 }

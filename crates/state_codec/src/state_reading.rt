@@ -1,4 +1,4 @@
-// What the first and the later rows of a store say of a state. Of those that spell a state it is that state.
+// What the first and the later rows of a store say of a state. Of those that encode a state it is that state.
 ghost use Rattle.std.specs.Prelude.{◌≡◌, IfOk};
 ghost use Rattle.recipe_reader.specs.Payloads.{AreValid};
 ghost use Rattle.state_codec.specs.Kinds.{letter};

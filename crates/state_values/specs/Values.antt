@@ -1,4 +1,4 @@
--- The values of a state's rows that spell an id, a recipe, a flag and participation.
+-- The values of a state's rows that encode an id, a recipe, a flag and participation.
 use Rattle.std.specs.Prelude.{ℕ, ◌+◌, ◌*◌, Bool, true, false, List}
 use Rattle.uuid.specs.Text.{hyphenated_text, lower}
 use Rattle.json_tree.specs.Bytes.{text_of}
@@ -19,5 +19,5 @@ bit true = 1
 bit false = 0
 
 -- which kinds of recipes the client takes part in: 4, and 1 more where experiments are on, and 2 more where rollouts are on
-unfoldable pub participation : State → ℕ
-participation s = 4 + bit s.experiments + 2 * bit s.rollouts
+unfoldable pub participation_byte : State → ℕ
+participation_byte s = 4 + bit s.experiments + 2 * bit s.rollouts

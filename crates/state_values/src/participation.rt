@@ -2,7 +2,7 @@
 ghost use Rattle.std.specs.Prelude.{◌≡◌};
 ghost use Rattle.state_values.specs.Outcome.{Gives};
 ghost use Rattle.state_values.specs.Reading.{participation_of, participation_in};
-ghost use Rattle.state_values.specs.Values.{participation};
+ghost use Rattle.state_values.specs.Values.{participation_byte};
 
 use crate::fault::CodecFault;
 use enrol_states::State;
@@ -15,9 +15,9 @@ pub struct Participation {
 }
 
 /// The byte of the row: 4, and 1 more where experiments are on, and 2 more where rollouts are on.
-#[tactic(auto, unfolding(crate::specs::Values::participation))]
+#[tactic(auto, unfolding(crate::specs::Values::participation_byte))]
 pub fn participation_byte(state: &State) -> u8
-    ensures { result ≡ participation state.now }
+    ensures { result ≡ participation_byte state.now }
 {
     match (state.experiments, state.rollouts) {
         (false, false) => 4,

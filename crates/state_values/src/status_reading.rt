@@ -8,8 +8,8 @@ use crate::values::{number_in, slug_in};
 use enrol_states::{DisqualifiedReason, EnrolledReason, ErrorCause, NotEnrolledReason, Status};
 use std::alloc::Global;
 
-/// The status that the bytes spell. `NotAState` comes where they begin none; bytes behind a status without a branch show when the
-/// state is spelled again.
+/// The status that the bytes encode. `NotAState` comes where they begin none; bytes behind a status without a branch show when the
+/// state is encoded again.
 #[tactic(auto, unfolding(crate::specs::Reading::status_in))]
 pub fn status_in(alloc: Global, bytes: &[u8]) -> Result<Status, CodecFault>
     ensures { Gives (λ s. s) result (status_in bytes.now) }

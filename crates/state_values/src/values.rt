@@ -49,7 +49,7 @@ pub fn number_in(bytes: &[u8]) -> Result<u64, CodecFault>
     Ok(u64::from_be_bytes(number))
 }
 
-/// Whether the bytes are a set flag, which is the byte 1. Whether they are a flag at all shows when the state is spelled again.
+/// Whether the bytes are a set flag, which is the byte 1. Whether they are a flag at all shows when the state is encoded again.
 #[tactic(auto, unfolding(crate::specs::Reading::flag_in))]
 pub fn flag_in(bytes: &[u8]) -> bool
     ensures { result ≡ flag_in bytes.now }
@@ -57,7 +57,7 @@ pub fn flag_in(bytes: &[u8]) -> bool
     bytes == [1].as_slice()
 }
 
-/// The id of a text of any form (RFC 9562). Which form it was shows when the state is spelled again. `NotAState` comes where
+/// The id of a text of any form (RFC 9562). Which form it was shows when the state is encoded again. `NotAState` comes where
 /// the bytes are no id.
 #[tactic(auto, unfolding(crate::specs::Reading::id_in))]
 pub fn id_in(bytes: &[u8]) -> Result<Uuid, CodecFault>

@@ -71,7 +71,7 @@ pub(crate) fn on_pair(
 ) -> Reply {
     match call {
         PairFramed::Append => {
-            if pair.wants_checkpoint(frame) {
+            if pair.wants_checkpoint(frame.bytes()) {
                 Reply::Word("past the mark")
             } else {
                 Reply::of(pair.append(host, frame).is_ok())
@@ -84,7 +84,7 @@ pub(crate) fn on_pair(
                 Reply::of(pair.checkpoint(host, frame).is_ok())
             }
         }
-        PairFramed::Wants if pair.wants_checkpoint(frame) => Reply::Word("yes"),
+        PairFramed::Wants if pair.wants_checkpoint(frame.bytes()) => Reply::Word("yes"),
         PairFramed::Wants => Reply::Word("no"),
     }
 }

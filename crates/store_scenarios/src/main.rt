@@ -1,5 +1,5 @@
 //! Scenarios of the layers that keep a state, which stand on standard input: hosts in memory, journals on their sides, pairs of
-//! sides, row stores, batches, and the rows and the spelling of states. A line tells of each scenario that it passes, or what
+//! sides, row stores, batches, and the rows and the encoding of states. A line tells of each scenario that it passes, or what
 //! was found where something else is wanted. `directive` says how a scenario is written.
 #![tactic(auto)]
 

@@ -113,7 +113,7 @@ fn add_value(text: &str, value: &mut Vec<u8>) -> Result<(), AllocError> {
     Ok(())
 }
 
-/// What bytes are: `state`, where the state that they spell has this spelling and its size, or `NotAState`.
+/// What bytes are: `state`, where the state that they spell has this encoding and its size, or `NotAState`.
 pub(crate) fn spelled(
     alloc: Global,
     bytes: &[u8],
@@ -276,7 +276,7 @@ fn same_rows(rows: &[StoreRow], others: &[StoreRow]) -> bool {
     true
 }
 
-/// Adds the spelling of the state of a new store with this id, where the text is one.
+/// Adds the encoding of the state of a new store with this id, where the text is one.
 #[tactic(auto, using(state_codec::proofs::Fresh::fresh_is_sound))]
 pub(crate) fn add_fresh(alloc: Global, id: &str, found: &mut Vec<u8>) -> Result<(), AllocError> {
     let Ok(id) = Uuid::parse_str(id) else {

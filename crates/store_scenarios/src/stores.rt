@@ -6,11 +6,10 @@ use crate::framed::{
 use crate::hosts::{HostCall, ScenarioHost, call_host};
 use crate::row_stores::{add_all, add_value, commit, make_rows, open_rows, open_state, prepare};
 use crate::text::{add_done, add_fault, add_number, byte, cut, side};
-use gate_journal::{Frame, Journal};
+use gate_journal::{Frame, Journal, Payloads};
 use host_model::Side;
 use pair_store::{MAX_WHOLE, PairStore};
 use row_store::RowStore;
-use sequences::Sequence;
 use std::alloc::{AllocError, Global};
 
 /// The journal, the pair and the row store of a scenario, where it has one.
@@ -245,7 +244,7 @@ fn open_journal(
         Ok((opened, payloads)) => {
             let generation = opened.generation();
             *journal = Some(opened);
-            add_opened(alloc, generation, payloads.as_slice(), answer)
+            add_opened(alloc, generation, &payloads, answer)
         }
         Err(fault) => add_fault(alloc, &fault, answer),
     }
@@ -254,7 +253,7 @@ fn open_journal(
 fn add_opened(
     alloc: Global,
     generation: u8,
-    payloads: &[Sequence<u8>],
+    payloads: &Payloads,
     answer: &mut Vec<u8>,
 ) -> Result<(), AllocError> {
     add_number(alloc, u64::from(generation), answer)?;
@@ -326,13 +325,13 @@ fn open_pair(
     match PairStore::open(alloc, host) {
         Ok((opened, payloads)) => {
             *pair = Some(opened);
-            add_has(payloads.as_slice(), answer)
+            add_has(&payloads, answer)
         }
         Err(fault) => add_fault(alloc, &fault, answer),
     }
 }
 
-fn add_has(payloads: &[Sequence<u8>], answer: &mut Vec<u8>) -> Result<(), AllocError> {
+fn add_has(payloads: &Payloads, answer: &mut Vec<u8>) -> Result<(), AllocError> {
     answer.extend_from_slice(b"has")?;
     add_payloads(payloads, answer)
 }
@@ -367,10 +366,12 @@ fn add_pair_reply(
 }
 
 // Adds the payloads, each behind a space.
-fn add_payloads(payloads: &[Sequence<u8>], answer: &mut Vec<u8>) -> Result<(), AllocError> {
-    for payload in payloads {
-        answer.extend_from_slice(b" ")?;
-        answer.extend_from_slice(payload.as_slice())?;
+fn add_payloads(payloads: &Payloads, answer: &mut Vec<u8>) -> Result<(), AllocError> {
+    for place in 0..payloads.len() {
+        if let Some(payload) = payloads.get(place) {
+            answer.extend_from_slice(b" ")?;
+            answer.extend_from_slice(payload)?;
+        }
     }
     Ok(())
 }

@@ -5,7 +5,7 @@ ghost use Rattle.enrol_states.specs.Consistent.{IsConsistent};
 use crate::enrolment::shown::{add_parts, add_state, add_status};
 use crate::recipes::recipes;
 use enrol_states::{
-    MAX_RECIPES, OptInFault, Part, State, is_exclusive, opt_in, opt_out, participate, reset,
+    Kinds, MAX_RECIPES, OptInFault, State, is_exclusive, opt_in, opt_out, participate, reset,
 };
 use plain_text::Slug;
 use recipe_reader::Recipes;
@@ -121,14 +121,14 @@ pub(crate) fn without(alloc: Global, state: &State, name: &str) -> Result<State,
 }
 
 // Participation in a part is off or on: of one kind where the line names it, as in `rollouts off`.
-fn switch(line: &str) -> Option<(Part, bool)> {
+fn switch(line: &str) -> Option<(Kinds, bool)> {
     match line {
-        "off" => Some((Part::Both, false)),
-        "on" => Some((Part::Both, true)),
-        "experiments off" => Some((Part::Experiments, false)),
-        "experiments on" => Some((Part::Experiments, true)),
-        "rollouts off" => Some((Part::Rollouts, false)),
-        "rollouts on" => Some((Part::Rollouts, true)),
+        "off" => Some((Kinds::Both, false)),
+        "on" => Some((Kinds::Both, true)),
+        "experiments off" => Some((Kinds::Experiments, false)),
+        "experiments on" => Some((Kinds::Experiments, true)),
+        "rollouts off" => Some((Kinds::Rollouts, false)),
+        "rollouts on" => Some((Kinds::Rollouts, true)),
         _ => None,
     }
 }

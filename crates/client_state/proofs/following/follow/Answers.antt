@@ -1,9 +1,6 @@
 -- The changes of enrolments are numbered, and both the outbox and the preferences follow them.
 use Rattle.std.proofs.Common.{List, ap₂, ◌∙◌}
 use Rattle.std.specs.Prelude.{option_map}
-use Rattle.enrol_states.specs.declared.state.Row.{Row}
-use Rattle.change_outbox.specs.Changes.{changes_between}
-use Rattle.change_outbox.specs.Contents.{numbered}
 use Rattle.change_outbox.specs.declared.change.Change.{Change}
 use Rattle.pref_bindings.specs.declared.preference.Preference.{Preference}
 use Rattle.client_state.specs.Following.{changes_done, join_values}
@@ -16,8 +13,7 @@ returns-clause-followed c =
     let next = c.in-Some.next in
     let manifest = option_map (λ m. m.now) c.args.manifest in
     let bindings = option_map (λ b. b.now) c.args.bindings in
-    let are = c.in_ok-changes.ensures ∙ ap₂ (λ (olds news : List Row). numbered 0 (changes_between olds news)) c.as_slice.ensures c.as_slice-2.ensures in
     let preferences =
-    c.in_ok-preferences.ensures.preferences ∙ ap₂ (λ (cs : List Change) (ps : List Preference). changes_done (join_values manifest bindings next.state) cs ps) c.as_slice-3.ensures c.preferences_or.ensures
+    c.in_ok-preferences.ensures.preferences ∙ ap₂ (λ (cs : List Change) (ps : List Preference). changes_done (join_values manifest bindings next.state) cs ps) c.as_slice.ensures c.preferences_or.ensures
     in
-    all_followed s c.args.change next c.in-Some.is c.in_ok-changes.changes are manifest bindings c.in_ok-outbox.outbox c.in_ok-preferences.preferences c.in_ok-outbox.ensures.outbox preferences
+    all_followed s c.args.change next c.in-Some.is c.in_ok-changes.changes c.in_ok-changes.ensures manifest bindings c.in_ok-outbox.outbox c.in_ok-preferences.preferences c.in_ok-outbox.ensures.outbox preferences

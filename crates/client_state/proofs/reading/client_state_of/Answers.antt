@@ -1,10 +1,11 @@
 -- The parts that the sections say are those of the one state of which the rows are a form.
-use Rattle.std.proofs.Common.{◌≡◌, Bool, true, false, Err, ap, subst}
+use Rattle.std.proofs.Common.{◌≡◌, Err, ap, sym, ◌∙◌, subst}
 use Rattle.std.specs.Prelude.{IsErrOf}
+use Rattle.std.proofs.lemmas.Bool.{true≢false}
 use Rattle.std.proofs.lemmas.Result.{err_from_is_err_and}
 use Rattle.client_state.specs.Sound.{IsSound}
 use Rattle.client_state.proofs.OneState.{one_of_parts}
-use Rattle.client_state.proofs.SectionsRead.{form_sections, has_parts, section_rows, sections_form, sound_parts}
+use Rattle.client_state.proofs.SectionsRead.{form_sections, sections_form, sound_parts}
 use Rattle.client_state.proofs.reading.client_state_of.Goals as goal
 
 -- an error that is another's
@@ -20,14 +21,9 @@ pub returns-then-is_whole-clause-state : goal.returns-then-is_whole-clause-state
 returns-then-is_whole-clause-state c =
     (c.is_whole.ensures.0 c.if-is_whole.true, sections_form c.in_ok-state.state c.args.rows.now c.sections_of.result c.sections_of.ensures c.in_ok-state.ensures.sections)
 
-apart : (b : Bool) → b ≡ true → b ≡ false → ⊥
-apart b is other = absurd cc
-
 pub returns-else-is_whole-clause-not_a_state : goal.returns-else-is_whole-clause-not_a_state
 returns-else-is_whole-clause-not_a_state c none s sound form =
-    let sections = c.sections_of.result in
     let t = c.in_ok-state.state in
-    let parts = form_sections s c.args.rows.now sections c.sections_of.ensures form in
-    let read = c.in_ok-state.ensures.sections in
-    let same : s ≡ t = one_of_parts (section_rows sections) s t (sound_parts s sound) c.in_ok-state.ensures.sound (has_parts s sections parts) (has_parts t sections read) in
-    apart c.is_whole.result (c.is_whole.ensures.1 (subst IsSound same sound)) c.if-is_whole.false
+    let read = sections_form t c.args.rows.now c.sections_of.result c.sections_of.ensures c.in_ok-state.ensures.sections in
+    let same = one_of_parts c.args.rows.now s t (sound_parts s sound) c.in_ok-state.ensures.sound form read in
+    true≢false (sym (c.is_whole.ensures.1 (subst IsSound same sound)) ∙ c.if-is_whole.false)

@@ -1,9 +1,12 @@
 -- The branch is taken, or another recipe holds a feature.
-use Rattle.std.proofs.Common.{◌∙◌, ap, subst, Err}
+use Rattle.std.proofs.Common.{◌∙◌, ap, subst, sym, Err}
 use Rattle.enrol_states.specs.Choices.{OptsIn}
+use Rattle.enrol_states.specs.Commands.{after_opt_in}
 use Rattle.enrol_states.specs.declared.choices.OptInFault.{OptInFault}
-use Rattle.client_steps.specs.Asked.{asked_outcome}
+use Rattle.client_words.specs.declared.answer.Answer.TheVariants.{Okay}
+use Rattle.client_steps.specs.Asked.{asked_outcome, FollowsFrom}
 use Rattle.client_steps.specs.Steps.{enrolling}
+use Rattle.client_steps.proofs.SlugLists.{enrolment_follows}
 use Rattle.client_steps.proofs.Takers.{taken_in, refused_for}
 use Rattle.client_steps.proofs.opt_in.opting_in.Goals as goal
 
@@ -22,3 +25,12 @@ returns-in-Err-FeatureTaken-clause-asks c session =
     let found = subst (λ (fault : OptInFault). OptsIn s.enrolment slug branch (Err fault)) c.in-Err-FeatureTaken.field-0-is c.in-Err-FeatureTaken.ensures.answer in
     ap (enrolling s session) (refused_for s.enrolment session slug branch found.0 found.1 c.in-Err-FeatureTaken.holder c.in-Err-FeatureTaken.feature
     c.requires.enrolment.row_order found.2)
+
+pub returns-in-Ok-clause-follows : goal.returns-in-Ok-clause-follows
+returns-in-Ok-clause-follows c =
+    let s = c.args.state.now in
+    let slug = c.args.slug.now in
+    let branch = c.args.branch.now in
+    let answered = c.in-Ok.ensures in
+    subst (FollowsFrom s) (sym c.enrolled.ensures)
+    (enrolment_follows s c.in-Ok.next (after_opt_in s.enrolment slug branch) c.opted_in_lists-lists.result Okay answered.consistent answered.answer.3 (c.opted_in_lists-lists.ensures branch))

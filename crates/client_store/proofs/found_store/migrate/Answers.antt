@@ -11,7 +11,7 @@ use Rattle.row_store.specs.Ready.{commit_cost}
 use Rattle.row_store.specs.Store.{place}
 use Rattle.client_state.specs.declared.client_state.ClientState.{ClientState}
 use Rattle.client_state.specs.Forms.{IsOldForm, old_rows}
-use Rattle.client_state.specs.Spelling.{rows_of, spelling}
+use Rattle.client_state.specs.Encoding.{rows_of, encoding}
 use Rattle.client_store.specs.Migrations.{migration_bytes, place_migrated}
 use Rattle.client_store.specs.Moments.{IsLeftAs}
 use Rattle.client_store.proofs.Holding.{rows_kept, stand_again, gated_again}
@@ -74,8 +74,8 @@ returns-in_err-commit-clause-cost g c tells =
     let s = c.args.state.now in
     let batch = c.in_ok-batch.batch in
     let prepared = c.prepare.new.self in
-    let spelled : batch_text (whole_of (applied batch (old_rows s))) ≡ spelling s = subst (λ (t : ClientState). batch_text (whole_of (applied batch (old_rows t))) ≡ spelling t) c.state.ensures.state c.in_ok-batch.ensures.whole in
-    let whole : batch_text (whole_of (applied batch prepared.rows)) ≡ spelling s = ap (λ (rows : List StoreRow). batch_text (whole_of (applied batch rows))) (c.prepare.ensures.rows ∙ c.requires.old.same) ∙ spelled in
+    let encoded : batch_text (whole_of (applied batch (old_rows s))) ≡ encoding s = subst (λ (t : ClientState). batch_text (whole_of (applied batch (old_rows t))) ≡ encoding t) c.state.ensures.state c.in_ok-batch.ensures.whole in
+    let whole : batch_text (whole_of (applied batch prepared.rows)) ≡ encoding s = ap (λ (rows : List StoreRow). batch_text (whole_of (applied batch rows))) (c.prepare.ensures.rows ∙ c.requires.old.same) ∙ encoded in
     let bytes : commit_cost c.in_ok-ready.ready ≡ migration_bytes (place c.args.rows.now) s =
     migration_cost prepared s c.in_ok-ready.ready c.in_ok-ready.ensures.ready batch c.in_ok-ready.ensures.batch c.in_ok-batch.ensures.size whole ∙ ap (λ (side : OpenSide). migration_bytes side.place s) c.prepare.ensures.records in
     let cost = c.commit.ensures.cost tells in
@@ -100,8 +100,8 @@ returns-clause-place g c =
     let s = c.args.state.now in
     let batch = c.in_ok-batch.batch in
     let prepared = c.prepare.new.self in
-    let spelled : batch_text (whole_of (applied batch (old_rows s))) ≡ spelling s = subst (λ (t : ClientState). batch_text (whole_of (applied batch (old_rows t))) ≡ spelling t) c.state.ensures.state c.in_ok-batch.ensures.whole in
-    let whole : batch_text (whole_of (applied batch prepared.rows)) ≡ spelling s = ap (λ (rows : List StoreRow). batch_text (whole_of (applied batch rows))) (c.prepare.ensures.rows ∙ c.requires.old.same) ∙ spelled in
+    let encoded : batch_text (whole_of (applied batch (old_rows s))) ≡ encoding s = subst (λ (t : ClientState). batch_text (whole_of (applied batch (old_rows t))) ≡ encoding t) c.state.ensures.state c.in_ok-batch.ensures.whole in
+    let whole : batch_text (whole_of (applied batch prepared.rows)) ≡ encoding s = ap (λ (rows : List StoreRow). batch_text (whole_of (applied batch rows))) (c.prepare.ensures.rows ∙ c.requires.old.same) ∙ encoded in
     c.in_ok-commit.ensures.place
     ∙ migration_place prepared s c.in_ok-ready.ready c.in_ok-ready.ensures.ready batch c.in_ok-ready.ensures.batch c.in_ok-batch.ensures.size whole
     ∙ ap (λ (side : OpenSide). place_migrated side.place s) c.prepare.ensures.records
@@ -111,8 +111,8 @@ returns-clause-cost g c tells =
     let s = c.args.state.now in
     let batch = c.in_ok-batch.batch in
     let prepared = c.prepare.new.self in
-    let spelled : batch_text (whole_of (applied batch (old_rows s))) ≡ spelling s = subst (λ (t : ClientState). batch_text (whole_of (applied batch (old_rows t))) ≡ spelling t) c.state.ensures.state c.in_ok-batch.ensures.whole in
-    let whole : batch_text (whole_of (applied batch prepared.rows)) ≡ spelling s = ap (λ (rows : List StoreRow). batch_text (whole_of (applied batch rows))) (c.prepare.ensures.rows ∙ c.requires.old.same) ∙ spelled in
+    let encoded : batch_text (whole_of (applied batch (old_rows s))) ≡ encoding s = subst (λ (t : ClientState). batch_text (whole_of (applied batch (old_rows t))) ≡ encoding t) c.state.ensures.state c.in_ok-batch.ensures.whole in
+    let whole : batch_text (whole_of (applied batch prepared.rows)) ≡ encoding s = ap (λ (rows : List StoreRow). batch_text (whole_of (applied batch rows))) (c.prepare.ensures.rows ∙ c.requires.old.same) ∙ encoded in
     let bytes : commit_cost c.in_ok-ready.ready ≡ migration_bytes (place c.args.rows.now) s =
     migration_cost prepared s c.in_ok-ready.ready c.in_ok-ready.ensures.ready batch c.in_ok-ready.ensures.batch c.in_ok-batch.ensures.size whole ∙ ap (λ (side : OpenSide). migration_bytes side.place s) c.prepare.ensures.records in
     let cost = c.in_ok-commit.ensures.cost tells in

@@ -7,5 +7,5 @@ use Rattle.enrol_states.proofs.participation.rows_left.Goals as goal
 
 pub returns-then-not-any_leaves : goal.returns-then-not-any_leaves
 returns-then-not-any_leaves c =
-    let none : list_any (leaves c.args.state.now c.args.part) c.args.state.now.rows ≡ false = search rules in
-    if_matched c.clone.result _ _ _ (sym (all-stay c.args.state.now c.args.part c.args.state.now.rows none)) c.clone.ensures.cases
+    let none : list_any (leaves c.args.state.now c.args.kinds) c.args.state.now.rows ≡ false = search rules in
+    if_matched c.clone.result _ _ _ (sym (all-stay c.args.state.now c.args.kinds c.args.state.now.rows none)) c.clone.ensures.cases

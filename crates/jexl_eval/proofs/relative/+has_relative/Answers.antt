@@ -20,37 +20,34 @@ pair_here ps i p h is e = ap (λ b. b || any_pair_relative (view_pairs (drop (i 
 pair_none : (ps : List (List ℕ × Node)) (i : ℕ) → length ps ≤ i → false ≡ any_pair_relative (view_pairs (drop i ps))
 pair_none ps i h = sym (ap (λ l. any_pair_relative (view_pairs l)) (drop_all i ps h))
 
+pub any_relative-returns-then-has_relative : goal.any_relative-returns-then-has_relative
+any_relative-returns-then-has_relative t c =
+    any_here c.args.nodes.now c.loop-node.node-index c.node-item.result c.loop-node-test.true c.node-item.is (sym c.if-has_relative.true ∙ c.has_relative.ensures) ∙ sym c.loop-node.invariant
+
+pub any_relative-returns : goal.any_relative-returns
+any_relative-returns t c = any_none c.args.nodes.now c.loop-node.node-index c.loop-node-test.false ∙ sym c.loop-node.invariant
+
+pub any_pair_relative-returns-then-has_relative : goal.any_pair_relative-returns-then-has_relative
+any_pair_relative-returns-then-has_relative t c =
+    pair_here c.args.pairs.now c.loop-node.node-index c.loop-node-item.result c.loop-node-test.true c.loop-node-item.is (sym c.if-has_relative.true ∙ c.has_relative.ensures) ∙ sym c.loop-node.invariant
+
+pub any_pair_relative-returns : goal.any_pair_relative-returns
+any_pair_relative-returns t c = pair_none c.args.pairs.now c.loop-node.node-index c.loop-node-test.false ∙ sym c.loop-node.invariant
+
 after : (b q : Bool) → b ≡ false → q ≡ (b || q)
 after b q e = sym (ap (λ r. r || q) e)
 
-pub returns-then-has_relative : goal.returns-then-has_relative
-returns-then-has_relative t c =
-    any_here c.as_slice-nodes.result.now c.loop-node.node-index c.node-item.result c.loop-node-test.true c.node-item.is (sym c.if-has_relative.true ∙ c.has_relative.ensures) ∙ sym c.loop-node.invariant
-    ∙ sym (ap has_relative (ap view c.in-List.is ∙ view_list c.in-List.nodes ∙ ap (λ ns. trees.Items (views ns)) (sym c.as_slice-nodes.ensures.value)))
+pub has_relative-returns-in-List : goal.has_relative-returns-in-List
+has_relative-returns-in-List t c =
+    c.any_relative.ensures ∙ sym (ap has_relative (ap view c.in-List.is ∙ view_list c.in-List.nodes ∙ ap (λ ns. trees.Items (views ns)) (sym c.as_slice.ensures.value)))
 
-pub returns-after-loop-node : goal.returns-after-loop-node
-returns-after-loop-node t c =
-    any_none c.as_slice-nodes.result.now c.loop-node.node-index c.loop-node-test.false ∙ sym c.loop-node.invariant
-    ∙ sym (ap has_relative (ap view c.in-List.is ∙ view_list c.in-List.nodes ∙ ap (λ ns. trees.Items (views ns)) (sym c.as_slice-nodes.ensures.value)))
+pub has_relative-returns-in-Members : goal.has_relative-returns-in-Members
+has_relative-returns-in-Members t c =
+    c.any_pair_relative.ensures ∙ sym (ap has_relative (ap view c.in-Members.is ∙ view_members c.in-Members.pairs ∙ ap (λ ps. trees.Members (view_pairs ps)) (sym c.as_slice-in-Members.ensures.value)))
 
-pub returns-then-has_relative-2 : goal.returns-then-has_relative-2
-returns-then-has_relative-2 t c =
-    pair_here c.as_slice-pairs.result.now c.loop-node-2.node-index c.loop-node-2-item.result c.loop-node-2-test.true c.loop-node-2-item.is (sym c.if-has_relative-2.true ∙ c.has_relative-in-loop-node-2.ensures) ∙ sym c.loop-node-2.invariant
-    ∙ sym (ap has_relative (ap view c.in-Members.is ∙ view_members c.in-Members.pairs ∙ ap (λ ps. trees.Members (view_pairs ps)) (sym c.as_slice-pairs.ensures.value)))
-
-pub returns-after-loop-node-2 : goal.returns-after-loop-node-2
-returns-after-loop-node-2 t c =
-    pair_none c.as_slice-pairs.result.now c.loop-node-2.node-index c.loop-node-2-test.false ∙ sym c.loop-node-2.invariant
-    ∙ sym (ap has_relative (ap view c.in-Members.is ∙ view_members c.in-Members.pairs ∙ ap (λ ps. trees.Members (view_pairs ps)) (sym c.as_slice-pairs.ensures.value)))
-
-pub returns-then-has_relative-5 : goal.returns-then-has_relative-5
-returns-then-has_relative-5 t c =
-    any_here c.as_slice-arguments.result.now c.loop-argument.argument-index c.argument-item.result c.loop-argument-test.true c.argument-item.is (sym c.if-has_relative-5.true ∙ c.has_relative-in-loop-argument.ensures) ∙ sym c.loop-argument.invariant
-    ∙ after (has_relative (view c.deref-in-Transform.result.now)) (any_relative (views c.as_slice-arguments.result.now)) (sym c.has_relative-in-Transform.ensures ∙ c.if-has_relative-4.false)
-    ∙ sym (ap has_relative (ap view c.in-Transform.is ∙ view_transform c.in-Transform.subject c.in-Transform.field-1 c.in-Transform.arguments ∙ ap₂ (λ n ns. trees.Transform (view n) c.in-Transform.field-1 (views ns)) (sym c.deref-in-Transform.ensures) (sym c.as_slice-arguments.ensures.value)))
-
-pub returns-after-loop-argument : goal.returns-after-loop-argument
-returns-after-loop-argument t c =
-    any_none c.as_slice-arguments.result.now c.loop-argument.argument-index c.loop-argument-test.false ∙ sym c.loop-argument.invariant
-    ∙ after (has_relative (view c.deref-in-Transform.result.now)) (any_relative (views c.as_slice-arguments.result.now)) (sym c.has_relative-in-Transform.ensures ∙ c.if-has_relative-4.false)
-    ∙ sym (ap has_relative (ap view c.in-Transform.is ∙ view_transform c.in-Transform.subject c.in-Transform.field-1 c.in-Transform.arguments ∙ ap₂ (λ n ns. trees.Transform (view n) c.in-Transform.field-1 (views ns)) (sym c.deref-in-Transform.ensures) (sym c.as_slice-arguments.ensures.value)))
+pub has_relative-returns-else-has_relative-2 : goal.has_relative-returns-else-has_relative-2
+has_relative-returns-else-has_relative-2 t c =
+    let nodes = c.as_slice-else-has_relative-2 in
+    c.any_relative-else-has_relative-2.ensures
+    ∙ after (has_relative (view c.deref-in-Transform.result.now)) (any_relative (views nodes.result.now)) (sym c.has_relative-in-Transform.ensures ∙ c.if-has_relative-2.false)
+    ∙ sym (ap has_relative (ap view c.in-Transform.is ∙ view_transform c.in-Transform.subject c.in-Transform.field-1 c.in-Transform.arguments ∙ ap₂ (λ n ns. trees.Transform (view n) c.in-Transform.field-1 (views ns)) (sym c.deref-in-Transform.ensures) (sym nodes.ensures.value)))

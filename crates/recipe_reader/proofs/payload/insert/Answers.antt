@@ -13,19 +13,19 @@ pub returns-clause-put : goal.returns-clause-put
 returns-clause-put c =
     let es = c.args.recipes.now.entries in
     let r = c.args.recipe in
-    let grown = c.in_ok-insert.ensures.entries ∙ ap (λ s. insert_entry (slice_cmp nat_cmp) es s r) c.in_ok-clone.ensures.cases in
+    let grown = c.in_ok-insert.ensures.entries ∙ ap (λ s. insert_entry (slice_cmp nat_cmp) es s r) c.in_ok-slug.ensures.cases in
     ap values_of grown ∙ put r es c.requires.slugs c.requires.absent
 
 pub returns-clause-slugs : goal.returns-clause-slugs
 returns-clause-slugs c =
     let es = c.args.recipes.now.entries in
     let r = c.args.recipe in
-    let grown = c.in_ok-insert.ensures.entries ∙ ap (λ s. insert_entry (slice_cmp nat_cmp) es s r) c.in_ok-clone.ensures.cases in
+    let grown = c.in_ok-insert.ensures.entries ∙ ap (λ s. insert_entry (slice_cmp nat_cmp) es s r) c.in_ok-slug.ensures.cases in
     subst HaveOwnSlugs (sym grown) (put_own r es c.requires.slugs c.requires.absent)
 
 pub returns-clause-valid : goal.returns-clause-valid
 returns-clause-valid c one all =
     let es = c.args.recipes.now.entries in
     let r = c.args.recipe in
-    let grown = c.in_ok-insert.ensures.entries ∙ ap (λ s. insert_entry (slice_cmp nat_cmp) es s r) c.in_ok-clone.ensures.cases in
+    let grown = c.in_ok-insert.ensures.entries ∙ ap (λ s. insert_entry (slice_cmp nat_cmp) es s r) c.in_ok-slug.ensures.cases in
     subst AreValid (sym (ap values_of grown ∙ put r es c.requires.slugs c.requires.absent)) (put_valid r (values_of es) one all)

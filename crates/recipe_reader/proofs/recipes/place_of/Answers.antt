@@ -1,5 +1,4 @@
 use Rattle.std.proofs.Common.{rules}
-use Rattle.std.specs.List.Sorted.{IsBinarySearchResult}
 use Rattle.std.proofs.lemmas.Fn.{always_returns_same}
 use Rattle.recipe_reader.proofs.Searching.{slug_order, searched_found, searched_there, searched_absent}
 use Rattle.recipe_reader.proofs.recipes.place_of.Goals as goal

@@ -1,7 +1,7 @@
 use Rattle.std.proofs.Common.{◌≡◌, refl, Bool, true, false, List, subst, ap}
 use Rattle.row_batches.specs.Batch.{ChangeList, IsBatch, changes_text}
 use Rattle.row_batches.specs.declared.change.RowChange.{RowChange}
-use Rattle.row_batches.proofs.OneSpelling.{none_cleared, none_uncleared}
+use Rattle.row_batches.proofs.OneEncoding.{none_cleared, none_uncleared}
 use Rattle.row_batches.proofs.reading.batch_of.Goals as goal
 
 pub returns-in-Some-clause-not_a_batch : goal.returns-in-Some-clause-not_a_batch

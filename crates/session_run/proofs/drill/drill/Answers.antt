@@ -10,7 +10,7 @@ use Rattle.session_run.specs.Writes.{IsBelowMark}
 use Rattle.session_run.proofs.Causing.{causes_behind}
 use Rattle.session_run.proofs.Drilling.{found_made, drilled_made, drilled_unmade, drilled_unbegun}
 use Rattle.session_run.proofs.Judging.{making_judges}
-use Rattle.session_run.proofs.SpelledStores.{closed_cost}
+use Rattle.session_run.proofs.EncodedStores.{closed_cost}
 use Rattle.session_run.proofs.Writing.{met_now, no_more}
 use Rattle.session_run.proofs.drill.drill.Goals as goal
 
@@ -57,16 +57,16 @@ returns-in_default-clause-found g c tells =
     let old = c.args.host.now in
     record { finds = tt; judges = making_judges (h.reads old Left) (h.reads old Right) OutOfMemory tt; leaves = tt; quiet = λ found. no_more h old (λ l r u met. g.met.H.Host.only_now old l r u tells met) }
 
--- the store that was made is kept for its state, its rows are spelled on the left side, and the right one is closed
+-- the store that was made is kept for its state, its rows are encoded on the left side, and the right one is closed
 pub run_script-requires-clause-made : goal.run_script-requires-clause-made
 run_script-requires-clause-made g c tells =
     let h = g.H.Host in
     (subst (λ (id : List ℕ). Made h id c.args.now c.args.host.now c.init.new.host Done) c.id_bytes.ensures (c.in-Done.ensures.made tells)).ends.0
 
-pub run_script-requires-clause-spelled : goal.run_script-requires-clause-spelled
-run_script-requires-clause-spelled g c tells =
+pub run_script-requires-clause-encoded : goal.run_script-requires-clause-encoded
+run_script-requires-clause-encoded g c tells =
     let h = g.H.Host in
-    (subst (λ (id : List ℕ). Made h id c.args.now c.args.host.now c.init.new.host Done) c.id_bytes.ensures (c.in-Done.ensures.made tells)).spelled refl
+    (subst (λ (id : List ℕ). Made h id c.args.now c.args.host.now c.init.new.host Done) c.id_bytes.ensures (c.in-Done.ensures.made tells)).encoded refl
 
 pub run_script-requires-clause-placed : goal.run_script-requires-clause-placed
 run_script-requires-clause-placed g c tells =

@@ -19,7 +19,7 @@ use Rattle.session_run.proofs.Causing.{causes_behind}
 use Rattle.session_run.proofs.DrillScripts.{setting_with, setting_is, lines_are, here, unsaid_met, unsaid_ends, said_met, said_ends, ready_elsewhere}
 use Rattle.session_run.proofs.Linking.{among_one}
 use Rattle.session_run.proofs.Running.{elsewhere}
-use Rattle.session_run.proofs.SpelledStores.{spelled_ends}
+use Rattle.session_run.proofs.EncodedStores.{encoded_ends}
 use Rattle.session_run.proofs.Starting.{begin}
 use Rattle.session_run.proofs.Writing.{met_now, below_then, below_said}
 use Rattle.session_run.proofs.drill.run_script.Goals as goal
@@ -40,7 +40,7 @@ returns-in-Ok-clause-any_moment g c tells =
     let at = setting_with (parts_of d) now in
     let written = h.written old in
     let place = place_made s in
-    let ends = spelled_ends (h.reads old Left) (h.reads old Right) s (c.requires.spelled tells) place (c.requires.placed tells) (c.requires.whole tells) h _ (λ (p n : ℕ). begin at s p lines (h.said old) n) written (s ∷ []) old c.run_client.new.host Done
+    let ends = encoded_ends (h.reads old Left) (h.reads old Right) s (c.requires.encoded tells) place (c.requires.placed tells) (c.requires.whole tells) h _ (λ (p n : ℕ). begin at s p lines (h.said old) n) written (s ∷ []) old c.run_client.new.host Done
     (ran.ends (s ∷ []) s (among_one h old s all) kept) in
     ready_elsewhere h c.args.start c.args.count now (setting_with (parts_of d) now) (lines_of c.as_slice.result.now) (setting_is d c.args.start c.args.count c.requires.drill now)
     (lines_are d c.args.start c.args.count c.requires.drill c.as_slice.result.now c.as_slice.ensures) old place written c.say_summary.new.host
@@ -60,7 +60,7 @@ returns-in-Ok-clause-ends g c tells =
     let kept = all (h.reads old Left) (h.reads old Right) (g.met.H.Host.read_is_image old Left tells) (g.met.H.Host.read_is_image old Right tells) in
     let written = h.written old in
     let place = place_made s in
-    let ends = spelled_ends (h.reads old Left) (h.reads old Right) s (c.requires.spelled tells) place (c.requires.placed tells) (c.requires.whole tells) h _
+    let ends = encoded_ends (h.reads old Left) (h.reads old Right) s (c.requires.encoded tells) place (c.requires.placed tells) (c.requires.whole tells) h _
     (λ (p n : ℕ). begin (setting_with (parts_of d) now) s p (lines_of c.as_slice.result.now) (h.said old) n) written (s ∷ []) old c.run_client.new.host Done
     ((c.in-Ok.ensures.ran tt tells).ends (s ∷ []) s (among_one h old s all) kept) in
     said_ends h c.args.start c.args.count now (setting_with (parts_of d) now) (lines_of c.as_slice.result.now) (setting_is d c.args.start c.args.count c.requires.drill now)
@@ -113,7 +113,7 @@ returns-clause-ends g c tells =
     let ended = c.in-Err.ensures in
     let written = h.written old in
     let place = place_made s in
-    let ends = spelled_ends (h.reads old Left) (h.reads old Right) s (c.requires.spelled tells) place (c.requires.placed tells) (c.requires.whole tells) h _
+    let ends = encoded_ends (h.reads old Left) (h.reads old Right) s (c.requires.encoded tells) place (c.requires.placed tells) (c.requires.whole tells) h _
     (λ (p n : ℕ). begin (setting_with (parts_of d) now) s p (lines_of c.as_slice.result.now) (h.said old) n) written (s ∷ []) old new status ((ended.ran tt tells).ends (s ∷ []) s (among_one h old s all) kept) in
     let start = here h c.args.start c.args.count now (setting_with (parts_of d) now) (lines_of c.as_slice.result.now) (setting_is d c.args.start c.args.count c.requires.drill now)
     (lines_are d c.args.start c.args.count c.requires.drill c.as_slice.result.now c.as_slice.ensures) old place written in

@@ -34,7 +34,7 @@ returns-in-Ok-say-clause-made g c tells =
     let absent = make.finds tells in
     let is_ready : c.as_bytes.result.now ≡ ready c.args.id = c.as_bytes.ensures.value ∙ c.as_str.ensures.text ∙ c.in-Ok.ensures in
     let below = below_of h old mid (make.below tells) in
-    let made = subst (λ (id : List ℕ). IsMade h old mid id c.args.now) c.from_bytes.ensures (record { kept = make.made tells; spelled = make.spelled tells; placed = make.place tells; closed = make.right tells; cost = (make.cost tells absent).exact }) in
+    let made = subst (λ (id : List ℕ). IsMade h old mid id c.args.now) c.from_bytes.ensures (record { kept = make.made tells; encoded = make.encoded tells; placed = make.place tells; closed = make.right tells; cost = (make.cost tells absent).exact }) in
     made_said h old mid new c.args.id c.as_bytes.result.now c.args.now is_ready absent (g.met.H.Host.read_is_image old Left tells) (g.met.H.Host.read_is_image old Right tells) made (make.any_moment tells) (make.text tells)
     (c.say.ensures.still tells) (c.say.ensures.cost tells) (c.say.ensures.time tells)
     (below_then h old mid new (g.met.H.Host.read_is_image mid Left tells) (g.met.H.Host.read_is_image mid Right tells) below
@@ -56,7 +56,7 @@ returns-in-Ok-make-clause-made g c tells =
     let absent = make.finds tells in
     let is_ready : c.as_bytes.result.now ≡ ready c.args.id = c.as_bytes.ensures.value ∙ c.as_str.ensures.text ∙ c.in-Ok.ensures in
     let below = below_of h old mid (make.below tells) in
-    let made = subst (λ (id : List ℕ). IsMade h old mid id c.args.now) c.from_bytes.ensures (record { kept = make.made tells; spelled = make.spelled tells; placed = make.place tells; closed = make.right tells; cost = (make.cost tells absent).exact }) in
+    let made = subst (λ (id : List ℕ). IsMade h old mid id c.args.now) c.from_bytes.ensures (record { kept = make.made tells; encoded = make.encoded tells; placed = make.place tells; closed = make.right tells; cost = (make.cost tells absent).exact }) in
     let part = c.in-Err-say.ensures.said_part tells in
     made_said h old mid new c.args.id c.as_bytes.result.now c.args.now is_ready absent (g.met.H.Host.read_is_image old Left tells) (g.met.H.Host.read_is_image old Right tells) made (make.any_moment tells) (make.text tells)
     (c.say.ensures.still tells) (c.say.ensures.cost tells) (c.say.ensures.time tells)
@@ -100,7 +100,7 @@ returns-clause-made g c tells =
       memory = λ is.
           let wanting = ap Err (making_memory fault is) in
           record { moments = c.in-Err.ensures.memory wanting tells; text = made.text tells; most = c.in-Err.ensures.memory_cost wanting tells };
-      spelled = λ is. absurd (making_never fault is);
+      encoded = λ is. absurd (making_never fault is);
       placed = λ is. absurd (making_never fault is);
       closed = λ is. absurd (making_never fault is);
       cost = λ is. absurd (making_never fault is);
@@ -132,7 +132,7 @@ returns-in_default-clause-made g c tells =
       ends = refl;
       left = λ states all. met_weaker h.moment h.might old old _ (IsLeftAmong (h.said old) states) none (λ l r u met. (all l r met.0 met.1, met.2));
       memory = λ is. no_more h old (λ l r u met. g.met.H.Host.only_now old l r u tells met);
-      spelled = λ is. absurd cc;
+      encoded = λ is. absurd cc;
       placed = λ is. absurd cc;
       closed = λ is. absurd cc;
       cost = λ is. absurd cc;

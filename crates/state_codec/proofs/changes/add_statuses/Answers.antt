@@ -1,11 +1,10 @@
 -- The changes of both rows, and those of the statuses behind them.
-use Rattle.std.proofs.Common.{List, ◌++◌, ◌∷◌, [], Bool, map, ap, ap₂, ◌∙◌}
+use Rattle.std.proofs.Common.{◌++◌, ◌∷◌, [], Bool, ap, ap₂, ◌∙◌}
 use Rattle.std.proofs.lemmas.Result.{on_ok_weaker}
-use Rattle.enrol_states.specs.declared.state.Row.{Row}
-use Rattle.row_batches.specs.Between.{put_where_differs, changes_between}
+use Rattle.row_batches.specs.Between.{put_where_differs}
 use Rattle.row_batches.specs.declared.store_row.StoreRow.{StoreRow}
-use Rattle.state_values.specs.Values.{bit, participation}
-use Rattle.state_codec.specs.Spelling.{row, status_row}
+use Rattle.state_values.specs.Values.{bit, participation_byte}
+use Rattle.state_codec.specs.Encoding.{row}
 use Rattle.state_codec.proofs.Joined.{statuses_added}
 use Rattle.state_codec.proofs.changes.add_statuses.Goals as goal
 
@@ -18,7 +17,6 @@ returns c =
     let pending =
     c.in_ok-add_row-2.ensures
     ∙ ap₂ (λ (old new : StoreRow). c.add_row.new.changes ++ put_where_differs old new) (c.in_ok-was_pending.ensures ∙ ap flag c.is_some.ensures) (c.in_ok-is_pending.ensures ∙ ap flag c.is_some-2.ensures) in
-    on_ok_weaker c.add_changes.result
-    (λ last. statuses_added (participation s) (participation t) s t c.args.changes.now c.add_row.new.changes c.add_row-2.new.changes c.add_changes.new.changes participating pending
-    (last ∙ ap₂ (λ (olds news : List Row). c.add_row-2.new.changes ++ changes_between (map status_row olds) (map status_row news)) c.as_slice.ensures c.as_slice-2.ensures))
-    c.add_changes.ensures
+    on_ok_weaker c.add_client_rows.result
+    (λ last. statuses_added (participation_byte s) (participation_byte t) s t c.args.changes.now c.add_row.new.changes c.add_row-2.new.changes c.add_client_rows.new.changes participating pending last)
+    c.add_client_rows.ensures

@@ -1,6 +1,6 @@
--- The changes are a batch, and the text of all rows after it is the spelling of the next state.
+-- The changes are a batch, and the text of all rows after it is the encoding of the next state.
 use Rattle.state_codec.proofs.Changed.{is_batch, gives_rows, gives_whole, is_short}
-use Rattle.state_codec.proofs.Spelled.{batch_between}
+use Rattle.state_codec.proofs.Encoded.{batch_between}
 use Rattle.state_codec.proofs.changes.change_after.Goals as goal
 
 pub of_changes-requires : goal.of_changes-requires

@@ -1,7 +1,7 @@
 -- The features' changes alone.
 use Rattle.std.proofs.Common.{List, ℕ, ◌++◌, ◌∷◌, [], ◌∙◌, ap, ap₂, map}
 use Rattle.row_batches.specs.Between.{changes_between}
-use Rattle.state_codec.specs.Spelling.{key_row, first_rows}
+use Rattle.state_codec.specs.Encoding.{key_row, first_rows}
 use Rattle.state_codec.proofs.changes.first_changes.Goals as goal
 
 pub returns : goal.returns

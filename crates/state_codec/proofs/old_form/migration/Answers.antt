@@ -1,7 +1,7 @@
 -- A put of the row `p` is the batch between the two forms.
 use Rattle.std.proofs.Common.{◌∙◌, ap, length}
 use Rattle.row_batches.specs.Batch.{ChangeList, batch_text}
-use Rattle.state_values.specs.Values.{participation}
+use Rattle.state_values.specs.Values.{participation_byte}
 use Rattle.state_codec.proofs.Migrating.{of_list, one_change, one_rule, migrated, rows_migrated, text_migrated, nine}
 use Rattle.state_codec.proofs.old_form.migration.Goals as goal
 
@@ -25,4 +25,4 @@ pub returns-clause-whole : goal.returns-clause-whole
 returns-clause-whole c = text_migrated c.args.state.now _ (returns-clause-gives c)
 
 pub returns-clause-size : goal.returns-clause-size
-returns-clause-size c = ap (λ (b : ChangeList). length (batch_text b)) (returns-clause-put c) ∙ nine (participation c.args.state.now)
+returns-clause-size c = ap (λ (b : ChangeList). length (batch_text b)) (returns-clause-put c) ∙ nine (participation_byte c.args.state.now)

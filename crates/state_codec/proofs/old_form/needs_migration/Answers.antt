@@ -6,5 +6,5 @@ use Rattle.state_codec.proofs.old_form.needs_migration.Goals as goal
 pub returns-clause-old : goal.returns-clause-old
 returns-clause-old c needs s form = old_where c.args.rows.now s (sym c.has_old.ensures ∙ needs) form
 
-pub returns-clause-spelled : goal.returns-clause-spelled
-returns-clause-spelled c none s form = new_where c.args.rows.now s (sym c.has_old.ensures ∙ none) form
+pub returns-clause-encoded : goal.returns-clause-encoded
+returns-clause-encoded c none s form = new_where c.args.rows.now s (sym c.has_old.ensures ∙ none) form

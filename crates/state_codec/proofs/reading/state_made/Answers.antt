@@ -4,7 +4,7 @@ use Rattle.enrol_states.specs.declared.state.State.{State}
 use Rattle.row_batches.specs.Rows.{after_changes}
 use Rattle.state_codec.specs.Forms.{IsForm, MakesForm}
 use Rattle.state_codec.specs.Sound.{IsSound}
-use Rattle.state_codec.proofs.Spelled.{made_rows, makes, form_made, if_ok_weaker}
+use Rattle.state_codec.proofs.Encoded.{made_rows, makes, form_made, if_ok_weaker}
 use Rattle.state_codec.proofs.reading.state_made.Goals as goal
 
 pub returns-clause-state : goal.returns-clause-state

@@ -2,7 +2,7 @@
 use Rattle.std.proofs.Common.{◌≡◌, Bool, true, false, IsTrue, sym, ◌∙◌}
 use Rattle.std.specs.Prelude.{◌↔◌}
 use Rattle.state_codec.specs.Forms.{IsLaterForm, AreParts}
-use Rattle.state_codec.proofs.Spelled.{if_ok_weaker}
+use Rattle.state_codec.proofs.Encoded.{if_ok_weaker}
 use Rattle.state_codec.proofs.row_reading.are_parts.Goals as goal
 
 apart : (b : Bool) → b ≡ false → b ≡ true → ⊥

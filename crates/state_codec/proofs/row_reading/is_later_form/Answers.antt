@@ -3,7 +3,7 @@ use Rattle.std.proofs.Common.{Bool, IsTrue, inl, inr, sym, ◌∙◌}
 use Rattle.std.specs.Prelude.{◌↔◌}
 use Rattle.state_codec.specs.Forms.{IsLaterForm, IsOldLater}
 use Rattle.state_codec.proofs.Forms.{old_later_where, new_later_where}
-use Rattle.state_codec.proofs.Spelled.{if_ok_weaker}
+use Rattle.state_codec.proofs.Encoded.{if_ok_weaker}
 use Rattle.state_codec.proofs.row_reading.is_later_form.Goals as goal
 
 pub returns-then-has_old : goal.returns-then-has_old

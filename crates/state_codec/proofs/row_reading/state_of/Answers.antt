@@ -3,7 +3,7 @@ use Rattle.enrol_states.specs.declared.state.State.{State}
 use Rattle.state_codec.specs.Forms.{IsForm, AreParts}
 use Rattle.state_codec.specs.Sound.{IsSound}
 use Rattle.state_codec.proofs.Parts.{form_where, parts_where}
-use Rattle.state_codec.proofs.Spelled.{if_ok_weaker}
+use Rattle.state_codec.proofs.Encoded.{if_ok_weaker}
 use Rattle.state_codec.proofs.row_reading.state_of.Goals as goal
 
 pub returns-clause-state : goal.returns-clause-state

@@ -9,7 +9,7 @@ use Rattle.state_codec.specs.Forms.{AreParts}
 use Rattle.state_codec.proofs.Forms.{parts_read}
 use Rattle.state_values.specs.declared.fault.CodecFault.{CodecFault}
 use Rattle.state_values.specs.declared.fault.CodecFault.TheVariants.{NotAState}
-use Rattle.state_codec.proofs.Spelled.{not_read, one_state}
+use Rattle.state_codec.proofs.Encoded.{not_read, one_state}
 use Rattle.state_codec.proofs.row_reading.state_of_parts.Goals as goal
 
 fault_is : (r : Result State CodecFault) (e d f : CodecFault) → r ≡ Err e → e ≡ d → r ≡ Err f → d ≡ f

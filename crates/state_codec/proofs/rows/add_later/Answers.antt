@@ -2,7 +2,7 @@
 use Rattle.std.proofs.Common.{◌++◌, ◌∙◌, ap, map, codes}
 use Rattle.std.proofs.lemmas.Result.{on_ok_weaker}
 use Rattle.state_values.specs.Values.{hyphenated}
-use Rattle.state_codec.specs.Spelling.{row, key_row, recipe_row, status_rows, last_rows, pending_recipes, later_rows}
+use Rattle.state_codec.specs.Encoding.{row, key_row, recipe_row, status_rows, last_rows, pending_recipes, later_rows}
 use Rattle.state_codec.proofs.Added.{follow, row_then}
 use Rattle.state_codec.proofs.rows.add_later.Goals as goal
 

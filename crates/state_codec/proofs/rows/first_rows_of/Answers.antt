@@ -1,6 +1,6 @@
 -- The features' rows alone.
 use Rattle.std.proofs.Common.{◌++◌, ◌∷◌, [], ◌∙◌, ap, map}
-use Rattle.state_codec.specs.Spelling.{key_row, first_rows}
+use Rattle.state_codec.specs.Encoding.{key_row, first_rows}
 use Rattle.state_codec.proofs.rows.first_rows_of.Goals as goal
 
 pub returns : goal.returns

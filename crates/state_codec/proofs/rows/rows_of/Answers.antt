@@ -2,7 +2,7 @@
 use Rattle.std.proofs.Common.{List, ℕ, ◌++◌, ◌∙◌, ap₂, sym, subst}
 use Rattle.row_batches.specs.Rows.{AreRows}
 use Rattle.row_batches.specs.declared.store_row.StoreRow.{StoreRow}
-use Rattle.state_codec.specs.Spelling.{later_rows, rows_with}
+use Rattle.state_codec.specs.Encoding.{later_rows, rows_with}
 use Rattle.state_codec.proofs.KeyOrder.{rows_rise}
 use Rattle.state_codec.proofs.rows.rows_of.Goals as goal
 

@@ -1,6 +1,6 @@
 -- One row more, whose slug has at most 80 bytes.
 use Rattle.std.proofs.Common.{length, ap, arith}
-use Rattle.state_codec.specs.Spelling.{status_row}
+use Rattle.state_codec.specs.Encoding.{status_row}
 use Rattle.state_values.proofs.Names.{slug_short}
 use Rattle.state_codec.proofs.Sizes.{size_more}
 use Rattle.state_codec.proofs.size.client_rows_size.Goals as goal

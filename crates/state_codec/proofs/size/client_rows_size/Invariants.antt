@@ -1,6 +1,6 @@
 use Rattle.std.proofs.Common.{◌≡◌, ◌≤◌, ◌*◌, map, length, take}
 use Rattle.row_batches.specs.Batch.{puts_text}
-use Rattle.state_codec.specs.Spelling.{status_row}
+use Rattle.state_codec.specs.Encoding.{status_row}
 use Rattle.state_codec.proofs.size.client_rows_size.Given as goal
 
 abbrev pub invariant-loop-row : goal.invariant-loop-row

@@ -1,7 +1,7 @@
 -- One feature more, whose name has at most 80 bytes.
 use Rattle.std.proofs.Common.{◌∷◌, [], List, ℕ, IsTrue, length, sym, ap, subst, arith}
 use Rattle.plain_text.specs.Names.{is_name}
-use Rattle.state_codec.specs.Spelling.{key_row}
+use Rattle.state_codec.specs.Encoding.{key_row}
 use Rattle.state_values.proofs.Names.{name_short}
 use Rattle.state_codec.proofs.Sizes.{size_more}
 use Rattle.state_codec.proofs.size.features_size.Goals as goal

@@ -1,6 +1,6 @@
 use Rattle.std.proofs.Common.{◌≡◌, ◌≤◌, ◌*◌, map, length, take, codes}
 use Rattle.row_batches.specs.Batch.{puts_text}
-use Rattle.state_codec.specs.Spelling.{key_row}
+use Rattle.state_codec.specs.Encoding.{key_row}
 use Rattle.state_codec.proofs.size.features_size.Given as goal
 
 abbrev pub invariant-loop-feature : goal.invariant-loop-feature

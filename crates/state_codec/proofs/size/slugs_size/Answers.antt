@@ -1,6 +1,6 @@
 -- One slug more, which has at most 80 bytes.
 use Rattle.std.proofs.Common.{◌∷◌, [], length, ap, arith}
-use Rattle.state_codec.specs.Spelling.{key_row}
+use Rattle.state_codec.specs.Encoding.{key_row}
 use Rattle.state_values.proofs.Names.{slug_short}
 use Rattle.state_codec.proofs.Sizes.{size_more}
 use Rattle.state_codec.proofs.size.slugs_size.Goals as goal

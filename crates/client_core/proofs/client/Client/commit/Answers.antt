@@ -10,7 +10,7 @@ use Rattle.row_store.specs.Moments.{KeepsEitherRows}
 use Rattle.row_store.specs.Rows.{HasRows}
 use Rattle.row_store.specs.Store.{place}
 use Rattle.client_state.specs.Sound.{IsSound}
-use Rattle.client_state.specs.Spelling.{rows_of}
+use Rattle.client_state.specs.Encoding.{rows_of}
 use Rattle.client_store.specs.declared.change.Change.{Change}
 use Rattle.client_core.specs.Clients.{HasGateOn}
 use Rattle.client_store.specs.Moments.{WhileWritten}

@@ -3,7 +3,7 @@ use Rattle.std.proofs.Common.{◌∙◌, inl, refl, ap, subst, arith}
 use Rattle.std.proofs.lemmas.Result.{err_from_is_err_and}
 use Rattle.host_model.specs.declared.side.Side.TheVariants.{Left, Right}
 use Rattle.row_store.specs.Rows.{HasRows}
-use Rattle.client_state.specs.Spelling.{rows_of}
+use Rattle.client_state.specs.Encoding.{rows_of}
 use Rattle.client_store.proofs.Holding.{rows_settled, rows_read, rows_stand, rows_kept, ungated, while_written}
 use Rattle.client_store.proofs.Placing.{change_bytes, change_place, change_checkpoint}
 use Rattle.client_core.proofs.client.Client.write.Goals as goal

@@ -151,8 +151,8 @@ returns-clause-text g c tells =
     opening_quiet h start l r (h.said new)
     (run.each l r (h.said new) (g.met.H.Host.counts_now new (h.moment start) l r (h.said new) tells run.later (g.met.H.Host.read_is_image new Left tells, g.met.H.Host.read_is_image new Right tells, refl)))
 
-pub returns-in-Err-NoStore-clause-spelled : goal.returns-in-Err-NoStore-clause-spelled
-returns-in-Err-NoStore-clause-spelled g c tells =
+pub returns-in-Err-NoStore-clause-encoded : goal.returns-in-Err-NoStore-clause-encoded
+returns-in-Err-NoStore-clause-encoded g c tells =
     let h = g.H.Host in
     let new = c.make.new.host in
     let kept = (c.in_ok-make-in-Err-NoStore.ensures.made tells).each (h.reads new Left) (h.reads new Right) (g.met.H.Host.read_is_image new Left tells) (g.met.H.Host.read_is_image new Right tells) in

@@ -136,10 +136,10 @@ returns-clause-cost g c tells =
 
 -- ---- a pair whose earlier side isn't closed, since the disk has failed
 
-still_choice : (g : Over) (c : goal.After-drop-choice g) → g.H.Host.tells → IsChoice (g.H.Host.reads c.args.host.now Left) (g.H.Host.reads c.args.host.now Right) c.in_ok-choice.choice
+still_choice : (g : Over) (c : goal.After-drop-choice-in_err-shut_side g) → g.H.Host.tells → IsChoice (g.H.Host.reads c.args.host.now Left) (g.H.Host.reads c.args.host.now Right) c.in_ok-choice.choice
 still_choice g c tells = c.in_ok-choice.ensures.answer (g.H.Host.reads c.args.host.now Left) (g.H.Host.reads c.args.host.now Right) (c.in_ok-left.ensures.left tells) (c.in_ok-left.ensures.right tells)
 
-still_in_phases : (g : Over) (c : goal.After-drop-choice g) → g.H.Host.tells → OpensInTwoPhases g.H.Host c.args.host.now c.shut_side.new.host
+still_in_phases : (g : Over) (c : goal.After-drop-choice-in_err-shut_side g) → g.H.Host.tells → OpensInTwoPhases g.H.Host c.args.host.now c.shut_side.new.host
 still_in_phases g c tells =
     choice_phases g.H.Host c.in_ok-choice.choice c.other.result c.args.host.now c.found_both.new.host c.shut_side.new.host (still_choice g c tells) c.other.ensures
     (c.in_ok-left.ensures.same tells (λ failed. cc)) (c.in_ok-left.ensures.durable tells (λ failed. cc))

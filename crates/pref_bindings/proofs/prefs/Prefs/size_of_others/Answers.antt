@@ -11,14 +11,14 @@ size_without-requires c =
     let ps = c.self.inside.preferences in
     let seen : c.args.self.now ≡ ps = search rules in
     let there : Some c.in-Some.preference.now ≡ found c.args.name.now ps = c.in-Some.ensures ∙ ap (found c.args.name.now) seen in
-    omega (arith, c.self.invariant.size, others_size c.args.name.now ps c.in-Some.preference.now c.self.invariant.sound.names there)
+    omega (arith, c.self.invariant.sized.size, others_size c.args.name.now ps c.in-Some.preference.now c.self.invariant.sized.sound.names there)
 
 pub returns-in-Some-clause-size : goal.returns-in-Some-clause-size
 returns-in-Some-clause-size c =
     let ps = c.self.inside.preferences in
     let seen : c.args.self.now ≡ ps = search rules in
     let there : Some c.in-Some.preference.now ≡ found c.args.name.now ps = c.in-Some.ensures ∙ ap (found c.args.name.now) seen in
-    let left : c.size_without.result ≡ length (puts_text (rows_of (without_name c.args.name.now ps))) = omega (arith, c.self.invariant.size, c.size_without.ensures, others_size c.args.name.now ps c.in-Some.preference.now c.self.invariant.sound.names there) in
+    let left : c.size_without.result ≡ length (puts_text (rows_of (without_name c.args.name.now ps))) = omega (arith, c.self.invariant.sized.size, c.size_without.ensures, others_size c.args.name.now ps c.in-Some.preference.now c.self.invariant.sized.sound.names there) in
     left ∙ ap (λ qs. length (puts_text (rows_of (without_name c.args.name.now qs)))) (sym seen)
 
 pub returns-in-None-clause-size : goal.returns-in-None-clause-size
@@ -26,4 +26,4 @@ returns-in-None-clause-size c =
     let ps = c.self.inside.preferences in
     let seen : c.args.self.now ≡ ps = search rules in
     let nowhere : None ≡ found c.args.name.now ps = c.in-None.ensures ∙ ap (found c.args.name.now) seen in
-    c.self.invariant.size ∙ sym (none_size c.args.name.now ps c.self.invariant.sound.names nowhere) ∙ ap (λ qs. length (puts_text (rows_of (without_name c.args.name.now qs)))) (sym seen)
+    c.self.invariant.sized.size ∙ sym (none_size c.args.name.now ps c.self.invariant.sized.sound.names nowhere) ∙ ap (λ qs. length (puts_text (rows_of (without_name c.args.name.now qs)))) (sym seen)

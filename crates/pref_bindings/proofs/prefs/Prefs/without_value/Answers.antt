@@ -1,7 +1,9 @@
 use Rattle.std.proofs.Common.{rules, ◌≡◌, ◌∙◌, length, sym, ap}
 use Rattle.row_batches.specs.Batch.{puts_text}
 use Rattle.pref_bindings.specs.Changes.{without_name}
+use Rattle.pref_bindings.specs.Preferences.{holder_of}
 use Rattle.pref_bindings.specs.Rows.{rows_of}
+use Rattle.pref_bindings.proofs.HeldApart.{held_without_given}
 use Rattle.pref_bindings.proofs.Sound.{without_given}
 use Rattle.pref_bindings.proofs.prefs.Prefs.without_value.Goals as goal
 
@@ -10,9 +12,12 @@ invariant_of-result c =
     let ps = c.self.inside.preferences in
     let seen : c.args.self ≡ ps = search rules in
     record {
-      sound = without_given c.args.name.now ps c.in_ok-preferences.preferences c.self.invariant.sound c.in_ok-preferences.ensures;
-      size =
-          c.size_of_others-size.ensures.size ∙ ap (λ t. length (puts_text (rows_of (without_name t c.args.self)))) c.as_str.ensures.text ∙ ap (λ qs. length (puts_text (rows_of (without_name c.args.name.now qs)))) seen
-          ∙ sym (ap (λ qs. length (puts_text (rows_of qs))) c.in_ok-preferences.ensures);
-      bound = c.size_of_others-size.ensures.bound;
+      sized = record {
+        sound = without_given c.args.name.now ps c.in_ok-preferences.preferences c.self.invariant.sized.sound c.in_ok-preferences.ensures;
+        size =
+            c.size_of_others-size.ensures.size ∙ ap (λ t. length (puts_text (rows_of (without_name t c.args.self)))) c.as_str.ensures.text ∙ ap (λ qs. length (puts_text (rows_of (without_name c.args.name.now qs)))) seen
+            ∙ sym (ap (λ qs. length (puts_text (rows_of qs))) c.in_ok-preferences.ensures);
+        bound = c.size_of_others-size.ensures.bound;
+      };
+      same = held_without_given c.args.name.now ps c.self.inside.held c.in_ok-preferences.preferences (sym (ap (holder_of c.args.name.now) seen) ∙ c.requires) c.self.invariant.same c.in_ok-preferences.ensures;
     }
