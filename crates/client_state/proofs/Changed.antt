@@ -14,11 +14,12 @@ use Rattle.row_batches.specs.Between.{changes_between, between}
 use Rattle.row_batches.specs.declared.change.RowChange.{RowChange}
 use Rattle.row_batches.proofs.Sizes.{between_short}
 use Rattle.row_batches.proofs.Walks.{between_rule, applied_between}
-use Rattle.client_state.specs.Changes.{ArePreferencesIf, AreSoundIf, IsNextOutboxIf, IsNextIf, IsWholeChangeOf, enrolment_after, state_after}
+use Rattle.client_state.specs.Changes.{ArePreferencesIf, IsNextEventsIf, IsNextOutboxIf, IsNextIf, IsWholeChangeOf, enrolment_after, events_after, state_after}
 use Rattle.client_state.specs.Sound.{IsConsistent}
 use Rattle.client_state.specs.Encoding.{rows_of, encoding}
 use Rattle.client_state.specs.declared.client_state.ClientState.{ClientState}
 use Rattle.client_state.specs.declared.state_change.NextEnrolment.{NextEnrolment}
+use Rattle.client_state.specs.declared.state_change.NextEvents.{NextEvents}
 use Rattle.client_state.specs.declared.state_change.StateChange.{StateChange}
 use Rattle.client_state.proofs.KeyOrder.{rows_rise}
 use Rattle.client_state.proofs.Room.{rows_room}
@@ -29,9 +30,9 @@ pub enrolment_consistent : (next : Option NextEnrolment) (e : State) → states.
 enrolment_consistent None e is can = is
 enrolment_consistent (Some next) e is can = can.consistent
 
-pub events_sound : (next : Option (List NameCounts)) (ns : List NameCounts) → counts.IsSound ns → AreSoundIf next → counts.IsSound (unwrap_or next ns)
+pub events_sound : (next : Option NextEvents) (ns : List NameCounts) → counts.IsSound ns → IsNextEventsIf ns next → counts.IsSound (events_after next ns)
 events_sound None ns is can = is
-events_sound (Some next) ns is can = can
+events_sound (Some next) ns is can = can.sound
 
 pub outbox_sound : (next : Option Contents) (o : Contents) → contents.IsSound o → IsNextOutboxIf o next → contents.IsSound (unwrap_or next o)
 outbox_sound None o is can = is

@@ -61,7 +61,7 @@ pub enrolment_sound : (s : ClientState) → IsSound s → codec_sound.IsSound s.
 enrolment_sound s is = record { consistent = is.consistent.enrolment; records = is.records; size = omega (arith, length-encoding s, is.size) }
 
 -- the rows of the events of a sound state are short
-pub events_fit : (s : ClientState) (sizes : ClientSizes) → IsSound s → IsSizeOf s sizes → sizes.events ≤ 2 ^ 100
+pub events_fit : (s : ClientState) (sizes : ClientSizes) → IsSound s → IsSizeOf s sizes → sizes.events ≤ 2 ^ 99
 events_fit s sizes is are = omega (arith, are.events, length-encoding s, is.size)
 
 -- and so are those of its outbox

@@ -13,5 +13,6 @@ pub mod Migrating
 pub mod Ended
 pub mod HoldersAfter
 pub mod PartChanges
+pub mod EventParts
 pub mod Followed
 pub mod EnrolledHolders

@@ -11,11 +11,14 @@ use Rattle.change_outbox.specs.Contents.{Contents, IsMadeOf}
 use Rattle.pref_bindings.specs.Changes.{set_by_user}
 use Rattle.pref_bindings.specs.Preferences as preference_lists
 use Rattle.pref_bindings.specs.declared.preference.Preference.{Preference}
+use Rattle.state_codec.specs.ListParts.{IsPart}
 use Rattle.state_codec.specs.RecipeLists.{HasLists}
+use Rattle.state_codec.specs.declared.list_part.ListPart.{ListPart}
 use Rattle.state_codec.specs.declared.recipe_lists.RecipeLists.{RecipeLists}
 use Rattle.client_state.specs.Sound.{HaveEnrolledHolders}
 use Rattle.client_state.specs.declared.client_state.ClientState.{ClientState}
 use Rattle.client_state.specs.declared.state_change.NextEnrolment.{NextEnrolment}
+use Rattle.client_state.specs.declared.state_change.NextEvents.{NextEvents}
 use Rattle.client_state.specs.declared.state_change.StateChange.{StateChange}
 
 -- ---- changes of some parts
@@ -23,17 +26,20 @@ use Rattle.client_state.specs.declared.state_change.StateChange.{StateChange}
 abbrev pub next_of : State → RecipeLists → NextEnrolment
 next_of e recipes = record { state = e; recipes = recipes }
 
+abbrev pub next_events : List NameCounts → ListPart → NextEvents
+next_events ns part = record { counts = ns; part = part }
+
 abbrev pub no_change : StateChange
 no_change = record { enrolment = None; events = None; outbox = None; preferences = None }
 
 abbrev pub of_enrolment : State → RecipeLists → StateChange
 of_enrolment e recipes = record { enrolment = Some (next_of e recipes); events = None; outbox = None; preferences = None }
 
-abbrev pub of_events : List NameCounts → StateChange
-of_events ns = record { enrolment = None; events = Some ns; outbox = None; preferences = None }
+abbrev pub of_events : List NameCounts → ListPart → StateChange
+of_events ns part = record { enrolment = None; events = Some (next_events ns part); outbox = None; preferences = None }
 
-abbrev pub of_both : State → RecipeLists → List NameCounts → StateChange
-of_both e recipes ns = record { enrolment = Some (next_of e recipes); events = Some ns; outbox = None; preferences = None }
+abbrev pub of_both : State → RecipeLists → List NameCounts → ListPart → StateChange
+of_both e recipes ns part = record { enrolment = Some (next_of e recipes); events = Some (next_events ns part); outbox = None; preferences = None }
 
 abbrev pub of_outbox : Contents → StateChange
 of_outbox o = record { enrolment = None; events = None; outbox = Some o; preferences = None }
@@ -45,11 +51,16 @@ abbrev pub enrolment_after : Option NextEnrolment → State → State
 enrolment_after None e = e
 enrolment_after (Some next) e = next.state
 
+-- the next counts of events, or those of before
+abbrev pub events_after : Option NextEvents → List NameCounts → List NameCounts
+events_after None ns = ns
+events_after (Some next) ns = next.counts
+
 -- the state with the parts that the change has
 abbrev pub state_after : StateChange → ClientState → ClientState
 state_after change s = record {
   enrolment = enrolment_after change.enrolment s.enrolment;
-  events = unwrap_or change.events s.events;
+  events = events_after change.events s.events;
   outbox = unwrap_or change.outbox s.outbox;
   preferences = unwrap_or change.preferences s.preferences;
 }
@@ -69,9 +80,14 @@ abbrev pub IsNextIf : State → Option NextEnrolment → Type 0
 IsNextIf e None = ⊤
 IsNextIf e (Some next) = IsNext e next
 
-abbrev pub AreSoundIf : Option (List NameCounts) → Type 0
-AreSoundIf None = ⊤
-AreSoundIf (Some ns) = counts.IsSound ns
+-- a client can have the next counts, and their names are those of before but for the part
+pub record IsNextEvents (ns : List NameCounts) (next : NextEvents) : Type 0 where
+  pub sound : counts.IsSound next.counts
+  pub part : IsPart next.part ns next.counts
+
+abbrev pub IsNextEventsIf : List NameCounts → Option NextEvents → Type 0
+IsNextEventsIf ns None = ⊤
+IsNextEventsIf ns (Some next) = IsNextEvents ns next
 
 -- a client can have the next outbox, and a confirmation and an append make it of that of before
 pub record IsNextOutbox (o next : Contents) : Type 0 where
@@ -89,7 +105,7 @@ ArePreferencesIf (Some ps) = preference_lists.IsSound ps
 -- the change is one of the state: each part that it has can be a client's
 pub record IsChangeOf (s : ClientState) (change : StateChange) : Type 0 where
   pub enrolment : IsNextIf s.enrolment change.enrolment
-  pub events : AreSoundIf change.events
+  pub events : IsNextEventsIf s.events change.events
   pub outbox : IsNextOutboxIf s.outbox change.outbox
   pub preferences : ArePreferencesIf change.preferences
 

@@ -8,15 +8,16 @@ ghost use Rattle.row_batches.specs.Between.{changes_between, between};
 ghost use Rattle.state_values.specs.Values.{participation_byte};
 ghost use Rattle.state_codec.specs.Encoding.{first_rows, later_rows};
 ghost use Rattle.event_counts.specs.Rows as count_rows;
+ghost use Rattle.event_counts.specs.Sound as counts;
 ghost use Rattle.change_outbox.specs.Rows as change_rows;
 ghost use Rattle.pref_bindings.specs.Rows.{hold_rows, value_rows};
-ghost use Rattle.client_state.specs.Changes.{IsNextIf, IsNextOutboxIf, IsWholeChangeOf, enrolment_after, state_after};
+ghost use Rattle.client_state.specs.Changes.{IsNextEvents, IsNextEventsIf, IsNextIf, IsNextOutboxIf, IsWholeChangeOf, enrolment_after, events_after, state_after};
 ghost use Rattle.client_state.specs.Sound.{IsConsistent};
 ghost use Rattle.client_state.specs.Encoding.{rows_of, encoding};
 
 use crate::client_state::ClientState;
 use crate::rows::{joined, rows_of};
-use crate::state_change::{NextEnrolment, StateChange};
+use crate::state_change::{NextEnrolment, NextEvents, StateChange};
 use change_outbox::Outbox;
 use enrol_states::State;
 use event_counts::Counts;
@@ -41,7 +42,7 @@ pub fn whole_batch(alloc: Global, state: &ClientState) -> Result<Batch, AllocErr
 
 /// The batch from the rows of a state to those that it has after a change: a put for each row that is new or differs, a delete for
 /// each that is gone, and nothing else. A row is made only where it changes. Parts that the change doesn't have aren't looked at,
-/// and of the enrolment no list, or part of one, that is said to be as before.
+/// and of the enrolment and the events no list, or part of one, that is said to be as before.
 #[tactic(auto, using(crate::proofs::Changed::change_consistent, crate::proofs::Changed::gives_rows, crate::proofs::Changed::gives_whole, crate::proofs::Changed::is_short))]
 pub fn changes_to(
     alloc: Global,
@@ -107,14 +108,30 @@ fn enrolment_changes(
 fn event_changes(
     alloc: Global,
     old: &Counts,
-    next: &Option<Counts>,
+    next: &Option<NextEvents>,
 ) -> Result<Sequence<RowChange>, AllocError>
-    ensures { IfOk result (λ changes. changes ≡ changes_between (count_rows.rows_of old.now) (count_rows.rows_of (unwrap_or next.now old.now))) }
+    requires old_counts { counts.IsSound old.now }
+    requires next { IsNextEventsIf old.now next.now }
+    ensures { IfOk result (λ changes. changes ≡ changes_between (count_rows.rows_of old.now) (count_rows.rows_of (events_after next.now old.now))) }
 {
     match next {
-        Some(next) => old.changes_to(alloc, next),
+        Some(next) => next_event_changes(alloc, old, next),
         None => Ok(Sequence::new(alloc)),
     }
+}
+
+// The changes to the next counts' rows. Of the names the part alone is looked at that may differ.
+fn next_event_changes(
+    alloc: Global,
+    old: &Counts,
+    next: &NextEvents,
+) -> Result<Sequence<RowChange>, AllocError>
+    requires old_counts { counts.IsSound old.now }
+    requires next { IsNextEvents old.now next.now }
+    ensures { IfOk result (λ changes. changes ≡ changes_between (count_rows.rows_of old.now) (count_rows.rows_of next.now.counts)) }
+{
+    let part = next.part;
+    old.changes_in(alloc, &next.counts, part.start, part.removed, part.added)
 }
 
 // The changes of the outbox's rows.

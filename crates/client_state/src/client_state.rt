@@ -62,7 +62,7 @@ impl ClientState {
     {
         Ok(ClientState {
             enrolment: change.enrolment_or(&self.enrolment).clone()?,
-            events: change.events.as_ref().unwrap_or(&self.events).clone()?,
+            events: change.events_or(&self.events).clone()?,
             outbox: change.outbox.as_ref().unwrap_or(&self.outbox).clone()?,
             preferences: change.preferences_or(&self.preferences).clone()?,
         })

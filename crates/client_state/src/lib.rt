@@ -27,4 +27,4 @@ pub use old_form::{migration, needs_migration};
 pub use preference_setting::set_preference;
 pub use reading::client_state_of;
 pub use sizes::{ClientSizes, sizes_after, sizes_of};
-pub use state_change::{NextEnrolment, StateChange};
+pub use state_change::{NextEnrolment, NextEvents, StateChange};

@@ -5,17 +5,16 @@ ghost use Rattle.row_batches.specs.Batch.{puts_text};
 ghost use Rattle.state_codec.specs.Sound as codec;
 ghost use Rattle.state_codec.specs.Sizes as codec_sizes;
 ghost use Rattle.event_counts.specs.Rows as count_rows;
-ghost use Rattle.event_counts.specs.declared.name_counts.NameCounts.{NameCounts};
 ghost use Rattle.change_outbox.specs.Contents.{Contents};
 ghost use Rattle.change_outbox.specs.Rows as change_rows;
 ghost use Rattle.pref_bindings.specs.Rows as preference_rows;
 ghost use Rattle.pref_bindings.specs.declared.preference.Preference.{Preference};
-ghost use Rattle.client_state.specs.Changes.{IsNextIf, IsWholeChangeOf, enrolment_after, state_after};
+ghost use Rattle.client_state.specs.Changes.{IsNextEvents, IsNextEventsIf, IsNextIf, IsWholeChangeOf, enrolment_after, events_after, state_after};
 ghost use Rattle.client_state.specs.Sizes.{IsSizeOf};
 ghost use Rattle.client_state.specs.Sound.{IsConsistent, IsSound, HaveRecords};
 
 use crate::client_state::ClientState;
-use crate::state_change::{NextEnrolment, StateChange};
+use crate::state_change::{NextEnrolment, NextEvents, StateChange};
 use change_outbox::Outbox;
 use enrol_states::State;
 use event_counts::Counts;
@@ -51,8 +50,8 @@ pub fn sizes_of(state: &ClientState) -> ClientSizes
 }
 
 /// The sizes of the state after a change, by those of the state before. Parts that the change doesn't have aren't looked at, and of
-/// the enrolment's recipes only those are counted that are gone, new or differ. Of its opted-out slugs and of its rows only those
-/// are counted that may differ. It takes no memory.
+/// the enrolment's recipes only those are counted that are gone, new or differ. Of its opted-out slugs, of its rows and of the names
+/// of events only those are counted that may differ. It takes no memory.
 pub fn sizes_after(before: ClientSizes, old: &ClientState, change: &StateChange) -> ClientSizes
     requires before { IsSizeOf old.now before }
     requires old_state { IsSound old.now }
@@ -61,7 +60,7 @@ pub fn sizes_after(before: ClientSizes, old: &ClientState, change: &StateChange)
     ensures records { HaveRecords (state_after change.now old.now).enrolment }
 {
     let enrolment = enrolment_after(before.enrolment, &old.enrolment, &change.enrolment);
-    let events = events_after(before.events, &change.events);
+    let events = events_after(before.events, &old.events, &change.events);
     let outbox = outbox_after(before.outbox, &change.outbox);
     let preferences = preferences_after(before.preferences, &change.preferences);
     sizes_with(enrolment, events, outbox, preferences)
@@ -100,15 +99,31 @@ fn enrolment_after(before: StateSizes, old: &State, next: &Option<NextEnrolment>
 }
 
 // The size of the next counts' rows, or that of before.
-fn events_after(before: u128, next: &Option<Counts>) -> u128
-    requires { before ≤ 2 ^ 100 }
-    ensures size { (old : List NameCounts) → before ≡ length (puts_text (count_rows.rows_of old)) → result ≡ length (puts_text (count_rows.rows_of (unwrap_or next.now old))) }
+fn events_after(before: u128, old: &Counts, next: &Option<NextEvents>) -> u128
+    requires before { before ≡ length (puts_text (count_rows.rows_of old.now)) }
+    requires fits { before ≤ 2 ^ 99 }
+    requires next { IsNextEventsIf old.now next.now }
+    ensures size { result ≡ length (puts_text (count_rows.rows_of (events_after next.now old.now))) }
     ensures bound { result ≤ 2 ^ 100 }
 {
     match next {
-        Some(next) => next.size(),
+        Some(next) => next_events_size(before, old, next),
         None => before,
     }
+}
+
+// The size of the next counts' rows, by that of the old ones'. Of the names the part alone is counted that may differ.
+fn next_events_size(before: u128, old: &Counts, next: &NextEvents) -> u128
+    requires before { before ≡ length (puts_text (count_rows.rows_of old.now)) }
+    requires fits { before ≤ 2 ^ 99 }
+    requires next { IsNextEvents old.now next.now }
+    ensures size { result ≡ length (puts_text (count_rows.rows_of next.now.counts)) }
+    ensures bound { result ≤ 2 ^ 100 }
+{
+    let part = next.part;
+    let removed = old.size_in(part.start, part.removed);
+    let added = next.counts.size_in(part.start, part.added);
+    before - removed + added
 }
 
 // The size of the next outbox's rows, or that of before.

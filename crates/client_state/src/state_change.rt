@@ -1,19 +1,19 @@
 // What a command makes of a client's state.
 ghost use Rattle.std.specs.Prelude.{◌≡◌};
 ghost use Rattle.std.specs.Option.{unwrap_or};
-ghost use Rattle.client_state.specs.Changes.{enrolment_after, no_change, of_both, of_enrolment, of_events, of_outbox};
+ghost use Rattle.client_state.specs.Changes.{enrolment_after, events_after, no_change, of_both, of_enrolment, of_events, of_outbox};
 
 use change_outbox::Outbox;
 use enrol_states::State;
 use event_counts::Counts;
 use pref_bindings::Prefs;
-use state_codec::RecipeLists;
+use state_codec::{ListPart, RecipeLists};
 
 /// What a command makes of a client's state: each part that it changes. A part that isn't there is as before.
 #[derive(Drop)]
 pub struct StateChange {
     pub enrolment: Option<NextEnrolment>,
-    pub events: Option<Counts>,
+    pub events: Option<NextEvents>,
     pub outbox: Option<Outbox>,
     pub preferences: Option<Prefs>,
 }
@@ -23,6 +23,13 @@ pub struct StateChange {
 pub struct NextEnrolment {
     pub state: State,
     pub recipes: RecipeLists,
+}
+
+/// The next counts of events, and the part of the names in which they may differ from those of before.
+#[derive(Drop)]
+pub struct NextEvents {
+    pub counts: Counts,
+    pub part: ListPart,
 }
 
 impl StateChange {
@@ -48,22 +55,27 @@ impl StateChange {
         }
     }
 
-    /// A change to these counts. It takes no memory.
-    pub fn of_events(events: Counts) -> StateChange
-        ensures { result ≡ of_events events }
+    /// A change to these counts, of which the names are as before but for the part. It takes no memory.
+    pub fn of_events(counts: Counts, part: ListPart) -> StateChange
+        ensures { result ≡ of_events counts part }
     {
         StateChange {
-            events: Some(events),
+            events: Some(NextEvents { counts, part }),
             ..StateChange::none()
         }
     }
 
     /// A change to this enrolment and to these counts. It takes no memory.
-    pub fn of_both(state: State, recipes: RecipeLists, events: Counts) -> StateChange
-        ensures { result ≡ of_both state recipes events }
+    pub fn of_both(
+        state: State,
+        recipes: RecipeLists,
+        counts: Counts,
+        part: ListPart,
+    ) -> StateChange
+        ensures { result ≡ of_both state recipes counts part }
     {
         StateChange {
-            events: Some(events),
+            events: Some(NextEvents { counts, part }),
             ..StateChange::of_enrolment(state, recipes)
         }
     }
@@ -84,6 +96,16 @@ impl StateChange {
     {
         match &self.enrolment {
             Some(next) => &next.state,
+            None => before,
+        }
+    }
+
+    /// The next counts of events, or those of before.
+    pub(crate) fn events_or<'a>(&'a self, before: &'a Counts) -> &'a Counts
+        ensures { result.now ≡ events_after self.now.events before.now }
+    {
+        match &self.events {
+            Some(next) => &next.counts,
             None => before,
         }
     }

@@ -10,7 +10,7 @@ use client_state::{ClientState, StateChange};
 use client_words::Answer;
 use enrol_states::reset;
 use event_counts::Counts;
-use state_codec::RecipeLists;
+use state_codec::{ListPart, RecipeLists};
 use std::alloc::{AllocError, Global};
 use uuid::Uuid;
 
@@ -24,8 +24,9 @@ pub fn resetting(alloc: Global, state: &ClientState, id: [u8; 16]) -> Result<Ask
     let next = reset(alloc, &state.enrolment, Uuid::from_bytes(id))?;
     let events = Counts::new(alloc);
     events.keeps();
+    let part = ListPart::whole(state.events.len(), events.len());
     Ok(Asked::NewState {
-        change: StateChange::of_both(next, RecipeLists::AsBefore, events),
+        change: StateChange::of_both(next, RecipeLists::AsBefore, events, part),
         answer: Answer::Okay,
     })
 }

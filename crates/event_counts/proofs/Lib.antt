@@ -3,6 +3,7 @@ pub mod Rising
 pub mod Found
 pub mod Turning
 pub mod Soundness
+pub mod Parts
 pub mod Events
 pub mod Bytes
 pub mod SameRows

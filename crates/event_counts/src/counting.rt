@@ -3,8 +3,10 @@ ghost use Rattle.std.specs.Prelude.{◌≡◌, ◌≤◌, ◌<◌, ◌↔◌, le
 ghost use Rattle.std.specs.List.{insert};
 ghost use Rattle.plain_text.specs.Names.{is_name};
 ghost use Rattle.event_counts.specs.Kept.{at_moment, counted_in, found, moment_at, with_more, no_counts};
+ghost use Rattle.event_counts.specs.Places.{DifferAt};
 ghost use Rattle.event_counts.specs.Sound.{IsSound};
 
+use crate::counted_event::{CountedEvent, NamePlace};
 use crate::counts::{Counts, MAX_NAMES};
 use crate::fault::CountFault;
 use crate::name_counts::NameCounts;
@@ -14,20 +16,21 @@ use sequences::SharedList;
 use std::alloc::{AllocError, Global};
 
 impl Counts {
-    /// The counts after an event of this name, which came so many times. Its moment is the greatest of `now` and the latest
-    /// moments, so time never goes back; moments are in seconds since 1970, up to the end of the year 9999. Each count stops at
-    /// 4,294,967,295. `EventLimit` comes exactly where the name is new and 64 names are there.
+    /// The counts after an event of this name, which came so many times, and where they differ from these ones. Its moment is the
+    /// greatest of `now` and the latest moments, so time never goes back; moments are in seconds since 1970, up to the end of the
+    /// year 9999. Each count stops at 4,294,967,295. `EventLimit` comes exactly where the name is new and 64 names are there.
     pub fn count_in(
         &self,
         alloc: Global,
         name: &str,
         count: u32,
         now: u64,
-    ) -> Result<Counts, CountFault>
+    ) -> Result<CountedEvent, CountFault>
         requires name { IsTrue (is_name name.now) }
         requires moment { now ≤ 253402300799 }
-        ensures counts { IfOk result (λ c. c ≡ counted_in name.now count now self.now) }
-        ensures sound { IfOk result IsSound }
+        ensures counts { IfOk result (λ c. c.counts ≡ counted_in name.now count now self.now) }
+        ensures sound { IfOk result (λ c. IsSound c.counts) }
+        ensures place { IfOk result (λ c. DifferAt c.place self.now c.counts) }
         ensures limit { IsErrOf result CountFault.EventLimit ↔ ((found name.now self.now ≡ None) × (64 ≤ length self.now)) }
     {
         let names = self.names();
@@ -35,15 +38,21 @@ impl Counts {
         match place_of(names, name) {
             Ok(place) => {
                 let more = counted(alloc, &names[place], count, moment)?;
-                Ok(Counts {
-                    names: self.with_replaced(place, more)?,
+                Ok(CountedEvent {
+                    counts: Counts {
+                        names: self.with_replaced(place, more)?,
+                    },
+                    place: NamePlace::Known(place),
                 })
             }
             Err(_) if names.len() >= MAX_NAMES => Err(CountFault::EventLimit),
             Err(place) => {
                 let first = first_counted(alloc, name, count, moment)?;
-                Ok(Counts {
-                    names: self.with_inserted(place, first)?,
+                Ok(CountedEvent {
+                    counts: Counts {
+                        names: self.with_inserted(place, first)?,
+                    },
+                    place: NamePlace::New(place),
                 })
             }
         }

@@ -1,6 +1,7 @@
 // The counts of all names.
-ghost use Rattle.std.specs.Prelude.{◌≡◌, []};
-ghost use Rattle.event_counts.specs.Sound.{IsSound};
+ghost use Rattle.std.specs.Prelude.{◌≡◌, ◌≤◌, ◌+◌, [], length, slice_range};
+ghost use Rattle.std.specs.List.{AllByRecursion};
+ghost use Rattle.event_counts.specs.Sound.{IsSound, IsSoundName};
 
 use crate::shared_counts::SharedCounts;
 use sequences::{ExactClone, SharedList};
@@ -54,6 +55,13 @@ impl Counts {
         }
     }
 
+    /// How many names are counted.
+    pub fn len(&self) -> usize
+        ensures { result ≡ length self.now }
+    {
+        self.names().len()
+    }
+
     /// What counts keep by their type: names in order, at most 64, each with full lists of counts and a moment up to the end of
     /// the year 9999. The call does nothing.
     pub fn keeps(&self)
@@ -68,5 +76,16 @@ impl Counts {
         ensures sound { IsSound self.now }
     {
         self.names.as_slice()
+    }
+
+    /// The counts of so many names from a place on.
+    #[tactic(auto, using(crate::proofs::Parts::part_sound, crate::proofs::Parts::part_short))]
+    pub(crate) fn part(&self, start: usize, count: usize) -> &[SharedCounts]
+        requires { start + count ≤ length self.now }
+        ensures names { result.now ≡ slice_range self.now start (start + count) }
+        ensures sound { AllByRecursion IsSoundName result.now }
+        ensures most { length result.now ≤ 64 }
+    {
+        &self.names()[start..start + count]
     }
 }

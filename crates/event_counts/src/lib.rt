@@ -2,6 +2,7 @@
 //! moment sees of the counts, and the rows that keep them in a store.
 #![tactic(auto)]
 
+mod counted_event;
 mod counting;
 mod counts;
 mod fault;
@@ -17,6 +18,7 @@ mod shared_counts;
 mod size;
 mod viewing;
 
+pub use counted_event::{CountedEvent, NamePlace};
 pub use counts::Counts;
 pub use fault::{CountFault, CountsFault};
 pub use interval::Interval;

@@ -1,5 +1,5 @@
 // How many bytes the rows of counts take.
-ghost use Rattle.std.specs.Prelude.{◌≡◌, ◌≤◌, ◌*◌, length};
+ghost use Rattle.std.specs.Prelude.{◌≡◌, ◌≤◌, ◌+◌, ◌*◌, length, slice_range};
 ghost use Rattle.std.specs.List.{AllByRecursion};
 ghost use Rattle.row_batches.specs.Batch.{puts_text};
 ghost use Rattle.event_counts.specs.Rows.{rows_of};
@@ -18,6 +18,15 @@ impl Counts {
         ensures bound { result ≤ 52224 }
     {
         names_size(self.names())
+    }
+
+    /// How many bytes the puts of the rows of so many names have, from a place on.
+    pub fn size_in(&self, start: usize, count: usize) -> u128
+        requires { start + count ≤ length self.now }
+        ensures size { result ≡ length (puts_text (rows_of (slice_range self.now start (start + count)))) }
+        ensures bound { result ≤ 52224 }
+    {
+        names_size(self.part(start, count))
     }
 }
 

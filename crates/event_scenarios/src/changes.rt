@@ -37,7 +37,7 @@ fn add_changes_between(
     new: &Counts,
     found: &mut String,
 ) -> Result<(), Fault> {
-    let changes = old.changes_to(alloc, new)?;
+    let changes = old.changes_in(alloc, new, 0, old.len(), new.len())?;
     add_changes(changes.as_slice(), new.size(), found)
 }
 

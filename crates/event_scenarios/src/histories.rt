@@ -3,7 +3,7 @@
 //! moment 0.
 
 use crate::inputs::{moment, number};
-use event_counts::{CountFault, Counts};
+use event_counts::{CountFault, CountedEvent, Counts};
 use plain_text::is_name;
 use row_tables::{Fault, cut};
 use std::alloc::Global;
@@ -33,7 +33,7 @@ fn add_answer(
     found: &mut String,
 ) -> Result<(), Fault> {
     match counted(alloc, counts, event)? {
-        Ok(more) => add_size(alloc, &more, found),
+        Ok(more) => add_size(alloc, &more.counts, found),
         Err(fault) => Ok(write!(found, "{fault:?}")?),
     }
 }
@@ -70,7 +70,7 @@ fn count_event(alloc: Global, counts: &mut Counts, event: &str) -> Result<(), Fa
     }
     match counted(alloc, counts, event)? {
         Ok(more) => {
-            *counts = more;
+            *counts = more.counts;
             Ok(())
         }
         Err(_) => Err(Fault::NoRow),
@@ -81,7 +81,7 @@ fn counted(
     alloc: Global,
     counts: &Counts,
     event: &str,
-) -> Result<Result<Counts, CountFault>, Fault> {
+) -> Result<Result<CountedEvent, CountFault>, Fault> {
     let (name, rest) = cut(event);
     let (count, now) = cut(rest);
     let now = moment(now)?;

@@ -1,10 +1,10 @@
 -- What an event makes of the counts.
-use Rattle.std.proofs.Common.{◌≡◌, ℕ, ◌≤◌, List, length, get_or, Some, None, sym, ap, ◌∙◌, subst, refl, arith}
+use Rattle.std.proofs.Common.{◌≡◌, ℕ, ◌<◌, ◌≤◌, List, length, get_or, Some, None, sym, ap, ◌∙◌, subst, refl, arith}
 use Rattle.std.specs.Prelude.{slice_set}
 use Rattle.std.specs.List.{insert}
 use Rattle.event_counts.specs.declared.name_counts.NameCounts.{NameCounts}
 use Rattle.event_counts.specs.Kept.{counted_in, found}
-use Rattle.event_counts.specs.Places.{HasNameAt}
+use Rattle.event_counts.specs.Places.{BelongsAt, HasNameAt}
 use Rattle.event_counts.specs.Sound.{IsSound}
 use Rattle.event_counts.proofs.Events.{counted-there, sound-there, counted-new, sound-new, no_limit, no_memory}
 use Rattle.event_counts.proofs.Found.{found_there, found_nowhere}
@@ -23,7 +23,7 @@ returns-in_err-with_replaced-in-Ok-clause-limit c =
 
 pub returns-in_ok-with_replaced-in-Ok-clause-limit : goal.returns-in_ok-with_replaced-in-Ok-clause-limit
 returns-in_ok-with_replaced-in-Ok-clause-limit c =
-    no_limit c.in_ok-with_replaced-in-Ok.field-0 _ _ _ (is_there c.args.name.now c.args.self.now c.names-names.result.now c.in-Ok.place c.index-names-place.result c.names-names.ensures.names c.names-names.ensures.sound c.in-Ok.ensures.found)
+    no_limit _ _ _ _ (is_there c.args.name.now c.args.self.now c.names-names.result.now c.in-Ok.place c.index-names-place.result c.names-names.ensures.names c.names-names.ensures.sound c.in-Ok.ensures.found)
 
 pub returns-in-Err-clause-limit : goal.returns-in-Err-clause-limit
 returns-in-Err-clause-limit c =
@@ -62,3 +62,19 @@ returns-in_ok-with_inserted-in-Err-2-clause-counts c =
     subst (λ ns. c.in_ok-with_inserted-in-Err-2.field-0 ≡ counted_in c.args.name.now c.args.count c.args.now ns) c.names-names.ensures.names
     (counted-new c.args.name.now c.args.count c.args.now c.moment_at-moment.result c.names-names.result.now c.in_ok-with_inserted-in-Err-2.field-0 c.in-Err.field-0 c.in_ok-first-in-Err-2.first
     c.moment_at-moment.ensures c.in-Err.ensures.missed c.in_ok-first-in-Err-2.ensures (c.in_ok-with_inserted-in-Err-2.ensures ∙ ap (λ ns. insert ns c.in-Err.field-0 c.in_ok-first-in-Err-2.first) (sym c.names-names.ensures.names)))
+
+-- ---- the place
+
+within_there : (name : List ℕ) (self names : List NameCounts) (place : ℕ) → names ≡ self → HasNameAt name names place → place < length self
+within_there name self names place same at = let within = at.within in subst (λ (ns : List NameCounts). place < length ns) same within
+
+within_new : (name : List ℕ) (self names : List NameCounts) (place : ℕ) → names ≡ self → BelongsAt name names place → place ≤ length self
+within_new name self names place same at = let within = at.within in subst (λ (ns : List NameCounts). place ≤ length ns) same within
+
+pub returns-in_ok-with_replaced-in-Ok-clause-place : goal.returns-in_ok-with_replaced-in-Ok-clause-place
+returns-in_ok-with_replaced-in-Ok-clause-place c =
+    (within_there c.args.name.now c.args.self.now c.names-names.result.now c.in-Ok.place c.names-names.ensures.names c.in-Ok.ensures.found, (c.in_ok-more-in-Ok.more, c.in_ok-with_replaced-in-Ok.ensures))
+
+pub returns-in_ok-with_inserted-in-Err-2-clause-place : goal.returns-in_ok-with_inserted-in-Err-2-clause-place
+returns-in_ok-with_inserted-in-Err-2-clause-place c =
+    (within_new c.args.name.now c.args.self.now c.names-names.result.now c.in-Err.field-0 c.names-names.ensures.names c.in-Err.ensures.missed, (c.in_ok-first-in-Err-2.first, c.in_ok-with_inserted-in-Err-2.ensures))
