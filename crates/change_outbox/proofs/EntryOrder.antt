@@ -6,7 +6,7 @@ use Rattle.std.specs.Ordering.{nat_cmp}
 use Rattle.std.proofs.lemmas.Bool.{cases_order}
 use Rattle.std.proofs.lemmas.Bool.Decides.{nat_tests}
 use Rattle.std.proofs.lemmas.Cmp.{tied_itself}
-use Rattle.row_batches.proofs.Ordered.{turned_up}
+use Rattle.sequences.proofs.Texts.{turned_up}
 use Rattle.row_batches.specs.Rows.{key_cmp}
 use Rattle.change_outbox.specs.Rows.{change_key}
 use Rattle.change_outbox.proofs.ByteOrder.{keys_rise}

@@ -10,7 +10,7 @@ use Rattle.event_counts.specs.Places.{HasNameAt, BelongsAt}
 use Rattle.event_counts.specs.Sound.{AreInOrder, IsSound, name_cmp, name_of}
 use Rattle.event_counts.specs.declared.name_counts.NameCounts.{NameCounts}
 use Rattle.event_counts.proofs.Found.{counted_there, counted_new, found_nowhere}
-use Rattle.event_counts.proofs.Ordered.{above_trans, turned_down}
+use Rattle.sequences.proofs.Texts.{above_trans, turned_down}
 use Rattle.event_counts.proofs.Soundness.{most_moment_at, sound_there, sound_new}
 use Rattle.client_steps.specs.Steps.{has_no_room_for}
 

@@ -14,7 +14,7 @@ use Rattle.event_counts.specs.Kept.{moment_at, at_moment, with_more, found, foun
 use Rattle.event_counts.specs.Lists.{turned}
 use Rattle.event_counts.specs.Sound.{name_cmp}
 use Rattle.event_counts.specs.View.{counts_json, lists_json, member_at, view_of}
-use Rattle.event_counts.proofs.Ordered.{same_names, turned_down}
+use Rattle.sequences.proofs.Texts.{same_texts, turned_down}
 use Rattle.event_counts.proofs.Sums.{HasSums, AreBefore, sums_same, sums-turned, sums-raised, sums-beside, sums-zeros}
 
 -- ---- what is kept of events
@@ -108,7 +108,7 @@ hidden n o rest false false same = refl
 found_step : (name : List ℕ) (n o : NameCounts) (os : List NameCounts) (c : Ordering) → name_cmp n.name o.name ≡ c → found name (with_name n os) ≡ (if bytes_eq n.name name then Some n else found name os)
     → found name (match_ordering c (n ∷ o ∷ os) (n ∷ os) (o ∷ with_name n os)) ≡ (if bytes_eq n.name name then Some n else found name (o ∷ os))
 found_step name n o os Less e rest = refl
-found_step name n o os Equal e rest = hidden n o (found name os) (bytes_eq n.name name) (bytes_eq o.name name) (ap (λ t. bytes_eq t name) (same_names n.name o.name e))
+found_step name n o os Equal e rest = hidden n o (found name os) (bytes_eq n.name name) (bytes_eq o.name name) (ap (λ t. bytes_eq t name) (same_texts n.name o.name e))
 found_step name n o os Greater e rest =
     ap (λ f. if bytes_eq o.name name then Some o else f) rest
     ∙ swapped n o (found name os) (bytes_eq n.name name) (bytes_eq o.name name) (apart_names n.name o.name name e)

@@ -9,7 +9,8 @@ use Rattle.event_counts.specs.declared.name_counts.NameCounts.{NameCounts}
 use Rattle.event_counts.specs.Kept.{found, found_at, at_moment, no_counts, with_more, with_name, counted_at}
 use Rattle.event_counts.specs.Places.{AreAbove, AreBelow, HasNameAt, BelongsAt}
 use Rattle.event_counts.specs.Sound.{AreInOrder, name_cmp, name_of}
-use Rattle.event_counts.proofs.Ordered.{same_names, turned_up, turned_down, turned_even, above_trans, name_at}
+use Rattle.sequences.proofs.Texts.{same_texts, turned_up, turned_down, turned_even, above_trans}
+use Rattle.sequences.proofs.Searching.{text_at}
 
 -- ---- one step of each search
 
@@ -26,8 +27,8 @@ picked n o os c e = ap (λ p. match_ordering p (n ∷ o ∷ os) (n ∷ os) (o �
 
 before_it : (name : List ℕ) (o : NameCounts) (os : List NameCounts) (i : ℕ) (d : NameCounts) → i < length os → AreAbove o.name (map name_of os) → name_cmp (get_or os i d).name name ≡ Equal → name_cmp o.name name ≡ Less
 before_it name o os i d less above e =
-    let same = same_names (get_or os i d).name name e in
-    subst (λ t. name_cmp o.name t ≡ Less) same (name_at (λ t. name_cmp o.name t ≡ Less) os i d less above)
+    let same = same_texts (get_or os i d).name name e in
+    subst (λ t. name_cmp o.name t ≡ Less) same (text_at (λ t. name_cmp o.name t ≡ Less) name_of os i d less above)
 
 found-at : (name : List ℕ) (ns : List NameCounts) (i : ℕ) (d : NameCounts) → i < length ns → AreInOrder ns → name_cmp (get_or ns i d).name name ≡ Equal → found name ns ≡ Some (get_or ns i d)
 unfolding IsStrictlySortedBy
@@ -49,7 +50,7 @@ pub put_there : (name : List ℕ) (count moment : ℕ) (ns : List NameCounts) (i
 put_there name count moment ns i d order at =
     let n : NameCounts = get_or ns i d in
     let e : name_cmp n.name name ≡ Equal = at.same d in
-    let own : name_cmp n.name n.name ≡ Equal = subst (λ t. name_cmp n.name t ≡ Equal) (sym (same_names n.name name e)) e in
+    let own : name_cmp n.name n.name ≡ Equal = subst (λ t. name_cmp n.name t ≡ Equal) (sym (same_texts n.name name e)) e in
     with-at (with_more count (at_moment moment n)) ns i d at.within order own
 
 -- the counts after an event of a name that is there
@@ -108,7 +109,7 @@ above-with a n (o ∷ os) less above =
 with_at : (n o : NameCounts) (os : List NameCounts) (c : Ordering) → name_cmp n.name o.name ≡ c → AreInOrder (o ∷ os) → AreInOrder (with_name n os) → AreInOrder (match_ordering c (n ∷ o ∷ os) (n ∷ os) (o ∷ with_name n os))
 unfolding IsStrictlySortedBy
 with_at n o os Less e order rest = ((e, above_trans n.name o.name (map name_of os) e order.0), order)
-with_at n o os Equal e order rest = (subst (λ k. AreAbove k (map name_of os)) (sym (same_names n.name o.name e)) order.0, order.1)
+with_at n o os Equal e order rest = (subst (λ k. AreAbove k (map name_of os)) (sym (same_texts n.name o.name e)) order.0, order.1)
 with_at n o os Greater e order rest = (above-with o.name n os (turned_down n.name o.name e) order.0, rest)
 
 pub order-with : (n : NameCounts) (ns : List NameCounts) → AreInOrder ns → AreInOrder (with_name n ns)

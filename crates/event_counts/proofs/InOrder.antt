@@ -6,7 +6,7 @@ use Rattle.std.specs.List.Sorted.{IsStrictlySortedBy}
 use Rattle.std.specs.Ordering.{is_lt}
 use Rattle.event_counts.specs.declared.name_counts.NameCounts.{NameCounts}
 use Rattle.event_counts.specs.Sound.{AreInOrder, name_cmp, name_of}
-use Rattle.event_counts.proofs.Ordered.{above_trans}
+use Rattle.sequences.proofs.Texts.{above_trans}
 
 is_less : (o : Ordering) → true ≡ is_lt o → o ≡ Less
 is_less Less is = refl

@@ -9,7 +9,7 @@ use Rattle.event_counts.specs.Places.{AreAbove}
 use Rattle.event_counts.specs.Rows.{row_of, rows_of}
 use Rattle.event_counts.specs.Sound.{AreInOrder, name_cmp, name_of}
 use Rattle.event_counts.specs.View.{member_at}
-use Rattle.event_counts.proofs.Ordered.{name_at}
+use Rattle.sequences.proofs.Searching.{text_at}
 
 -- the name at a place is above the keys of the members before it
 pub above_members : (moment : ℕ) (ns : List NameCounts) (i : ℕ) (d : NameCounts) → i < length ns → AreInOrder ns → IsAbove (get_or ns i d).name (map (member_at moment) (take i ns))
@@ -17,7 +17,7 @@ unfolding IsStrictlySortedBy
 above_members moment [] i d less order = absurd (omega arith)
 above_members moment (n ∷ ns) zero d less order = tt
 above_members moment (n ∷ ns) (suc i) d less order =
-    (name_at (λ t. name_cmp n.name t ≡ Less) ns i d (omega arith) order.0, above_members moment ns i d (omega arith) order.1)
+    (text_at (λ t. name_cmp n.name t ≡ Less) name_of ns i d (omega arith) order.0, above_members moment ns i d (omega arith) order.1)
 
 above_rows : (n : NameCounts) (ns : List NameCounts) → AreAbove n.name (map name_of ns) → AllByRecursion (λ t. key_cmp (row_of n).key t ≡ Less) (map key_of (rows_of ns))
 above_rows n [] above = tt

@@ -1,29 +1,20 @@
 -- Where a name stands among counts in order by name, or belongs, and counts that differ at one place.
-use Rattle.std.specs.Prelude.{◌≡◌, ◌<◌, ◌≤◌, ℕ, List, drop, length, map, slice_set, take}
-use Rattle.std.specs.declared.cmp.Ordering.TheVariants.{Equal, Less}
-use Rattle.std.specs.List.{AllByRecursion, HoldsAt, insert}
+pub use Rattle.sequences.specs.Order.{AreAbove, AreBelow}
+use Rattle.std.specs.Prelude.{◌≡◌, ◌<◌, ◌≤◌, ℕ, List, length, slice_set}
+use Rattle.std.specs.List.{insert}
+use Rattle.sequences.specs.Order as order
 use Rattle.event_counts.specs.declared.counted_event.NamePlace.{NamePlace}
 use Rattle.event_counts.specs.declared.counted_event.NamePlace.TheVariants.{Known, New}
 use Rattle.event_counts.specs.declared.name_counts.NameCounts.{NameCounts}
-use Rattle.event_counts.specs.Sound.{name_cmp, name_of}
-
--- each name is above this one, or below it
-abbrev pub AreAbove : List ℕ → List (List ℕ) → Type 0
-AreAbove name names = AllByRecursion (λ k. name_cmp name k ≡ Less) names
-
-abbrev pub AreBelow : List ℕ → List (List ℕ) → Type 0
-AreBelow name names = AllByRecursion (λ k. name_cmp k name ≡ Less) names
+use Rattle.event_counts.specs.Sound.{name_of}
 
 -- the counts at this place are those of the name
-pub record HasNameAt (name : List ℕ) (ns : List NameCounts) (place : ℕ) : Type 0 where
-  pub within : place < length ns
-  pub same : HoldsAt (λ (n : NameCounts). name_cmp n.name name ≡ Equal) ns place
+abbrev pub HasNameAt : List ℕ → List NameCounts → ℕ → Type 0
+HasNameAt name ns place = order.HasTextAt name_of name ns place
 
 -- there are no counts of the name, and they belong before those at this place
-pub record BelongsAt (name : List ℕ) (ns : List NameCounts) (place : ℕ) : Type 0 where
-  pub within : place ≤ length ns
-  pub below : AreBelow name (take place (map name_of ns))
-  pub above : AreAbove name (drop place (map name_of ns))
+abbrev pub BelongsAt : List ℕ → List NameCounts → ℕ → Type 0
+BelongsAt name ns place = order.BelongsAt name_of name ns place
 
 -- the second counts are the first ones but for one name: it was known at this place and has other counts, or it is new there
 abbrev pub DifferAt : NamePlace → List NameCounts → List NameCounts → Type 0

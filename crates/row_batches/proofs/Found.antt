@@ -12,7 +12,8 @@ use Rattle.row_batches.specs.Rows.{AreRows, key_cmp, key_of, value_of, with_row,
 use Rattle.row_batches.specs.declared.change.RowChange.{RowChange}
 use Rattle.row_batches.specs.declared.change.RowChange.TheVariants.{Put, Delete}
 use Rattle.row_batches.specs.declared.store_row.StoreRow.{StoreRow}
-use Rattle.row_batches.proofs.Ordered.{same_keys, turned_up, turned_down, turned_even, above_trans, key_at}
+use Rattle.sequences.proofs.Texts.{same_texts, turned_up, turned_down, turned_even, above_trans}
+use Rattle.sequences.proofs.Searching.{text_at}
 
 -- ---- one step of each search
 
@@ -29,8 +30,8 @@ dropped key q qs o e = ap (λ p. match_ordering p (q ∷ qs) qs (q ∷ without_k
 
 below_it : (key : List ℕ) (q : StoreRow) (qs : List StoreRow) (i : ℕ) (d : StoreRow) → i < length qs → AreAbove q.key (map key_of qs) → key_cmp (get_or qs i d).key key ≡ Equal → key_cmp key q.key ≡ Greater
 below_it key q qs i d less above e =
-    let same = same_keys (get_or qs i d).key key e in
-    turned_up q.key key (subst (λ t. key_cmp q.key t ≡ Less) same (key_at (λ t. key_cmp q.key t ≡ Less) qs i d less above))
+    let same = same_texts (get_or qs i d).key key e in
+    turned_up q.key key (subst (λ t. key_cmp q.key t ≡ Less) same (text_at (λ t. key_cmp q.key t ≡ Less) key_of qs i d less above))
 
 value-at : (key : List ℕ) (rows : List StoreRow) (i : ℕ) (d : StoreRow) → i < length rows → AreRows rows → key_cmp (get_or rows i d).key key ≡ Equal → value_of key rows ≡ Some (get_or rows i d).value
 unfolding IsStrictlySortedBy
@@ -109,7 +110,7 @@ above-without a key (q ∷ qs) above =
 with_at : (r q : StoreRow) (qs : List StoreRow) (o : Ordering) → key_cmp r.key q.key ≡ o → AreRows (q ∷ qs) → AreRows (with_row r qs) → AreRows (match_ordering o (r ∷ q ∷ qs) (r ∷ qs) (q ∷ with_row r qs))
 unfolding IsStrictlySortedBy
 with_at r q qs Less e rise rest = ((e, above_trans r.key q.key (map key_of qs) e rise.0), rise)
-with_at r q qs Equal e rise rest = (subst (λ k. AreAbove k (map key_of qs)) (sym (same_keys r.key q.key e)) rise.0, rise.1)
+with_at r q qs Equal e rise rest = (subst (λ k. AreAbove k (map key_of qs)) (sym (same_texts r.key q.key e)) rise.0, rise.1)
 with_at r q qs Greater e rise rest = (above-with q.key r qs (turned_down r.key q.key e) rise.0, rest)
 
 rise-with : (r : StoreRow) (rows : List StoreRow) → AreRows rows → AreRows (with_row r rows)

@@ -8,7 +8,7 @@ use Rattle.row_batches.specs.Rows.{key_cmp, key_of}
 use Rattle.row_batches.specs.declared.change.RowChange.{RowChange}
 use Rattle.row_batches.specs.declared.change.RowChange.TheVariants.{Put, Delete}
 use Rattle.row_batches.specs.declared.store_row.StoreRow.{StoreRow}
-use Rattle.row_batches.proofs.Ordered.{turned_up}
+use Rattle.sequences.proofs.Texts.{turned_up}
 
 -- the keys of the first rows are below those of the second
 abbrev pub Precede : List StoreRow → List StoreRow → Type 0

@@ -6,7 +6,7 @@ use Rattle.row_batches.specs.Batch.{ChangeList, IsBatch, ComesNext, FitsFields, 
 use Rattle.row_batches.specs.Places.{AreAbove}
 use Rattle.row_batches.specs.Rows.{Rise, key_cmp, key_in}
 use Rattle.row_batches.specs.declared.change.RowChange.{RowChange}
-use Rattle.row_batches.proofs.Ordered.{less_trans}
+use Rattle.sequences.proofs.Texts.{less_trans}
 
 pub all_push : {X : Type 0} (P : X → Type 0) (xs : List X) (x : X) → AllByRecursion P xs → P x → AllByRecursion P (xs ++ x ∷ [])
 all_push P [] x all here = (here, tt)

@@ -8,7 +8,6 @@ pub mod ItemWalks
 pub mod Keeping
 pub mod Merged
 pub mod OneEncoding
-pub mod Ordered
 pub mod RowFields
 pub mod Sides
 pub mod Sizes

@@ -11,7 +11,7 @@ use Rattle.row_batches.specs.declared.change.RowChange.TheVariants.{Put, Delete}
 use Rattle.row_batches.specs.declared.merging.Merge.{Merge}
 use Rattle.row_batches.specs.declared.merging.Merge.TheVariants as merge
 use Rattle.row_batches.specs.declared.store_row.StoreRow.{StoreRow}
-use Rattle.row_batches.proofs.Ordered.{same_keys, turned_down, above_trans}
+use Rattle.sequences.proofs.Texts.{same_texts, turned_down, above_trans}
 use Rattle.row_batches.proofs.Walks.{stays_first}
 
 put_there : (r : StoreRow) (rows : List StoreRow) → AreAbove r.key (map key_of rows) → with_row r rows ≡ r ∷ rows
@@ -55,7 +55,7 @@ unfolding IsStrictlySortedBy
 over_same c changes r rows m e order merged = by_step m merged
   where
     same : after_change c (r ∷ rows) ≡ after_change c rows
-    same = same_change c r rows e (subst (λ k. AreAbove k (map key_of rows)) (sym (same_keys (key_in c) r.key e)) order.rows_rise.0)
+    same = same_change c r rows e (subst (λ k. AreAbove k (map key_of rows)) (sym (same_texts (key_in c) r.key e)) order.rows_rise.0)
 
     by_step : (m : Merge) → IsMerge (c ∷ changes) rows m → IsMerge (c ∷ changes) (r ∷ rows) m
     by_step merge.End is = ap (λ l. after_changes changes l) same ∙ is
@@ -81,7 +81,7 @@ unfolding IsStrictlySortedBy
 before_same c changes r rows e order = record {
   order = record { changes_rise = order.changes_rise.1; rows_rise = order.rows_rise.1 };
   changes_above = order.changes_rise.0;
-  rows_above = subst (λ k. AreAbove k (map key_of rows)) (sym (same_keys (key_in c) r.key e)) order.rows_rise.0;
+  rows_above = subst (λ k. AreAbove k (map key_of rows)) (sym (same_texts (key_in c) r.key e)) order.rows_rise.0;
 }
 
 pub row_last : (r : StoreRow) (rows : List StoreRow) → AreInOrder [] (r ∷ rows) → IsMerged (r ∷ []) [] rows [] (r ∷ rows)

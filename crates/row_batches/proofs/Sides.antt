@@ -8,7 +8,7 @@ use Rattle.row_batches.specs.Places.{AreAbove, AreBelow}
 use Rattle.row_batches.specs.Rows.{AreRows, key_cmp, key_of, value_of, with_row, without_key}
 use Rattle.row_batches.specs.declared.store_row.StoreRow.{StoreRow}
 use Rattle.row_batches.proofs.Found.{valued, picked, dropped}
-use Rattle.row_batches.proofs.Ordered.{same_keys, turned_up, turned_down, turned_even, less_trans}
+use Rattle.sequences.proofs.Texts.{same_texts, turned_up, turned_down, less_trans}
 
 pub length_around : (below : List StoreRow) (q : StoreRow) (above : List StoreRow) → length (below ++ q ∷ above) ≡ length below + (length above + 1)
 length_around below q above = let more = length-append below (q ∷ above) in omega (arith, more)
@@ -60,7 +60,7 @@ below_less : (key : List ℕ) (below : List StoreRow) (q : StoreRow) (above : Li
 below_less key below q above rise more = below_trans q.key key (map key_of below) (turned_down key q.key more) (sides_below below q above rise)
 
 below_even : (key : List ℕ) (below : List StoreRow) (q : StoreRow) (above : List StoreRow) → AreRows (below ++ q ∷ above) → key_cmp key q.key ≡ Equal → AreBelow key (map key_of below)
-below_even key below q above rise even = subst (λ k. AreBelow k (map key_of below)) (sym (same_keys key q.key even)) (sides_below below q above rise)
+below_even key below q above rise even = subst (λ k. AreBelow k (map key_of below)) (sym (same_texts key q.key even)) (sides_below below q above rise)
 
 -- ---- a row is put on a side, or in the place of this one
 

@@ -15,7 +15,7 @@ use Rattle.row_batches.specs.Rows.{Rise, AreRows, key_cmp, key_of, key_in, with_
 use Rattle.row_batches.specs.declared.change.RowChange.{RowChange}
 use Rattle.row_batches.specs.declared.change.RowChange.TheVariants.{Put, Delete}
 use Rattle.row_batches.specs.declared.store_row.StoreRow.{StoreRow}
-use Rattle.row_batches.proofs.Ordered.{same_keys, turned_up, turned_down, turned_even, above_trans}
+use Rattle.sequences.proofs.Texts.{same_texts, turned_up, turned_down, turned_even, above_trans}
 
 abbrev keys : List StoreRow → List (List ℕ)
 keys rows = map key_of rows
@@ -84,7 +84,7 @@ unfolding IsStrictlySortedBy
 rise_at old new olds news Less e old_rise rise rest behind =
     (above_between old.key olds (new ∷ news) old_rise.0 (e, above_trans old.key new.key (keys news) e rise.0), rest (new ∷ news) rise)
 rise_at old new olds news Equal e old_rise rise rest behind =
-    let olds_above = subst (λ k. AreAbove k (keys olds)) (same_keys old.key new.key e) old_rise.0 in
+    let olds_above = subst (λ k. AreAbove k (keys olds)) (same_texts old.key new.key e) old_rise.0 in
     rise_put (bytes_eq old.value new.value) new (rest_of olds news) (above_between new.key olds news olds_above rise.0) (rest news rise.1)
 rise_at old new olds news Greater e old_rise rise rest behind =
     let less = turned_down old.key new.key e in
@@ -153,7 +153,7 @@ put_first new old olds o e = ap (λ p. match_ordering p (new ∷ old ∷ olds) (
 kept_made : (b : Bool) (old new : StoreRow) (olds news : List StoreRow) (more : List RowChange) → b ≡ bytes_eq old.value new.value → key_cmp old.key new.key ≡ Equal → AreAbove new.key (changed more)
     → after_changes more olds ≡ news → after_changes ((if b then [] else Put new ∷ []) ++ more) (old ∷ olds) ≡ new ∷ news
 kept_made true old new olds news more is e above made =
-    let key_same = same_keys old.key new.key e in
+    let key_same = same_texts old.key new.key e in
     let value_same = (bytes_decides old.value new.value).0 (sym is) in
     let row_same : old ≡ new = λ i. record { key = key_same i; value = value_same i } in
     ap (λ (r : StoreRow). after_changes more (r ∷ olds)) row_same ∙ stays_first more new olds above ∙ ap (λ l. new ∷ l) made
@@ -166,7 +166,7 @@ made_at : (old new : StoreRow) (olds news : List StoreRow) (o : Ordering) → ke
 unfolding IsStrictlySortedBy
 made_at old new olds news Less e old_rise rise rest behind = ap (λ l. after_changes (rest_of olds (new ∷ news)) l) (gone old olds) ∙ rest (new ∷ news) rise
 made_at old new olds news Equal e old_rise rise rest behind =
-    let olds_above = subst (λ k. AreAbove k (keys olds)) (same_keys old.key new.key e) old_rise.0 in
+    let olds_above = subst (λ k. AreAbove k (keys olds)) (same_texts old.key new.key e) old_rise.0 in
     kept_made (bytes_eq old.value new.value) old new olds news (rest_of olds news) refl e (above_between new.key olds news olds_above rise.0) (rest news rise.1)
 made_at old new olds news Greater e old_rise rise rest behind =
     let less = turned_down old.key new.key e in

@@ -11,7 +11,7 @@ use Rattle.row_batches.specs.declared.store_row.StoreRow.{StoreRow}
 use Rattle.row_batches.specs.Places.{AreAbove}
 use Rattle.row_batches.specs.Rows.{AreRows, key_cmp, key_of, with_row, without_key}
 use Rattle.row_batches.proofs.Found.{rise_given}
-use Rattle.row_batches.proofs.Ordered.{same_keys, above_trans}
+use Rattle.sequences.proofs.Texts.{same_texts, above_trans}
 use Rattle.row_store.specs.Listing.{row_of, rows_in}
 
 abbrev Entry : Type 0 → Type 0
@@ -29,7 +29,7 @@ module _ {Z : Type 0} where
       → rows_in (match_ordering o ((k, v) ∷ e ∷ es) ((e.0, v) ∷ es) (e ∷ insert_entry vec_cmp es k v))
       ≡ match_ordering o (record { key = k.items; value = v } ∷ row_of e ∷ rows_in es) (record { key = k.items; value = v } ∷ rows_in es) (row_of e ∷ with_row (record { key = k.items; value = v }) (rows_in es))
   put_at k v e es Less is rest = refl
-  put_at k v e es Equal is rest = ap (λ (key : List ℕ). record { key = key; value = v } ∷ rows_in es) (sym (same_keys k.items e.0.items is))
+  put_at k v e es Equal is rest = ap (λ (key : List ℕ). record { key = key; value = v } ∷ rows_in es) (sym (same_texts k.items e.0.items is))
   put_at k v e es Greater is rest = ap (λ l. row_of e ∷ l) rest
 
   inserted : (es : List (Entry Z)) (k : Vec ℕ Z) (v : List ℕ) → rows_in (insert_entry vec_cmp es k v) ≡ with_row (record { key = k.items; value = v }) (rows_in es)
