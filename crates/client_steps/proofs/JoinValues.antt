@@ -14,11 +14,11 @@ use Rattle.plain_text.specs.Names.{is_name}
 use Rattle.recipe_reader.specs.Outcome.{only_if}
 use Rattle.recipe_reader.specs.Payloads.{slug_cmp, recipe_with}
 use Rattle.recipe_reader.specs.Records.{branch_json, feature_json, record_json}
-use Rattle.recipe_reader.specs.Trees.{tree_from}
+use Rattle.json_tree.specs.Inverse.{tree_from}
 use Rattle.recipe_reader.specs.declared.recipe.Branch.{Branch}
 use Rattle.recipe_reader.specs.declared.recipe.FeatureValue.{FeatureValue}
 use Rattle.recipe_reader.specs.declared.recipe.Recipe.{Recipe}
-use Rattle.recipe_reader.proofs.Trees.{same_values}
+use Rattle.json_tree.proofs.Trees.{same_values}
 use Rattle.fml_types.specs.Shapes.{shape_of}
 use Rattle.fml_types.specs.declared.field_type.FieldType.{FieldType}
 use Rattle.fml_types.specs.declared.manifest.Field.{Field}

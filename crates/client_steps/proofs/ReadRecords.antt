@@ -13,7 +13,7 @@ use Rattle.recipe_reader.specs.Outcome.{◌>>=◌, needed, only_if}
 use Rattle.recipe_reader.specs.Parts.{object_in, slug_in, schema_in, fields_in, sized_text, bucket_of, bucket_in}
 use Rattle.recipe_reader.specs.Payloads.{slug_cmp, has_slug, with_recipe, skipping, taking, payload_from, no_records, records_in, counted, payload_of}
 use Rattle.recipe_reader.specs.Records.{text_or_null, bucket_json, feature_json, branch_json, recipe_of, record_json}
-use Rattle.recipe_reader.specs.Trees.{tree_from}
+use Rattle.json_tree.specs.Inverse.{tree_from}
 use Rattle.recipe_reader.specs.Values.{as_text, text_at, count_within, as_count, count_at, is_null, is_slug, is_sized, present, optional_text, optional_truth, truth_or_absent, kept_if, has_bytes, has_more_than_blanks, is_moment}
 use Rattle.recipe_reader.specs.declared.payload.Payload.{Payload}
 use Rattle.recipe_reader.specs.declared.payload.PayloadFault.{PayloadFault}
@@ -28,7 +28,7 @@ use Rattle.recipe_reader.proofs.Again.{recipe_of_parts}
 use Rattle.recipe_reader.proofs.BranchesAgain.{feature_of_parts, named_parts, list_of_parts, feature_test, branch_of_parts, branch_test}
 use Rattle.recipe_reader.proofs.FieldsAgain.{fields_of_parts, bucket_of_parts}
 use Rattle.recipe_reader.proofs.RecordSums.{record_sound, branch_sound}
-use Rattle.recipe_reader.proofs.Trees.{same_values}
+use Rattle.json_tree.proofs.Trees.{same_values}
 use Rattle.state_codec.specs.Sound.{AreRecords}
 
 -- ---- what stands under a key

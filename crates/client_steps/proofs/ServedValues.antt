@@ -49,11 +49,12 @@ use Rattle.client_steps.specs.ServedValues.{IsServed, ValuesAreServed, IsTyped, 
 use Rattle.client_steps.specs.Settings.{Setting}
 use Rattle.client_steps.specs.Soundness.{IsGiven, IsLawfulManifest}
 use Rattle.client_steps.specs.Steps.{OutcomeOver, EnrolmentOutcome, Outcome, Accepted, Refused, Step, whole, seeing, has_no_room_for, counting, listing_changes, confirming, preferring, listing_preferences, participation, opting_out, taking, offering, choosing, opting_in, resetting, showing, fetched, fetching, context_read, reading_context, bindings_read, reading_bindings, setting_manifest, applying, valued, serving, writing_manifest, done, step}
-use Rattle.fml_reader.specs.Trees.{tree_from}
+use Rattle.json_tree.specs.Inverse.{tree_from}
 use Rattle.client_steps.proofs.LinkedManifests.{manifest_linked}
 use Rattle.client_steps.proofs.SoundValues.{records_sound}
 use Rattle.client_steps.proofs.Stepping.{whole_either, preferring_either}
-use Rattle.client_steps.proofs.Trees.{tree_of_value, value_of_tree}
+use Rattle.json_tree.proofs.Trees.{same_values}
+use Rattle.client_steps.proofs.Trees.{tree_of_value}
 
 abbrev is_value : Answer → Bool
 is_value (Value tree) = true
@@ -215,7 +216,7 @@ module _ (at : Setting) (s : ClientState) (session : Session) where
 
     served_as : (manifest : Manifest) → session.manifest ≡ Some manifest → (value : TypedValue) → served manifest s.enrolment name ≡ Some value → tree_from (values.tree_of value) ≡ tree → Asked (Feature name)
     served_as manifest set value serves is =
-        (name, refl, record { manifest = manifest; set = set; value = value; serves = serves; encoded = ap json_of (sym is) ∙ value_of_tree (values.tree_of value) })
+        (name, refl, record { manifest = manifest; set = set; value = value; serves = serves; encoded = ap json_of (sym is) ∙ same_values (values.tree_of value) })
 
     valued_at : (manifest : Manifest) → session.manifest ≡ Some manifest → (value : TypedValue) → served manifest s.enrolment name ≡ Some value → (large : Bool)
         → let to : Step = if large then record { state = s; session = session; answer = StateTooLarge (length (encoding s)) } else record { state = s; session = session; answer = Value (tree_from (values.tree_of value)) } in

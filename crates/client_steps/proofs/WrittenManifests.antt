@@ -7,7 +7,7 @@ use Rattle.json_tree.specs.Tree.{json_of}
 use Rattle.json_tree.specs.declared.tree.Tree.{Tree}
 use Rattle.fml_types.specs.declared.manifest.Manifest.{Manifest}
 use Rattle.fml_imports.specs.Single.{single}
-use Rattle.fml_reader.specs.Trees.{tree_from}
+use Rattle.json_tree.specs.Inverse.{tree_from}
 use Rattle.client_state.specs.Sound.{max_size}
 use Rattle.client_state.specs.Encoding.{encoding}
 use Rattle.client_state.specs.declared.client_state.ClientState.{ClientState}
@@ -19,7 +19,7 @@ use Rattle.client_steps.specs.Soundness.{IsLawfulManifest}
 use Rattle.client_steps.specs.Steps.{Step, writing_manifest, done, step}
 use Rattle.client_steps.specs.WrittenManifests.{MakesAgain, IsWritten, ManifestsAreMadeAgain}
 use Rattle.client_steps.proofs.LinkedManifests.{manifest_linked}
-use Rattle.client_steps.proofs.Trees.{value_of_tree}
+use Rattle.json_tree.proofs.Trees.{same_values}
 
 makes_again : (m : Manifest) → IsLinked m → MakesAgain (text_of (single m)) m
 unfolding manifest_of
@@ -39,7 +39,7 @@ answered-in : (s : ClientState) (session : Session) (manifest : Option Manifest)
 answered-in s session None tree set lawful is = absurd cc
 answered-in s session (Some m) tree set lawful is =
     let same : tree_from (single m) ≡ tree = answered (nat_lt max_size (length (encoding s))) s session (length (encoding s)) (tree_from (single m)) tree (done s session (writing_manifest s session (Some m))) refl is in
-    written session m tree set (manifest_linked lawful.files lawful.first lawful.channel m lawful.links) (ap json_of (sym same) ∙ value_of_tree (single m))
+    written session m tree set (manifest_linked lawful.files lawful.first lawful.channel m lawful.links) (ap json_of (sym same) ∙ same_values (single m))
 
 pub made_again : ManifestsAreMadeAgain
 unfolding step

@@ -49,7 +49,7 @@ use Rattle.client_steps.specs.declared.session.Session.{Session}
 use Rattle.client_steps.specs.Choosing.{first_taker}
 use Rattle.client_steps.specs.Fetching.{file_tree}
 use Rattle.client_steps.specs.Manifests.{manifest_of}
-use Rattle.fml_reader.specs.Trees.{tree_from}
+use Rattle.json_tree.specs.Inverse.{tree_from}
 use Rattle.client_steps.specs.Sessions.{with_manifest, with_context, with_bindings}
 use Rattle.client_steps.specs.Settings.{Setting}
 

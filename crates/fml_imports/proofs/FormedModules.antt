@@ -14,7 +14,7 @@ use Rattle.fml_types.specs.declared.manifest.FeatureDefinition.{FeatureDefinitio
 use Rattle.fml_types.specs.declared.manifest.Field.{Field}
 use Rattle.fml_types.specs.declared.manifest.ObjectDefinition.{ObjectDefinition}
 use Rattle.fml_reader.specs.Outcome.{◌>>=◌, under}
-use Rattle.fml_reader.specs.Trees.{tree_from}
+use Rattle.json_tree.specs.Inverse.{tree_from}
 use Rattle.fml_reader.specs.Imports.{overrides_of, import_of, imports_of}
 use Rattle.fml_reader.specs.Values.{object_in, text_in, truth_in, value_in, is_key}
 use Rattle.fml_reader.specs.Walks.{each_item, each_member, members_in, keyed, there, required, optional, first_there, either, in_types}
@@ -30,7 +30,7 @@ use Rattle.fml_imports.proofs.Alls.{all_nil, all_cons}
 use Rattle.fml_imports.proofs.OrderedNames.{ordered}
 use Rattle.fml_imports.proofs.ReadModules.{ok_of, same_ok, under_ok, keyed_ok, needed_ok}
 use Rattle.fml_imports.proofs.Singles.{same_shapes}
-use Rattle.fml_imports.proofs.SoundValues.{of_tree}
+use Rattle.json_tree.proofs.Trees.{same_values}
 use Rattle.fml_imports.proofs.SpelledTypes.{spelled_type}
 
 -- ---- depths of what stands in a value
@@ -116,7 +116,7 @@ members_ok P n test read step x ps within h = absurd cc
 value_short : Reads 59 value_in IsShort
 value_short x t within h =
     let read = keyed_ok (nat_le (length (text_of x)) 65536) (Ok (tree_from x)) t h in
-    let same : x ≡ json_of t = sym (of_tree x) ∙ ap json_of (same_ok (tree_from x) t read.1) in
+    let same : x ≡ json_of t = sym (same_values x) ∙ ap json_of (same_ok (tree_from x) t read.1) in
     record { bytes = subst (λ y. IsTrue (nat_le (length (text_of y)) 65536)) same read.0; levels = subst (λ y. depth y ≤ 59) same within }
 
 default_short : Reads 59 (there value_in) IsShortDefault

@@ -17,7 +17,7 @@ use Rattle.fml_types.specs.declared.manifest.FeatureDefinition.{FeatureDefinitio
 use Rattle.fml_types.specs.declared.manifest.DefaultEntry.{DefaultEntry}
 use Rattle.fml_types.specs.declared.manifest.Field.{Field}
 use Rattle.fml_reader.specs.Outcome.{◌>>=◌, needed, under}
-use Rattle.fml_reader.specs.Trees.{tree_from}
+use Rattle.json_tree.specs.Inverse.{tree_from}
 use Rattle.fml_reader.specs.Imports.{overrides_of, import_of, imports_of}
 use Rattle.fml_reader.specs.Values.{object_in, text_in, truth_in, value_in, is_key}
 use Rattle.fml_reader.specs.Walks.{each_item, each_member, members_in, keyed, there, required, optional, first_there, either, in_types}
@@ -30,7 +30,8 @@ use Rattle.fml_reader.specs.declared.module.Module.{Module}
 use Rattle.fml_imports.specs.Sound.{IsReadField, AreReadFields, HaveVariants, HaveReadFields, HaveSoundOverrides, IsRead, IsReadModule}
 use Rattle.fml_imports.proofs.Alls.{all_nil, all_cons, all_map}
 use Rattle.fml_imports.proofs.Singles.{spelled_single, same_shapes}
-use Rattle.fml_imports.proofs.SoundValues.{IsSoundOption, get_sound, of_tree}
+use Rattle.json_tree.proofs.Trees.{same_values}
+use Rattle.fml_imports.proofs.SoundValues.{IsSoundOption, get_sound}
 
 pub ok_of : {A B : Type 0} (r : Result A ModuleRefusal) (f : A → Result B ModuleRefusal) (b : B) → (r >>= f) ≡ Ok b → (a : A) × (r ≡ Ok a) × (f a ≡ Ok b)
 ok_of (Ok a) f b h = (a, refl, h)
@@ -89,7 +90,7 @@ members_ok P test read step (member k x ms) ps sound h =
 pub value_sound : (x : Json) (t : Tree) → IsSound x → value_in x ≡ Ok t → IsSound (json_of t)
 value_sound x t sound h =
     let read = keyed_ok (nat_le (length (text_of x)) 65536) (Ok (tree_from x)) t h in
-    subst IsSound (sym (of_tree x) ∙ ap json_of (same_ok (tree_from x) t read.1)) sound
+    subst IsSound (sym (same_values x) ∙ ap json_of (same_ok (tree_from x) t read.1)) sound
 
 pub default_sound : (x : Json) (d : Option Tree) → IsSound x → there value_in x ≡ Ok d → IsSoundDefault d
 default_sound x d sound h =

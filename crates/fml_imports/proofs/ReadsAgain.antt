@@ -15,7 +15,7 @@ use Rattle.fml_types.specs.declared.manifest.Field.{Field}
 use Rattle.fml_types.specs.declared.manifest.Manifest.{Manifest}
 use Rattle.fml_types.specs.declared.manifest.ObjectDefinition.{ObjectDefinition}
 use Rattle.fml_reader.specs.Outcome.{◌>>=◌, bad, needed, under}
-use Rattle.fml_reader.specs.Trees.{tree_from}
+use Rattle.json_tree.specs.Inverse.{tree_from, tree_from-json_of}
 use Rattle.fml_reader.specs.Values.{text_in, value_in, is_key}
 use Rattle.fml_reader.specs.Walks.{each_item, each_member, members_in, keyed, there}
 use Rattle.fml_reader.specs.Fields.{type_in, field_of, fields_of, variant_of, some_there, enum_of, enums_of, object_of, objects_of}
@@ -23,7 +23,6 @@ use Rattle.fml_reader.specs.Features.{texts_of, in_order, both, entry_of, entrie
 use Rattle.fml_reader.specs.Modules.{definitions_of, module_of}
 use Rattle.fml_reader.specs.declared.fault.ModuleRefusal.{ModuleRefusal}
 use Rattle.fml_reader.specs.declared.module.Module.{Module}
-use Rattle.fml_reader.proofs.SameTrees.{same_trees}
 use Rattle.fml_reader.proofs.Types.{same_types}
 use Rattle.fml_imports.specs.Single.{type_text, members_json, by_name_json, list_json, variant_json, enum_json, field_json, definition_json, entry_json, feature_json, single}
 use Rattle.fml_imports.specs.WellFormed.{IsSpelledType, IsShort, IsShortDefault, IsWellFormedField, AreWellFormedFields, AreInOrder, IsWellFormedEntry, IsWellFormedEnum, IsWellFormedObject, IsWellFormedFeature, IsWellFormed}
@@ -69,7 +68,7 @@ type_again : (t : FieldType) → IsSpelledType (shape_of t) → type_in (json.te
 type_again t of_text = ap (λ o. needed (option_map type_from o)) (spelled_again (shape_of t) of_text) ∙ ap done (same_types t)
 
 value_again : (t : Tree) → IsShort t → value_in (json_of t) ≡ done t
-value_again t short = ap (λ (c : Bool). cond c (done (tree_from (json_of t))) bad) short.bytes ∙ ap done (same_trees t)
+value_again t short = ap (λ (c : Bool). cond c (done (tree_from (json_of t))) bad) short.bytes ∙ ap done (tree_from-json_of t)
 
 there_again : {A : Type 0} (read : Json → Result A ModuleRefusal) (x : Json) (a : A) → read x ≡ done a → there read x ≡ done (Some a)
 there_again read x a again = bind_known (read x) a (λ b. Ok (Some b)) again

@@ -1,9 +1,7 @@
 -- What stands in sound JSON values.
-use Rattle.std.proofs.Common.{◌≡◌, ℕ, Bool, true, false, List, Option, Some, None, refl, ap}
+use Rattle.std.proofs.Common.{ℕ, Bool, true, false, List, Option, Some, None}
 use Rattle.std.specs.Prelude.{⊤, bytes_eq, if◌then◌else◌}
-use Rattle.json_tree.specs.Json.{Json, null, truth, whole, odd, text, list, object, Items, no_items, item, Members, no_members, member, items_of, members_of, get, get_member, IsSound, AreSoundMembers}
-use Rattle.json_tree.specs.Tree.{json_of}
-use Rattle.fml_reader.specs.Trees.{items_from, members_from, tree_from}
+use Rattle.json_tree.specs.Json.{Json, null, truth, whole, odd, text, list, object, Items, no_items, item, Members, no_members, member, get, get_member, IsSound, AreSoundMembers}
 
 abbrev pub IsSoundOption : Option Json → Type 0
 IsSoundOption None = ⊤
@@ -26,21 +24,3 @@ get_sound k odd sound = tt
 get_sound k (text s) sound = tt
 get_sound k (list xs) sound = tt
 get_sound k (object ms) sound = member_sound k ms sound
-
-items_same : (xs : Items) → items_of (items_from xs) ≡ xs
-items_same no_items = refl
-items_same (item x xs) = ap (item x) (items_same xs)
-
-members_same : (ms : Members) → members_of (members_from ms) ≡ ms
-members_same no_members = refl
-members_same (member k x ms) = ap (member k x) (members_same ms)
-
--- the tree of a value is that value
-pub of_tree : (x : Json) → json_of (tree_from x) ≡ x
-of_tree null = refl
-of_tree (truth b) = refl
-of_tree (whole n) = refl
-of_tree odd = refl
-of_tree (text s) = refl
-of_tree (list xs) = ap list (items_same xs)
-of_tree (object ms) = ap object (members_same ms)

@@ -1,4 +1,3 @@
-pub mod SameTrees
 pub mod Unders
 pub mod Steps
 pub mod Rising

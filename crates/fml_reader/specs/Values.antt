@@ -3,7 +3,7 @@ use Rattle.std.specs.Prelude.{ℕ, ◌&&◌, nat_le, Bool, List as Seq, length, 
 use Rattle.json_tree.specs.Json.{Json, truth, text, object}
 use Rattle.json_tree.specs.Bytes.{text_of}
 use Rattle.json_tree.specs.declared.tree.Tree.{Tree}
-use Rattle.fml_reader.specs.Trees.{tree_from}
+use Rattle.json_tree.specs.Inverse.{tree_from}
 use Rattle.fml_reader.specs.Outcome.{bad}
 use Rattle.fml_reader.specs.declared.fault.ModuleRefusal.{ModuleRefusal}
 

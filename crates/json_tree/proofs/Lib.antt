@@ -1,4 +1,5 @@
 pub mod Growing
+pub mod Trees
 pub mod Converting
 pub mod OfData
 pub mod ToData

@@ -15,7 +15,7 @@ use Rattle.fml_types.specs.declared.manifest.TypeTable.{TypeTable}
 use Rattle.fml_value.specs.Takes.{takes}
 use Rattle.recipe_reader.specs.Outcome.{only_if}
 use Rattle.recipe_reader.specs.Payloads.{slug_cmp}
-use Rattle.recipe_reader.specs.Trees.{tree_from}
+use Rattle.json_tree.specs.Inverse.{tree_from}
 use Rattle.recipe_reader.specs.declared.recipe.Branch.{Branch}
 use Rattle.recipe_reader.specs.declared.recipe.Recipe.{Recipe}
 use Rattle.pref_bindings.specs.declared.bindings.Binding.{Binding}

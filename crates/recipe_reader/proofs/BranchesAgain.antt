@@ -11,12 +11,12 @@ use Rattle.recipe_reader.specs.declared.recipe.SkipReason.TheVariants.{BadBranch
 use Rattle.recipe_reader.specs.declared.recipe.Branch.{Branch}
 use Rattle.recipe_reader.specs.declared.recipe.FeatureValue.{FeatureValue}
 use Rattle.recipe_reader.specs.Outcome.{◌>>=◌, needed, checked, only_if}
-use Rattle.recipe_reader.specs.Trees.{tree_from}
+use Rattle.json_tree.specs.Inverse.{tree_from}
 use Rattle.recipe_reader.specs.Values.{text_at, count_at, present}
 use Rattle.recipe_reader.specs.Parts.{slug_in}
 use Rattle.recipe_reader.specs.Branches.{each, items_len, are_distinct, is_feature_value, value_of, feature_of, is_feature_count, features_of, single, listed, branch_of, ratio_sum, is_branch_count, branches_of}
 use Rattle.recipe_reader.specs.Records.{feature_json, branch_json}
-use Rattle.recipe_reader.proofs.Trees.{same_values}
+use Rattle.json_tree.proofs.Trees.{same_values}
 use Rattle.recipe_reader.proofs.Steps.{ok_is, needed_ok, only_if_ok, slug_ok, slug_there, count_ok, count_there}
 
 -- ---- lists

@@ -12,7 +12,7 @@ use Rattle.recipe_reader.specs.declared.recipe.SkipReason.TheVariants.{BadBucket
 use Rattle.recipe_reader.specs.declared.recipe.Branch.{Branch}
 use Rattle.recipe_reader.specs.declared.recipe.FeatureValue.{FeatureValue}
 use Rattle.recipe_reader.specs.Outcome.{◌>>=◌, needed, only_if}
-use Rattle.recipe_reader.specs.Trees.{tree_from}
+use Rattle.json_tree.specs.Inverse.{tree_from}
 use Rattle.recipe_reader.specs.Values.{text_at, count_at, is_slug, is_sized, present}
 use Rattle.recipe_reader.specs.Parts.{slug_in, sized_text, bucket_of, bucket_in}
 use Rattle.recipe_reader.specs.Branches.{each, are_distinct, is_feature_value, value_of, feature_of, is_feature_count, features_of, single, listed, branch_of, ratio_sum, is_branch_count, branches_of, as_list, branches_in}

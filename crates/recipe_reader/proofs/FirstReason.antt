@@ -13,7 +13,7 @@ use Rattle.json_tree.specs.declared.tree.Tree.{Tree}
 use Rattle.recipe_reader.specs.declared.recipe.SkipReason.{SkipReason}
 use Rattle.recipe_reader.specs.declared.recipe.SkipReason.TheVariants.{NotAnObject, BadSlug, BadSchema, BadField, BadBucket, BadBranches}
 use Rattle.recipe_reader.specs.Outcome.{◌>>=◌, needed, checked, only_if}
-use Rattle.recipe_reader.specs.Trees.{tree_from}
+use Rattle.json_tree.specs.Inverse.{tree_from}
 use Rattle.recipe_reader.specs.Values.{text_at, count_at, is_object, is_slug, is_schema, optional_text, optional_truth, truth_or_absent, present}
 use Rattle.recipe_reader.specs.Parts.{object_in, slug_in, schema_in, fields_in, sized_text, bucket_of, bucket_in}
 use Rattle.recipe_reader.specs.Branches.{each, value_of, is_feature_value, feature_of, is_feature_count, features_of, single, listed, branch_of, is_branch_count, branches_of, as_list, branches_in}

@@ -1,5 +1,4 @@
 pub mod Schemas
-pub mod Trees
 pub mod Copies
 pub mod Ratios
 pub mod Loops

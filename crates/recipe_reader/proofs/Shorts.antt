@@ -14,12 +14,12 @@ use Rattle.recipe_reader.specs.declared.recipe.Recipe.{Recipe}
 use Rattle.recipe_reader.specs.declared.recipe.Branch.{Branch}
 use Rattle.recipe_reader.specs.declared.recipe.FeatureValue.{FeatureValue}
 use Rattle.recipe_reader.specs.Outcome.{only_if}
-use Rattle.recipe_reader.specs.Trees.{tree_from}
+use Rattle.json_tree.specs.Inverse.{tree_from}
 use Rattle.recipe_reader.specs.Values.{text_at, count_at, is_object, present}
 use Rattle.recipe_reader.specs.Parts.{object_in, slug_in, schema_in, fields_in, bucket_in}
 use Rattle.recipe_reader.specs.Branches.{each, items_len, is_feature_value, value_of, feature_of, is_feature_count, features_of, listed, branch_of, is_branch_count, branches_of, branches_in}
 use Rattle.recipe_reader.specs.Records.{recipe_of, IsValid, feature_json, record_json}
-use Rattle.recipe_reader.proofs.Trees.{same_values}
+use Rattle.json_tree.proofs.Trees.{same_values}
 use Rattle.recipe_reader.proofs.Steps.{ok_is, needed_ok, only_if_ok}
 use Rattle.recipe_reader.proofs.BranchesAgain.{one_more, feature_parts, list_parts, listed_again, branch_parts, feature_test, branch_test}
 use Rattle.recipe_reader.proofs.Again.{recipe_parts, branches_in_ok}

@@ -13,13 +13,13 @@ use Rattle.recipe_reader.specs.declared.recipe.Bucket.{Bucket}
 use Rattle.recipe_reader.specs.declared.recipe.Branch.{Branch}
 use Rattle.recipe_reader.specs.declared.recipe.FeatureValue.{FeatureValue}
 use Rattle.recipe_reader.specs.Outcome.{needed, only_if}
-use Rattle.recipe_reader.specs.Trees.{tree_from}
+use Rattle.json_tree.specs.Inverse.{tree_from}
 use Rattle.recipe_reader.specs.Values.{text_at, as_count, count_at, present, optional_text, truth_or_absent, optional_truth, kept_if, has_bytes, has_more_than_blanks, is_moment, is_sized}
 use Rattle.recipe_reader.specs.Parts.{object_in, slug_in, schema_in, fields_in, sized_text, bucket_of, bucket_in}
 use Rattle.recipe_reader.specs.Branches.{each, is_feature_value, value_of, feature_of, is_feature_count, features_of, single, listed, branch_of, is_branch_count, branches_of, as_list, branches_in}
 use Rattle.recipe_reader.specs.Records.{recipe_of}
 use Rattle.recipe_reader.specs.Stated.{text_with, is_true, AreEach, IsBucketOf, IsFeatureOf, feature_items, IsBranchOf, RecipesAreStated}
-use Rattle.recipe_reader.proofs.Trees.{same_values}
+use Rattle.json_tree.proofs.Trees.{same_values}
 use Rattle.recipe_reader.proofs.Steps.{ok_is, bind_ok, needed_ok, only_if_ok}
 use Rattle.recipe_reader.proofs.FieldsAgain.{fields_of_parts, bucket_parts}
 use Rattle.recipe_reader.proofs.BranchesAgain.{one_more, feature_parts, list_parts, branch_parts, feature_test, branch_test}

@@ -1,5 +1,4 @@
 pub mod Outcome
-pub mod Trees
 pub mod Values
 pub mod Parts
 pub mod Branches
