@@ -12,5 +12,4 @@ pub mod Enrolments
 pub mod Holdings
 pub mod Answered
 pub mod Alls
-pub mod Rising
 pub mod SoundEnrolments

@@ -6,15 +6,13 @@ use Rattle.std.specs.Ordering.{nat_cmp, ordering_reverse, is_eq, is_lt}
 use Rattle.std.specs.Cmp.Lexicographic.{slice_cmp}
 use Rattle.std.proofs.lemmas.Cmp.{nat_list_cmp_total}
 use Rattle.std.proofs.lemmas.Map.Text.{is_eq-slice_cmp}
+use Rattle.sequences.proofs.Texts.{turned_down}
 use Rattle.fml_types.specs.Named.{IsAbove, IsBelow, AreRising, IsPlace, found, has_name, place, with_name}
 
 pub below_at : {T : Type 0} (a : List ℕ) (ps : List (List ℕ × T)) (i : ℕ) (d : List ℕ × T) → i < length ps → IsBelow a ps → slice_cmp nat_cmp a (get_or ps i d).0 ≡ Less
 below_at a [] i d lt below = absurd (omega arith)
 below_at a (p ∷ ps) zero d lt below = below.0
 below_at a (p ∷ ps) (suc i) d lt below = below_at a ps i d (omega arith) below.1
-
-pub turned : (a b : List ℕ) → slice_cmp nat_cmp a b ≡ Greater → slice_cmp nat_cmp b a ≡ Less
-turned a b h = nat_list_cmp_total.antisymm b a ∙ ap ordering_reverse h
 
 -- the place of a name that is there
 pub place_at : {T : Type 0} (s : List ℕ) (ps : List (List ℕ × T)) (i : ℕ) (d : List ℕ × T) → i < length ps → AreRising ps → slice_cmp nat_cmp (get_or ps i d).0 s ≡ Equal → place s ps ≡ Some i
@@ -25,7 +23,7 @@ place_at s (p ∷ ps) zero d lt rising h =
 place_at s (p ∷ ps) (suc i) d lt rising h =
     let here = (get_or ps i d).0 in
     let above : slice_cmp nat_cmp here p.0 ≡ Greater = nat_list_cmp_total.antisymm here p.0 ∙ ap ordering_reverse (below_at p.0 ps i d (omega arith) rising.0) in
-    let less : slice_cmp nat_cmp p.0 s ≡ Less = turned s p.0 (sym (nat_list_cmp_total.congr here s p.0 h) ∙ above) in
+    let less : slice_cmp nat_cmp p.0 s ≡ Less = turned_down s p.0 (sym (nat_list_cmp_total.congr here s p.0 h) ∙ above) in
     let other : bytes_eq p.0 s ≡ false = sym (is_eq-slice_cmp p.0 s) ∙ ap is_eq less in
     ap (λ b. if b then Some 0 else option_map suc (place s ps)) other ∙ ap (option_map suc) (place_at s ps i d (omega arith) rising.1 h)
 

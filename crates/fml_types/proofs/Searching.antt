@@ -1,12 +1,12 @@
 -- What a binary search finds among names that rise.
-use Rattle.std.proofs.Common.{Ordering, ◌≡◌, ℕ, zero, suc, ◌<◌, ◌≤◌, List, [], ◌∷◌, length, get_or, take, drop, Some, Result, Ok, Err, IfOk, IfErr, Less, Equal, Greater, inl, inr, refl, sym, ◌∙◌, subst, arith}
-use Rattle.std.proofs.lemmas.Bool.{cases_lt}
-use Rattle.std.specs.Cmp.{alike_right}
-use Rattle.std.specs.Cmp.Lexicographic.{slice_cmp, nat_list_cmp_total}
+use Rattle.std.proofs.Common.{Ordering, ◌≡◌, ℕ, zero, suc, ◌<◌, ◌≤◌, List, [], ◌∷◌, length, get_or, take, drop, Some, Result, Ok, Err, IfOk, IfErr, Less, Greater, arith}
+use Rattle.std.specs.Cmp.Lexicographic.{slice_cmp}
 use Rattle.std.specs.List.Sorted.{IsNonDecreasingBy, IsBinarySearchResult, IsSearchInRange}
 use Rattle.std.specs.Ordering.{nat_cmp, ordering_index}
+use Rattle.sequences.proofs.Searching.{non_decreasing}
+use Rattle.sequences.proofs.Texts.{turned_down}
 use Rattle.fml_types.specs.Named.{IsAbove, IsBelow, AreRising, IsPlace, place}
-use Rattle.fml_types.proofs.Places.{below_at, turned, place_at}
+use Rattle.fml_types.proofs.Places.{below_at, place_at}
 
 -- how the pair's name compares with this one
 abbrev pub name_order : {T : Type 0} → List ℕ → List ℕ × T → Ordering
@@ -18,22 +18,8 @@ rises (p ∷ ps) i zero d less h rising = absurd (omega arith)
 rises (p ∷ ps) zero (suc j) d less h rising = below_at p.0 ps j d (omega arith) rising.0
 rises (p ∷ ps) (suc i) (suc j) d less h rising = rises ps i j d (omega arith) (omega arith) rising.1
 
-index_most : (o : Ordering) → ordering_index o ≤ 2
-index_most Less = omega arith
-index_most Equal = omega arith
-index_most Greater = omega arith
-
-index_rises : (a b name : List ℕ) (o : Ordering) → slice_cmp nat_cmp b name ≡ o → slice_cmp nat_cmp a b ≡ Less → ordering_index (slice_cmp nat_cmp a name) ≤ ordering_index o
-index_rises a b name Less e less = rw (nat_list_cmp_total.trans a b name less e) (omega arith)
-index_rises a b name Equal e less = let first : slice_cmp nat_cmp a name ≡ Less = sym (alike_right nat_list_cmp_total b name a e) ∙ less in rw first (omega arith)
-index_rises a b name Greater e less = index_most (slice_cmp nat_cmp a name)
-
-non_decreasing : {T : Type 0} (name : List ℕ) (ps : List (List ℕ × T)) → AreRising ps → IsNonDecreasingBy (λ p. ordering_index (name_order name p)) ps
-non_decreasing name ps rising i j d most h =
-    elim (cases_lt i j) [
-      | inl less ↦ index_rises (get_or ps i d).0 (get_or ps j d).0 name _ refl (rises ps i j d less h rising)
-      | inr least ↦ let same : i ≡ j = omega arith in subst (λ k. ordering_index (name_order name (get_or ps i d)) ≤ ordering_index (name_order name (get_or ps k d))) same (omega arith)
-    ]
+can_search : {T : Type 0} (name : List ℕ) (ps : List (List ℕ × T)) → AreRising ps → IsNonDecreasingBy (λ p. ordering_index (name_order name p)) ps
+can_search {T} name ps rising = non_decreasing (λ (p : List ℕ × T). p.0) name ps (λ i j d less h. rises ps i j d less h rising)
 
 above_all : {T : Type 0} (name : List ℕ) (ps : List (List ℕ × T)) (i : ℕ) → i ≤ length ps → ((j : ℕ) (d : List ℕ × T) → j < i → name_order name (get_or ps j d) ≡ Less) → IsAbove name (take i ps)
 above_all name ps zero h before = tt
@@ -43,7 +29,7 @@ above_all name (p ∷ ps) (suc i) h before = (before 0 p (omega arith), above_al
 below_all : {T : Type 0} (name : List ℕ) (ps : List (List ℕ × T)) (i : ℕ) → ((j : ℕ) (d : List ℕ × T) → i ≤ j → j < length ps → name_order name (get_or ps j d) ≡ Greater) → IsBelow name (drop i ps)
 below_all name [] zero after = tt
 below_all name [] (suc i) after = tt
-below_all name (p ∷ ps) zero after = (turned p.0 name (after 0 p (omega arith) (omega arith)), below_all name ps zero (λ j d most less. after (suc j) d (omega arith) (omega arith)))
+below_all name (p ∷ ps) zero after = (turned_down p.0 name (after 0 p (omega arith) (omega arith)), below_all name ps zero (λ j d most less. after (suc j) d (omega arith) (omega arith)))
 below_all name (p ∷ ps) (suc i) after = below_all name ps i (λ j d most less. after (suc j) d (omega arith) (omega arith))
 
 -- what a binary search answers is where the name stands, or where it belongs
@@ -52,5 +38,5 @@ pub searched : {T : Type 0} (name : List ℕ) (ps : List (List ℕ × T)) (r : R
 searched name [] (Ok i) rising within here = absurd (omega arith)
 searched name (p ∷ ps) (Ok i) rising within here = (place_at name (p ∷ ps) i p within rising (here p), tt)
 searched name ps (Err i) rising within nowhere =
-    let point = nowhere (non_decreasing name ps rising) in
+    let point = nowhere (can_search name ps rising) in
     (tt, (within, above_all name ps i within (λ j d less. point.0 j d (omega arith) less), below_all name ps i point.1))

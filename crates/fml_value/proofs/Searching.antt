@@ -1,13 +1,14 @@
 -- A name among names that rise.
-use Rattle.std.proofs.Common.{Ordering, ◌≡◌, ◌≢◌, ℕ, zero, suc, ◌<◌, ◌≤◌, List, [], ◌∷◌, ◌++◌, map, length, get_or, take, drop, set, true, false, None, option_map, slice_get, Result, Ok, Err, Less, Equal, Greater, inl, inr, refl, sym, ap, ◌∙◌, subst, arith}
+use Rattle.std.proofs.Common.{Ordering, ◌≡◌, ◌≢◌, ℕ, zero, suc, ◌<◌, ◌≤◌, List, [], ◌∷◌, ◌++◌, map, length, get_or, take, drop, set, None, option_map, slice_get, Result, Ok, Err, Less, Equal, Greater, inl, inr, refl, ap, ◌∙◌, subst, arith}
 use Rattle.std.proofs.lemmas.List.{length-map}
-use Rattle.std.specs.Prelude.{bytes_eq, if◌then◌else◌}
-use Rattle.std.specs.Cmp.{alike_right}
 use Rattle.std.proofs.lemmas.Cmp.{tied_itself}
-use Rattle.std.specs.Cmp.Lexicographic.{slice_cmp, nat_list_cmp_total, texts_ties, bytes_decides}
+use Rattle.std.specs.Cmp.Lexicographic.{slice_cmp, nat_list_cmp_total, bytes_decides}
+use Rattle.std.specs.Prelude.{if◌then◌else◌}
 use Rattle.std.specs.List.Sorted.{IsNonDecreasingBy, IsBinarySearchResult, IsSearchInRange}
-use Rattle.std.specs.Ordering.{nat_cmp, ordering_index, ordering_reverse, is_eq}
-use Rattle.std.proofs.lemmas.Bool.{cases_lt, false_from_ne_true}
+use Rattle.std.specs.Ordering.{nat_cmp, ordering_index}
+use Rattle.std.proofs.lemmas.Bool.{cases_lt}
+use Rattle.sequences.proofs.Searching.{non_decreasing}
+use Rattle.sequences.proofs.Texts.{same_texts, lesser_texts, other_texts, turned_up, turned_down}
 use Rattle.fml_types.specs.Named.{found, AreRising}
 use Rattle.fml_value.specs.Entries.{beside, with_entry, replaced, IsPlace}
 use Rattle.fml_value.specs.Typed.{TypedValue}
@@ -19,24 +20,10 @@ use Rattle.fml_value.proofs.Ordered.{below_at}
 abbrev pub key_order : List ℕ → List ℕ × Value → Ordering
 key_order key e = slice_cmp nat_cmp e.0 key
 
-equal_keys : (a b : List ℕ) → slice_cmp nat_cmp a b ≡ Equal → bytes_eq a b ≡ true
-equal_keys a b e = texts_ties a b ∙ ap is_eq e
-
-lesser_key : (a b : List ℕ) → slice_cmp nat_cmp a b ≡ Less → bytes_eq a b ≡ false
-lesser_key a b e = texts_ties a b ∙ ap is_eq e
-
-is_eq-Equal : (o : Ordering) → is_eq o ≡ true → o ≡ Equal
-is_eq-Equal Less e = absurd (cc)
-is_eq-Equal Equal e = refl
-is_eq-Equal Greater e = absurd (cc)
-
-other_key : (a b : List ℕ) → (slice_cmp nat_cmp a b ≢ Equal) → bytes_eq a b ≡ false
-other_key a b other = false_from_ne_true (bytes_eq a b) (λ same. other (is_eq-Equal _ (sym (texts_ties a b) ∙ same)))
-
 -- where no key is this one, `get` finds none
 found-none : (key : List ℕ) (es : List (List ℕ × Value)) → ((i : ℕ) (d : List ℕ × Value) → i < length es → key_order key (get_or es i d) ≢ Equal) → found key (map entry_of es) ≡ None
 found-none key [] h = refl
-found-none key (e ∷ es) h = rw (other_key e.0 key (h 0 e (omega arith))) (found-none key es (λ i d less. h (suc i) d (omega arith)))
+found-none key (e ∷ es) h = rw (other_texts e.0 key (h 0 e (omega arith))) (found-none key es (λ i d less. h (suc i) d (omega arith)))
 
 rises : (es : List (List ℕ × Value)) (i j : ℕ) (d : List ℕ × Value) → i < j → j < length es → AreRising (map entry_of es) → slice_cmp nat_cmp (get_or es i d).0 (get_or es j d).0 ≡ Less
 rises [] i j d less h rising = absurd (omega arith)
@@ -44,22 +31,8 @@ rises (e ∷ es) i zero d less h rising = absurd (omega arith)
 rises (e ∷ es) zero (suc j) d less h rising = below_at e.0 es j d (omega arith) rising.0
 rises (e ∷ es) (suc i) (suc j) d less h rising = rises es i j d (omega arith) (omega arith) rising.1
 
-index_most : (o : Ordering) → ordering_index o ≤ 2
-index_most Less = omega arith
-index_most Equal = omega arith
-index_most Greater = omega arith
-
-index_rises : (a b key : List ℕ) (o : Ordering) → slice_cmp nat_cmp b key ≡ o → slice_cmp nat_cmp a b ≡ Less → ordering_index (slice_cmp nat_cmp a key) ≤ ordering_index o
-index_rises a b key Less e less = rw (nat_list_cmp_total.trans a b key less e) (omega arith)
-index_rises a b key Equal e less = let first : slice_cmp nat_cmp a key ≡ Less = sym (alike_right nat_list_cmp_total b key a e) ∙ less in rw first (omega arith)
-index_rises a b key Greater e less = index_most (slice_cmp nat_cmp a key)
-
-non_decreasing : (key : List ℕ) (es : List (List ℕ × Value)) → AreRising (map entry_of es) → IsNonDecreasingBy (λ e. ordering_index (key_order key e)) es
-non_decreasing key es rising i j d most h =
-    elim (cases_lt i j) [
-      | inl less ↦ index_rises (get_or es i d).0 (get_or es j d).0 key _ refl (rises es i j d less h rising)
-      | inr least ↦ let same : i ≡ j = omega arith in subst (λ k. ordering_index (key_order key (get_or es i d)) ≤ ordering_index (key_order key (get_or es k d))) same (omega arith)
-    ]
+can_search : (key : List ℕ) (es : List (List ℕ × Value)) → AreRising (map entry_of es) → IsNonDecreasingBy (λ e. ordering_index (key_order key e)) es
+can_search key es rising = non_decreasing (λ (e : List ℕ × Value). e.0) key es (λ i j d less h. rises es i j d less h rising)
 
 less≢equal : (o : Ordering) → o ≡ Less → o ≢ Equal
 less≢equal o e f = cc
@@ -70,19 +43,13 @@ greater≢equal o e f = cc
 -- what a binary search that finds no member says
 pub found-absent : (key : List ℕ) (es : List (List ℕ × Value)) (i : ℕ) → AreRising (map entry_of es) → IsBinarySearchResult (key_order key) es (Err i) → found key (map entry_of es) ≡ None
 found-absent key es i rising h =
-    let point = h (non_decreasing key es rising) in
+    let point = h (can_search key es rising) in
     found-none key es (λ j d less. elim (cases_lt j i) [
       | inl before ↦ less≢equal _ (point.0 j d (omega arith) before)
       | inr after ↦ greater≢equal _ (point.1 j d after less)
     ])
 
 -- ---- where a name gets its value
-
-after_lesser : (a b : List ℕ) → slice_cmp nat_cmp a b ≡ Less → slice_cmp nat_cmp b a ≡ Greater
-after_lesser a b less = nat_list_cmp_total.antisymm b a ∙ ap ordering_reverse less
-
-before_greater : (a b : List ℕ) → slice_cmp nat_cmp a b ≡ Greater → slice_cmp nat_cmp b a ≡ Less
-before_greater a b greater = nat_list_cmp_total.antisymm b a ∙ ap ordering_reverse greater
 
 with_entry-at : (key : List ℕ) (x : TypedValue) (es : List (List ℕ × Value)) (i : ℕ) (d : List ℕ × Value) → i < length es → AreRising (map entry_of es) → (get_or es i d).0 ≡ key
     → with_entry key x (map entry_of es) ≡ set (map entry_of es) i (key, x)
@@ -92,7 +59,7 @@ with_entry-at key x (e ∷ es) zero d h rising same =
     ap (λ o. beside o (key, x) (entry_of e) (map entry_of es) (with_entry key x (map entry_of es))) tied
 with_entry-at key x (e ∷ es) (suc i) d h rising same =
     let below : slice_cmp nat_cmp e.0 key ≡ Less = subst (λ k. slice_cmp nat_cmp e.0 k ≡ Less) same (below_at e.0 es i d (omega arith) rising.0) in
-    ap (λ o. beside o (key, x) (entry_of e) (map entry_of es) (with_entry key x (map entry_of es))) (after_lesser e.0 key below)
+    ap (λ o. beside o (key, x) (entry_of e) (map entry_of es) (with_entry key x (map entry_of es))) (turned_up e.0 key below)
     ∙ ap (λ l. entry_of e ∷ l) (with_entry-at key x es i d (omega arith) rising.1 same)
 
 with_entry-between : (key : List ℕ) (x : TypedValue) (es : List (List ℕ × Value)) (i : ℕ) → i ≤ length es
@@ -101,9 +68,9 @@ with_entry-between : (key : List ℕ) (x : TypedValue) (es : List (List ℕ × V
 with_entry-between key x [] zero h before after = refl
 with_entry-between key x [] (suc i) h before after = absurd (omega arith)
 with_entry-between key x (e ∷ es) zero h before after =
-    ap (λ o. beside o (key, x) (entry_of e) (map entry_of es) (with_entry key x (map entry_of es))) (before_greater e.0 key (after 0 e (omega arith) (omega arith)))
+    ap (λ o. beside o (key, x) (entry_of e) (map entry_of es) (with_entry key x (map entry_of es))) (turned_down e.0 key (after 0 e (omega arith) (omega arith)))
 with_entry-between key x (e ∷ es) (suc i) h before after =
-    ap (λ o. beside o (key, x) (entry_of e) (map entry_of es) (with_entry key x (map entry_of es))) (after_lesser e.0 key (before 0 e (omega arith)))
+    ap (λ o. beside o (key, x) (entry_of e) (map entry_of es) (with_entry key x (map entry_of es))) (turned_up e.0 key (before 0 e (omega arith)))
     ∙ ap (λ l. entry_of e ∷ l) (with_entry-between key x es i (omega arith) (λ j d less. before (suc j) d (omega arith)) (λ j d most less. after (suc j) d (omega arith) (omega arith)))
 
 found-place : (key : List ℕ) (es : List (List ℕ × Value)) (i : ℕ) → i < length es → AreRising (map entry_of es) → ((d : List ℕ × Value) → (get_or es i d).0 ≡ key)
@@ -112,7 +79,7 @@ found-place key [] i h rising same = absurd (omega arith)
 found-place key (e ∷ es) zero h rising same = rw ((bytes_decides e.0 key).1 (same e))
 found-place key (e ∷ es) (suc i) h rising same =
     let below : slice_cmp nat_cmp e.0 key ≡ Less = subst (λ k. slice_cmp nat_cmp e.0 k ≡ Less) (same e) (below_at e.0 es i e (omega arith) rising.0) in
-    rw (lesser_key e.0 key below) (found-place key es i (omega arith) rising.1 same)
+    rw (lesser_texts e.0 key below) (found-place key es i (omega arith) rising.1 same)
 
 with_entry-set : (key : List ℕ) (x : TypedValue) (es : List (List ℕ × Value)) (i : ℕ) → i < length es → AreRising (map entry_of es) → ((d : List ℕ × Value) → (get_or es i d).0 ≡ key)
     → with_entry key x (map entry_of es) ≡ set (map entry_of es) i (key, x)
@@ -125,7 +92,7 @@ replaced-set key x [] i h rising same = absurd (omega arith)
 replaced-set key x (e ∷ es) zero h rising same = ap (λ b. if b then (key, x) ∷ map entry_of es else entry_of e ∷ replaced key x (map entry_of es)) ((bytes_decides e.0 key).1 (same e))
 replaced-set key x (e ∷ es) (suc i) h rising same =
     let below : slice_cmp nat_cmp e.0 key ≡ Less = subst (λ k. slice_cmp nat_cmp e.0 k ≡ Less) (same e) (below_at e.0 es i e (omega arith) rising.0) in
-    ap (λ b. if b then (key, x) ∷ map entry_of es else entry_of e ∷ replaced key x (map entry_of es)) (lesser_key e.0 key below)
+    ap (λ b. if b then (key, x) ∷ map entry_of es else entry_of e ∷ replaced key x (map entry_of es)) (lesser_texts e.0 key below)
     ∙ ap (λ l. entry_of e ∷ l) (replaced-set key x es i (omega arith) rising.1 same)
 
 name-at : (key : List ℕ) (es : List (List ℕ × Value)) (i : ℕ) → i < length es → ((d : List ℕ × Value) → (get_or es i d).0 ≡ key) → (d : List ℕ × TypedValue) → (get_or (map entry_of es) i d).0 ≡ key
@@ -136,7 +103,7 @@ name-at key (e ∷ es) (suc i) h same d = name-at key es i (omega arith) same d
 -- what a binary search answers is the place
 pub place_of : (key : List ℕ) (es : List (List ℕ × Value)) (r : Result ℕ ℕ) → AreRising (map entry_of es) → IsSearchInRange r (length es) → IsBinarySearchResult (key_order key) es r → IsPlace key (map entry_of es) r
 place_of key es (Ok i) rising within here =
-    let same : (d : List ℕ × Value) → (get_or es i d).0 ≡ key = λ d. (bytes_decides (get_or es i d).0 key).0 (equal_keys (get_or es i d).0 key (here d)) in
+    let same : (d : List ℕ × Value) → (get_or es i d).0 ≡ key = λ d. same_texts (get_or es i d).0 key (here d) in
     record {
       within = omega (arith, length-map es entry_of);
       named = name-at key es i within same;
@@ -145,7 +112,7 @@ place_of key es (Ok i) rising within here =
       replacing = λ x. replaced-set key x es i within rising same;
     }
 place_of key es (Err i) rising within nowhere =
-    let point = nowhere (non_decreasing key es rising) in
+    let point = nowhere (can_search key es rising) in
     record {
       within = omega (arith, length-map es entry_of);
       absent = found-absent key es i rising nowhere;

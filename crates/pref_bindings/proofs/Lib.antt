@@ -10,7 +10,6 @@ pub mod OneList
 pub mod Told
 pub mod RowSizes
 pub mod RowOrder
-pub mod Rising
 pub mod Merged
 pub mod Names
 pub mod Read

@@ -5,6 +5,7 @@ use Rattle.std.specs.Ordering.{ordering_reverse, is_eq, is_lt}
 use Rattle.std.specs.List.{insert}
 use Rattle.std.proofs.lemmas.Cmp.{nat_list_cmp_total}
 use Rattle.std.proofs.lemmas.Map.Text.{is_eq-slice_cmp}
+use Rattle.sequences.proofs.Texts.{turned_down}
 use Rattle.recipe_reader.specs.declared.recipe.Recipe.{Recipe}
 use Rattle.recipe_reader.specs.Records.{IsValid}
 use Rattle.recipe_reader.specs.Payloads.{slug_cmp, AreAbove, AreBelow, AreInOrder, AreValid, has_slug, recipe_with, with_recipe, IsPlace}
@@ -13,9 +14,6 @@ pub above_at : (a : List ℕ) (rs : List Recipe) (i : ℕ) (d : Recipe) → i < 
 above_at a [] i d lt above = absurd (omega arith)
 above_at a (r ∷ rs) zero d lt above = above.0
 above_at a (r ∷ rs) (suc i) d lt above = above_at a rs i d (omega arith) above.1
-
-pub turned : (a b : List ℕ) → slug_cmp a b ≡ Greater → slug_cmp b a ≡ Less
-turned a b h = nat_list_cmp_total.antisymm b a ∙ ap ordering_reverse h
 
 or_true : (b : Bool) → (b || true) ≡ true
 or_true true = refl
@@ -37,7 +35,7 @@ with_at s (r ∷ rs) zero d lt order h =
 with_at s (r ∷ rs) (suc i) d lt order h =
     let found = (get_or rs i d).slug in
     let above : slug_cmp found r.slug ≡ Greater = nat_list_cmp_total.antisymm found r.slug ∙ ap ordering_reverse (above_at r.slug rs i d (omega arith) order.0) in
-    let less : slug_cmp r.slug s ≡ Less = turned s r.slug (sym (nat_list_cmp_total.congr found s r.slug h) ∙ above) in
+    let less : slug_cmp r.slug s ≡ Less = turned_down s r.slug (sym (nat_list_cmp_total.congr found s r.slug h) ∙ above) in
     let other : bytes_eq r.slug s ≡ false = sym (is_eq-slice_cmp r.slug s) ∙ ap is_eq less in
     ap (λ b. if b then Some r else recipe_with s rs) other ∙ with_at s rs i d (omega arith) order.1 h
 

@@ -1,14 +1,13 @@
 -- What a binary search among recipes in order by slug says.
-use Rattle.std.proofs.Common.{Ordering, ◌≡◌, ℕ, zero, suc, ◌<◌, ◌≤◌, List, [], ◌∷◌, true, length, get_or, take, drop, Less, Equal, Greater, Result, Ok, Err, inl, inr, refl, sym, ◌∙◌, subst, arith}
+use Rattle.std.proofs.Common.{Ordering, ◌≡◌, ℕ, zero, suc, ◌<◌, ◌≤◌, List, [], ◌∷◌, true, length, get_or, take, drop, Less, Greater, Result, Ok, Err, arith}
 use Rattle.std.specs.Prelude.{IfOk, IfErr, slice_get}
-use Rattle.std.specs.Cmp.{alike_right}
-use Rattle.std.specs.Cmp.Lexicographic.{nat_list_cmp_total}
 use Rattle.std.specs.List.Sorted.{IsNonDecreasingBy, IsBinarySearchResult, IsSearchInRange}
 use Rattle.std.specs.Ordering.{ordering_index}
-use Rattle.std.proofs.lemmas.Bool.{cases_lt}
+use Rattle.sequences.proofs.Searching.{non_decreasing}
+use Rattle.sequences.proofs.Texts.{turned_down}
 use Rattle.recipe_reader.specs.declared.recipe.Recipe.{Recipe}
 use Rattle.recipe_reader.specs.Payloads.{slug_cmp, AreAbove, AreBelow, AreInOrder, has_slug, recipe_with, IsPlace}
-use Rattle.recipe_reader.proofs.Places.{above_at, turned, has_at, with_at}
+use Rattle.recipe_reader.proofs.Places.{above_at, has_at, with_at}
 
 -- how the recipe's slug compares with this one
 abbrev pub slug_order : List ℕ → Recipe → Ordering
@@ -20,22 +19,8 @@ rises (r ∷ rs) i zero d less h order = absurd (omega arith)
 rises (r ∷ rs) zero (suc j) d less h order = above_at r.slug rs j d (omega arith) order.0
 rises (r ∷ rs) (suc i) (suc j) d less h order = rises rs i j d (omega arith) (omega arith) order.1
 
-index_most : (o : Ordering) → ordering_index o ≤ 2
-index_most Less = omega arith
-index_most Equal = omega arith
-index_most Greater = omega arith
-
-index_rises : (a b s : List ℕ) (o : Ordering) → slug_cmp b s ≡ o → slug_cmp a b ≡ Less → ordering_index (slug_cmp a s) ≤ ordering_index o
-index_rises a b s Less e less = rw (nat_list_cmp_total.trans a b s less e) (omega arith)
-index_rises a b s Equal e less = let first : slug_cmp a s ≡ Less = sym (alike_right nat_list_cmp_total b s a e) ∙ less in rw first (omega arith)
-index_rises a b s Greater e less = index_most (slug_cmp a s)
-
-non_decreasing : (s : List ℕ) (rs : List Recipe) → AreInOrder rs → IsNonDecreasingBy (λ r. ordering_index (slug_order s r)) rs
-non_decreasing s rs order i j d most h =
-    elim (cases_lt i j) [
-      | inl less ↦ index_rises (get_or rs i d).slug (get_or rs j d).slug s _ refl (rises rs i j d less h order)
-      | inr least ↦ let same : i ≡ j = omega arith in subst (λ m. ordering_index (slug_order s (get_or rs i d)) ≤ ordering_index (slug_order s (get_or rs m d))) same (omega arith)
-    ]
+can_search : (s : List ℕ) (rs : List Recipe) → AreInOrder rs → IsNonDecreasingBy (λ r. ordering_index (slug_order s r)) rs
+can_search s rs order = non_decreasing (λ (r : Recipe). r.slug) s rs (λ i j d less h. rises rs i j d less h order)
 
 below_of : (s : List ℕ) (rs : List Recipe) (i : ℕ) → ((j : ℕ) (d : Recipe) → j < length rs → j < i → slug_order s (get_or rs j d) ≡ Less) → AreBelow s (take i rs)
 below_of s [] zero h = tt
@@ -46,12 +31,12 @@ below_of s (r ∷ rs) (suc i) h = (h 0 r (omega arith) (omega arith), below_of s
 above_of : (s : List ℕ) (rs : List Recipe) (i : ℕ) → ((j : ℕ) (d : Recipe) → i ≤ j → j < length rs → slug_order s (get_or rs j d) ≡ Greater) → AreAbove s (drop i rs)
 above_of s [] zero h = tt
 above_of s [] (suc i) h = tt
-above_of s (r ∷ rs) zero h = (turned r.slug s (h 0 r (omega arith) (omega arith)), above_of s rs 0 (λ j d least less. h (suc j) d (omega arith) (omega arith)))
+above_of s (r ∷ rs) zero h = (turned_down r.slug s (h 0 r (omega arith) (omega arith)), above_of s rs 0 (λ j d least less. h (suc j) d (omega arith) (omega arith)))
 above_of s (r ∷ rs) (suc i) h = above_of s rs i (λ j d least less. h (suc j) d (omega arith) (omega arith))
 
 pub place_searched : (s : List ℕ) (rs : List Recipe) (i : ℕ) → i ≤ length rs → AreInOrder rs → IsBinarySearchResult (slug_order s) rs (Err i) → IsPlace s rs i
 place_searched s rs i most order h =
-    let point = h (non_decreasing s rs order) in
+    let point = h (can_search s rs order) in
     (most, below_of s rs i (λ j d less before. point.0 j d (omega arith) before), above_of s rs i (λ j d least less. point.1 j d least less))
 
 -- the recipe at the place that is found

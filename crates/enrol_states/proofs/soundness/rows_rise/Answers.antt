@@ -4,7 +4,7 @@ use Rattle.std.specs.Ordering.{is_lt}
 use Rattle.std.proofs.lemmas.Fn.{always_returns_same}
 use Rattle.recipe_reader.specs.Payloads.{slug_cmp}
 use Rattle.enrol_states.specs.declared.state.Row.{Row}
-use Rattle.enrol_states.proofs.Rising.{rise_answer}
+use Rattle.sequences.proofs.Rising.{rise_answer}
 use Rattle.enrol_states.proofs.soundness.rows_rise.Goals as goal
 
 pub returns : goal.returns

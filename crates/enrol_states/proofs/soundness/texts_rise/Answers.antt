@@ -6,7 +6,7 @@ use Rattle.std.proofs.lemmas.Fn.{always_returns_same}
 use Rattle.recipe_reader.specs.Payloads.{slug_cmp}
 use Rattle.enrol_states.specs.Order.{Rise}
 use Rattle.enrol_states.proofs.Ordered.{map_itself}
-use Rattle.enrol_states.proofs.Rising.{rise_answer}
+use Rattle.sequences.proofs.Rising.{rise_answer}
 use Rattle.enrol_states.proofs.soundness.texts_rise.Goals as goal
 
 pub returns : goal.returns

@@ -3,7 +3,7 @@ use Rattle.std.specs.Ordering.{is_lt}
 use Rattle.std.proofs.lemmas.Fn.{always_returns_same}
 use Rattle.recipe_reader.specs.Payloads.{slug_cmp}
 use Rattle.pref_bindings.specs.Changes.{Setting}
-use Rattle.pref_bindings.proofs.Rising.{rise_answer}
+use Rattle.sequences.proofs.Rising.{rise_answer}
 use Rattle.preference_scenarios.proofs.inputs.rises.Goals as goal
 
 pub returns : goal.returns
