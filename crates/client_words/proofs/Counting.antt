@@ -8,11 +8,11 @@ use Rattle.std.proofs.lemmas.Slice.Eq.{bytes_eq-Decides}
 use Rattle.client_words.specs.declared.line.LineFault.TheVariants.{BadWords}
 use Rattle.client_words.specs.Commands.{is_count, count_in}
 
-where_true : (b : Bool) (n : ℕ) → b ≡ true → (if b then Ok n else Err BadWords) ≡ Ok n
+pub where_true : (b : Bool) (n : ℕ) → b ≡ true → (if b then Ok n else Err BadWords) ≡ Ok n
 where_true true n e = refl
 where_true false n e = absurd (cc)
 
-where_false : (b : Bool) (n : ℕ) → (b ≡ true → ⊥) → (if b then Ok n else Err BadWords) ≡ Err BadWords
+pub where_false : (b : Bool) (n : ℕ) → (b ≡ true → ⊥) → (if b then Ok n else Err BadWords) ≡ Err BadWords
 where_false true n never = absurd (never refl)
 where_false false n never = refl
 

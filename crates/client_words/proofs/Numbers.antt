@@ -1,5 +1,5 @@
 -- When a word is a number below 2 to the 64 in decimal.
-use Rattle.std.proofs.Common.{◌≡◌, ◌<◌, ◌^◌, ℕ, Bool, true, false, List, Ok, Err, refl, sym, ap, subst, ◌∙◌, arith}
+use Rattle.std.proofs.Common.{◌≡◌, ◌<◌, ◌^◌, ℕ, true, List, Ok, Err, sym, ap, subst, ◌∙◌, arith}
 use Rattle.std.specs.Prelude.{bytes_eq, decimal, if◌then◌else◌}
 use Rattle.std.specs.Str.Parse.{digits_value}
 use Rattle.std.proofs.lemmas.Bool.Decides.{nat_tests}
@@ -7,14 +7,7 @@ use Rattle.std.proofs.lemmas.Fmt.{decimal_is_IsNumeral}
 use Rattle.std.proofs.lemmas.Slice.Eq.{bytes_eq-Decides}
 use Rattle.client_words.specs.declared.line.LineFault.TheVariants.{BadWords}
 use Rattle.client_words.specs.Commands.{is_number, number_in}
-
-where_true : (b : Bool) (n : ℕ) → b ≡ true → (if b then Ok n else Err BadWords) ≡ Ok n
-where_true true n e = refl
-where_true false n e = absurd (cc)
-
-where_false : (b : Bool) (n : ℕ) → (b ≡ true → ⊥) → (if b then Ok n else Err BadWords) ≡ Err BadWords
-where_false true n never = absurd (never refl)
-where_false false n never = refl
+use Rattle.client_words.proofs.Counting.{where_true, where_false}
 
 value_of_decimal : (n : ℕ) → n < 2 ^ 64 → digits_value 10 (decimal n) ≡ n
 value_of_decimal n less = (decimal_is_IsNumeral n (omega (arith, less))).1
