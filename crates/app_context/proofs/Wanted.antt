@@ -41,7 +41,7 @@ pub below_texts : (test : List ℕ → Bool) (ps : List (List ℕ × Tree)) (i :
 below_texts test [] i d less sound = absurd (omega arith)
 below_texts test (p ∷ ps) zero d less sound = tt
 below_texts test (p ∷ ps) (suc i) d less sound =
-    below_one test p.0 (json_of p.1) (get_or ps i d).0 (texts_where test (members_of (map member_of (take i ps)))) (below_at p.0 ps i d (omega arith) sound.1) (below_texts test ps i d (omega arith) sound.3)
+    below_one test p.0 (json_of p.1) (get_or ps i d).0 (texts_where test (members_of (map member_of (take i ps)))) (below_at json_of p.0 ps i d (omega arith) sound.1) (below_texts test ps i d (omega arith) sound.3)
 
 -- ---- custom attributes
 

@@ -3,6 +3,7 @@ use Rattle.std.proofs.Common.{◌≡◌, ℕ, zero, suc, List, [], ◌∷◌, �
 use Rattle.std.specs.Cmp.Lexicographic.{slice_cmp, nat_list_cmp_total, texts_ties, bytes_decides}
 use Rattle.std.specs.Ordering.{nat_cmp, ordering_reverse, is_eq}
 use Rattle.json_tree.specs.Json.{Json, items_of, members_of, IsBelow, IsAbove}
+use Rattle.json_tree.proofs.Growing.{IsRising, IsBelow-push}
 use Rattle.jexl_value.specs.Kept.{IsValue, AreValues, AreNamedValues}
 use Rattle.jexl_value.specs.Names.{beside, with_member}
 
@@ -10,9 +11,9 @@ pub AreValues-push : (xs : List Json) (x : Json) → AreValues (items_of xs) →
 AreValues-push [] x h k = (k, tt)
 AreValues-push (y ∷ xs) x h k = (h.0, AreValues-push xs x h.1 k)
 
-IsBelow-push : (k : List ℕ) (ms : List (List ℕ × Json)) (m : List ℕ × Json) → IsBelow k (members_of ms) → slice_cmp nat_cmp k m.0 ≡ Less → IsBelow k (members_of (ms ++ m ∷ []))
-IsBelow-push k [] m h e = (e, tt)
-IsBelow-push k (n ∷ ms) m h e = (h.0, IsBelow-push k ms m h.1 e)
+pub IsRising-named : (ms : List (List ℕ × Json)) → AreNamedValues (members_of ms) → IsRising ms
+IsRising-named [] h = tt
+IsRising-named (m ∷ ms) h = (h.1, IsRising-named ms h.3)
 
 pub AreNamedValues-push : (ms : List (List ℕ × Json)) (m : List ℕ × Json) → AreNamedValues (members_of ms) → IsAbove m.0 ms → IsUtf8 m.0 → IsValue m.1 → AreNamedValues (members_of (ms ++ m ∷ []))
 AreNamedValues-push [] m h above u k = (u, tt, k, tt)

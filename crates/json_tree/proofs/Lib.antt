@@ -6,6 +6,7 @@ pub mod ToData
 pub mod Whole
 pub mod RoundTrip
 pub mod Pairs
+pub mod Depths
 pub mod Pairwise
 pub mod Searching
 pub mod Tokens

@@ -8,7 +8,7 @@ use Rattle.row_batches.specs.Places.{AreAbove, AreBelow}
 use Rattle.row_batches.specs.Rows.{AreRows, key_cmp, key_of, value_of, with_row, without_key}
 use Rattle.row_batches.specs.declared.store_row.StoreRow.{StoreRow}
 use Rattle.row_batches.proofs.Found.{valued, picked, dropped}
-use Rattle.sequences.proofs.Texts.{same_texts, turned_up, turned_down, less_trans}
+use Rattle.sequences.proofs.Texts.{same_texts, turned_up, turned_down, turned_even, less_trans}
 
 pub length_around : (below : List StoreRow) (q : StoreRow) (above : List StoreRow) → length (below ++ q ∷ above) ≡ length below + (length above + 1)
 length_around below q above = let more = length-append below (q ∷ above) in omega (arith, more)

@@ -1,10 +1,10 @@
-use Rattle.std.proofs.Common.{◌≡◌, ◌<◌, ◌≤◌, map, take, length, sym, ap, ◌∙◌, subst, arith, true, []}
+use Rattle.std.proofs.Common.{◌≡◌, ◌<◌, map, take, length, sym, ap, ◌∙◌, subst, arith, true, []}
 use Rattle.fml_types.specs.Shapes.{shape_of, key_of}
 use Rattle.json_tree.specs.Json as json
-use Rattle.json_tree.specs.Json.{IsSound, AreSoundMembers, depth, items_depth, members_depth}
+use Rattle.json_tree.specs.Json.{IsSound, AreSoundMembers}
 use Rattle.json_tree.specs.Tree.{json_of, member_of}
 use Rattle.json_tree.proofs.Pairs.{IsAbove-at}
-use Rattle.json_tree.proofs.ToData.{depth_at, member_depth_at}
+use Rattle.json_tree.proofs.Depths.{depth_within, member_depth_within}
 use Rattle.fml_value.specs.Checks.{AreEntriesOf}
 use Rattle.fml_value.specs.HasType.{HaveType, AreEntries, AreFields, AreKeys}
 use Rattle.fml_value.specs.Kinds.{is_key}
@@ -46,12 +46,7 @@ values_of-loop-tree-init t c =
 
 pub values_of-value_of-requires : goal.values_of-value_of-requires
 values_of-value_of-requires t c =
-    let trees = c.as_slice-trees.result.now in
-    let x = c.tree-item.result in
-    let among = subst (λ y. depth (json_of y) ≤ items_depth (json.items_of (map json_of trees))) (sym c.tree-item.is) (depth_at trees c.loop-tree.tree-index x c.loop-tree-test.true) in
-    let within = subst (λ xs. depth (json_of x) ≤ items_depth (json.items_of xs)) c.as_slice-trees.ensures.items among in
-    let h = c.decreases in
-    (omega (arith, within), tt)
+    let h = c.decreases in (omega (arith, depth_within json_of _ _ _ _ c.as_slice-trees.ensures.items c.loop-tree-test.true c.tree-item.is), tt)
 
 pub values_of-returns-in_default : goal.values_of-returns-in_default
 values_of-returns-in_default t c =
@@ -93,12 +88,7 @@ entries_of-loop-name-init t c =
 
 pub entries_of-value_of-requires : goal.entries_of-value_of-requires
 entries_of-value_of-requires t c =
-    let pairs = c.as_slice-pairs.result.now in
-    let m = c.loop-name-item.result in
-    let among = subst (λ y. depth (json_of y.1) ≤ members_depth (json.members_of (map member_of pairs))) (sym c.loop-name-item.is) (member_depth_at pairs c.loop-name.name-index m c.loop-name-test.true) in
-    let within = subst (λ ms. depth (json_of m.1) ≤ members_depth (json.members_of ms)) c.as_slice-pairs.ensures.members among in
-    let h = c.decreases in
-    (omega (arith, within), tt)
+    let h = c.decreases in (omega (arith, member_depth_within json_of _ _ _ _ c.as_slice-pairs.ensures.members c.loop-name-test.true c.loop-name-item.is), tt)
 
 pub entries_of-returns-then-not-is_key : goal.entries_of-returns-then-not-is_key
 entries_of-returns-then-not-is_key t c =
@@ -156,13 +146,9 @@ fields_of-loop-place-init t c =
 pub fields_of-field_of-requires : goal.fields_of-field_of-requires
 fields_of-field_of-requires t c =
     let pairs = c.as_slice-pairs.result.now in
-    let m = c.index-pairs-place.result in
     let i = c.loop-place.place in
     let below : i < length pairs = omega (arith, c.loop-place-test.true, c.if-fields-pairs.false) in
-    let among = subst (λ y. depth (json_of y.1) ≤ members_depth (json.members_of (map member_of pairs))) (sym c.index-pairs-place.is) (member_depth_at pairs i m below) in
-    let within = subst (λ ms. depth (json_of m.1) ≤ members_depth (json.members_of ms)) c.as_slice-pairs.ensures.members among in
-    let h = c.decreases in
-    (omega (arith, within), tt)
+    let h = c.decreases in (omega (arith, member_depth_within json_of _ _ _ _ c.as_slice-pairs.ensures.members below c.index-pairs-place.is), tt)
 
 pub fields_of-returns-in_default : goal.fields_of-returns-in_default
 fields_of-returns-in_default t c =

@@ -1,21 +1,16 @@
-use Rattle.std.proofs.Common.{◌≤◌, map, take, take_all, sym, ap, ◌∙◌, subst, arith}
+use Rattle.std.proofs.Common.{map, take, take_all, sym, ap, ◌∙◌, subst, arith}
 use Rattle.json_tree.specs.Json as json
 use Rattle.fml_types.specs.Named.{AreRising}
 use Rattle.fml_value.specs.Trees.{trees_of, members_of}
-use Rattle.fml_value.specs.Typed.{height, items_height, entries_height, items_of, entries_of}
-use Rattle.fml_value.specs.TypedOf.{typed_of, entry_of}
-use Rattle.fml_value.proofs.Heights.{height_at, entry_height_at}
+use Rattle.fml_value.specs.Typed.{items_of, entries_of}
+use Rattle.fml_value.proofs.Heights.{height_within, entry_height_within}
 use Rattle.fml_value.proofs.Ordered.{above_before}
 use Rattle.fml_value.proofs.Trees.{value_tree, entry_tree, trees-of-values, members-of-entries, above-trees}
 use Rattle.fml_value.proofs.converting.+to_tree.Goals as goal
 
 pub items_from-to_tree-requires : goal.items_from-to_tree-requires
 items_from-to_tree-requires t c =
-    let list = c.as_slice-list.result.now in
-    let x = c.value-item.result in
-    let among = subst (λ y. height (typed_of y) ≤ items_height (items_of (map typed_of list))) (sym c.value-item.is) (height_at list c.loop-value.value-index x c.loop-value-test.true) in
-    let within = subst (λ vs. height (typed_of x) ≤ items_height (items_of vs)) c.as_slice-list.ensures among in
-    (omega (arith, within), tt)
+    (omega (arith, height_within _ _ _ _ c.as_slice-list.ensures c.loop-value-test.true c.value-item.is), tt)
 
 pub items_from-returns : goal.items_from-returns
 items_from-returns t c =
@@ -24,11 +19,7 @@ items_from-returns t c =
 
 pub members_from-to_tree-requires : goal.members_from-to_tree-requires
 members_from-to_tree-requires t c =
-    let pairs = c.as_slice-pairs.result.now in
-    let e = c.loop-name-item.result in
-    let among = subst (λ y. height (typed_of y.1) ≤ entries_height (entries_of (map entry_of pairs))) (sym c.loop-name-item.is) (entry_height_at pairs c.loop-name.name-index e c.loop-name-test.true) in
-    let within = subst (λ es. height (typed_of e.1) ≤ entries_height (entries_of es)) c.as_slice-pairs.ensures.pairs among in
-    (omega (arith, within), tt)
+    (omega (arith, entry_height_within _ _ _ _ c.as_slice-pairs.ensures.pairs c.loop-name-test.true c.loop-name-item.is), tt)
 
 pub members_from-push-requires : goal.members_from-push-requires
 members_from-push-requires t c =

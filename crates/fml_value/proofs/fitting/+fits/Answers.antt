@@ -1,8 +1,7 @@
-use Rattle.std.proofs.Common.{◌≤◌, map, refl, sym, ◌∙◌, subst, arith}
+use Rattle.std.proofs.Common.{refl, sym, ◌∙◌, arith}
 use Rattle.fml_types.specs.Shapes.{shape_of, key_of}
-use Rattle.json_tree.specs.Json.{depth, items_depth, members_depth, items_of, members_of}
-use Rattle.json_tree.specs.Tree.{json_of, member_of}
-use Rattle.json_tree.proofs.ToData.{depth_at, member_depth_at}
+use Rattle.json_tree.specs.Tree.{json_of}
+use Rattle.json_tree.proofs.Depths.{depth_within, member_depth_within}
 use Rattle.fml_value.specs.Fits.{fits, items_fit, members_fit, type_of_entry, type_of_field}
 use Rattle.fml_value.proofs.Walking.{tree_refused, tree_passed, trees_end, pair_refused, pair_passed, pairs_end}
 use Rattle.fml_value.proofs.Members.{entry_fits, no_key, key_there, field_fits, no_field, field_there}
@@ -15,10 +14,7 @@ items_fit-loop-tree-init t c = refl
 
 pub items_fit-fits-requires : goal.items_fit-fits-requires
 items_fit-fits-requires t c =
-    let among = subst (λ y. depth (json_of y) ≤ items_depth (items_of (map json_of c.as_slice-trees.result.now))) (sym c.tree-item.is) (depth_at c.as_slice-trees.result.now c.loop-tree.tree-index c.tree-item.result c.loop-tree-test.true) in
-    let within = subst (λ xs. depth (json_of c.tree-item.result) ≤ items_depth (items_of xs)) c.as_slice-trees.ensures.items among in
-    let h = c.decreases in
-    (omega (arith, within), tt)
+    let h = c.decreases in (omega (arith, depth_within json_of _ _ _ _ c.as_slice-trees.ensures.items c.loop-tree-test.true c.tree-item.is), tt)
 
 pub items_fit-returns-then-not-fits : goal.items_fit-returns-then-not-fits
 items_fit-returns-then-not-fits t c =
@@ -42,10 +38,7 @@ entries_fit-loop-name-init t c = refl
 
 pub entries_fit-fits-requires : goal.entries_fit-fits-requires
 entries_fit-fits-requires t c =
-    let among = subst (λ y. depth (json_of y.1) ≤ members_depth (members_of (map member_of c.as_slice-pairs.result.now))) (sym c.loop-name-item.is) (member_depth_at c.as_slice-pairs.result.now c.loop-name.name-index c.loop-name-item.result c.loop-name-test.true) in
-    let within = subst (λ ms. depth (json_of c.loop-name-item.result.1) ≤ members_depth (members_of ms)) c.as_slice-pairs.ensures.members among in
-    let h = c.decreases in
-    (omega (arith, within), tt)
+    let h = c.decreases in (omega (arith, member_depth_within json_of _ _ _ _ c.as_slice-pairs.ensures.members c.loop-name-test.true c.loop-name-item.is), tt)
 
 pub entries_fit-returns-then-not-is_key : goal.entries_fit-returns-then-not-is_key
 entries_fit-returns-then-not-is_key t c =
@@ -84,10 +77,7 @@ fields_fit-loop-name-init t c = refl
 
 pub fields_fit-fits-requires : goal.fields_fit-fits-requires
 fields_fit-fits-requires t c =
-    let among = subst (λ y. depth (json_of y.1) ≤ members_depth (members_of (map member_of c.as_slice-pairs.result.now))) (sym c.loop-name-item.is) (member_depth_at c.as_slice-pairs.result.now c.loop-name.name-index c.loop-name-item.result c.loop-name-test.true) in
-    let within = subst (λ ms. depth (json_of c.loop-name-item.result.1) ≤ members_depth (members_of ms)) c.as_slice-pairs.ensures.members among in
-    let h = c.decreases in
-    (omega (arith, within), tt)
+    let h = c.decreases in (omega (arith, member_depth_within json_of _ _ _ _ c.as_slice-pairs.ensures.members c.loop-name-test.true c.loop-name-item.is), tt)
 
 pub fields_fit-returns-in_default : goal.fields_fit-returns-in_default
 fields_fit-returns-in_default t c =

@@ -1,19 +1,15 @@
-use Rattle.std.proofs.Common.{◌≤◌, map, take, take_all, sym, ap, ◌∙◌, subst, arith}
-use Rattle.json_tree.specs.Json.{depth, items_depth, members_depth, items_of, members_of, IsAbove, AreSoundMembers}
-use Rattle.json_tree.specs.Tree.{json_of, member_of}
+use Rattle.std.proofs.Common.{map, take, take_all, sym, ap, ◌∙◌, subst, arith}
+use Rattle.json_tree.specs.Json.{items_of, members_of, IsAbove, AreSoundMembers}
+use Rattle.json_tree.specs.Tree.{json_of}
 use Rattle.json_tree.proofs.Pairs.{IsAbove-at}
-use Rattle.json_tree.proofs.ToData.{depth_at, member_depth_at}
+use Rattle.json_tree.proofs.Depths.{depth_within, member_depth_within}
 use Rattle.jexl_value.specs.Meaning.{items_without_odd, members_without_odd}
 use Rattle.jexl_value.proofs.OfTree.{value_json, member_value, items_without_odd-map, members_without_odd-map, IsAbove-values}
 use Rattle.jexl_value.proofs.converting.+value_of.Goals as goal
 
 pub list_of-value_of-requires : goal.list_of-value_of-requires
 list_of-value_of-requires t c =
-    let trees = c.as_slice-trees.result.now in
-    let x = c.tree-item.result in
-    let among = subst (λ y. depth (json_of y) ≤ items_depth (items_of (map json_of trees))) (sym c.tree-item.is) (depth_at trees c.loop-tree.tree-index x c.loop-tree-test.true) in
-    let within = subst (λ xs. depth (json_of x) ≤ items_depth (items_of xs)) c.as_slice-trees.ensures.items among in
-    (omega (arith, within), tt)
+    (omega (arith, depth_within json_of _ _ _ _ c.as_slice-trees.ensures.items c.loop-tree-test.true c.tree-item.is), tt)
 
 pub list_of-returns : goal.list_of-returns
 list_of-returns t c =
@@ -22,11 +18,7 @@ list_of-returns t c =
 
 pub object_of-value_of-requires : goal.object_of-value_of-requires
 object_of-value_of-requires t c =
-    let pairs = c.as_slice-pairs.result.now in
-    let m = c.loop-name-item.result in
-    let among = subst (λ y. depth (json_of y.1) ≤ members_depth (members_of (map member_of pairs))) (sym c.loop-name-item.is) (member_depth_at pairs c.loop-name.name-index m c.loop-name-test.true) in
-    let within = subst (λ ms. depth (json_of m.1) ≤ members_depth (members_of ms)) c.as_slice-pairs.ensures.members among in
-    (omega (arith, within), tt)
+    (omega (arith, member_depth_within json_of _ _ _ _ c.as_slice-pairs.ensures.members c.loop-name-test.true c.loop-name-item.is), tt)
 
 pub object_of-push-requires : goal.object_of-push-requires
 object_of-push-requires t c =

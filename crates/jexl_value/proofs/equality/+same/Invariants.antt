@@ -2,7 +2,7 @@ use Rattle.std.proofs.Common.{◌≡◌, ◌+◌, ◌*◌, ◌≤◌, length}
 use Rattle.json_tree.specs.Json.{depth, items_depth, members_depth, items_of, members_of}
 use Rattle.jexl_value.specs.Value.{as_json}
 use Rattle.json_tree.specs.Equal.{items_eq, members_eq}
-use Rattle.jexl_value.proofs.Pairwise.{values_eq, values_depth, pairs_eq, pairs_depth}
+use Rattle.json_tree.proofs.Pairwise.{values_eq, values_depth, pairs_eq, pairs_depth}
 use Rattle.jexl_value.proofs.equality.+same.Given as goal
 
 abbrev pub decreases-same : goal.decreases-same
@@ -20,13 +20,13 @@ decreases-same_member l = 3 * depth (as_json l.left.now.1) + 1
 abbrev pub invariant-same_items-loop-one : goal.invariant-same_items-loop-one
 invariant-same_items-loop-one l = record {
   long : length l.one-iterator.a.rest.now ≡ length l.one-iterator.b.rest.now;
-  within : values_depth l.one-iterator.a.rest.now ≤ items_depth (items_of l.fn.left);
-  same : values_eq l.one-iterator.a.rest.now l.one-iterator.b.rest.now ≡ items_eq (items_of l.fn.left) (items_of l.fn.right);
+  within : values_depth as_json l.one-iterator.a.rest.now ≤ items_depth (items_of l.fn.left);
+  same : values_eq as_json l.one-iterator.a.rest.now l.one-iterator.b.rest.now ≡ items_eq (items_of l.fn.left) (items_of l.fn.right);
 }
 
 abbrev pub invariant-same_members-loop-one : goal.invariant-same_members-loop-one
 invariant-same_members-loop-one l = record {
   long : length l.one-iterator.a.rest.now ≡ length l.one-iterator.b.rest.now;
-  within : pairs_depth l.one-iterator.a.rest.now ≤ members_depth (members_of l.fn.left);
-  same : pairs_eq l.one-iterator.a.rest.now l.one-iterator.b.rest.now ≡ members_eq (members_of l.fn.left) (members_of l.fn.right);
+  within : pairs_depth as_json l.one-iterator.a.rest.now ≤ members_depth (members_of l.fn.left);
+  same : pairs_eq as_json l.one-iterator.a.rest.now l.one-iterator.b.rest.now ≡ members_eq (members_of l.fn.left) (members_of l.fn.right);
 }

@@ -1,13 +1,13 @@
 -- The parts of lists and objects.
-use Rattle.std.proofs.Common.{◌≡◌, ◌<◌, ◌≤◌, ◌+◌, ℕ, zero, suc, List, false, length, get_or, map, take, sym, ap, ◌∙◌, subst, arith}
+use Rattle.std.proofs.Common.{◌≡◌, ◌<◌, ◌≤◌, ◌+◌, ℕ, zero, suc, List, false, length, get_or, map, take, sym, ap, ◌∙◌, arith}
 use Rattle.std.specs.Prelude.{◌==◌}
 use Rattle.std.specs.List.{sum_by}
 use Rattle.std.proofs.lemmas.List.{take_all}
-use Rattle.json_tree.specs.Json.{Json, depth, items_depth, members_depth, text, list, object, items_of, members_of}
+use Rattle.json_tree.specs.Json.{Json, text, list, object, items_of, members_of}
 use Rattle.json_tree.specs.Tree.{json_of, member_of}
 use Rattle.json_tree.specs.Bytes.{text_of}
 use Rattle.json_tree.specs.declared.tree.Tree.{Tree}
-use Rattle.json_tree.proofs.ToData.{depth_at, member_depth_at}
+use Rattle.json_tree.proofs.Depths.{depth_within, member_depth_within}
 use Rattle.json_length.proofs.Lengths.{tree_item, tree_member, length-items, length-pairs, sum_within, length-odd}
 use Rattle.json_length.proofs.trees.+left_after.Goals as goal
 
@@ -32,11 +32,7 @@ left_after_items-returns-in_err-left-2-clause-none t c =
 
 pub left_after_items-left_after-requires : goal.left_after_items-left_after-requires
 left_after_items-left_after-requires t c =
-    let trees = c.as_slice-trees.result.now in
-    let x = c.tree-item.result in
-    let among = subst (λ y. depth (json_of y) ≤ items_depth (items_of (map json_of trees))) (sym c.tree-item.is) (depth_at trees c.loop-tree.tree-index x c.loop-tree-test.true) in
-    let within = subst (λ xs. depth (json_of x) ≤ items_depth (items_of xs)) c.as_slice-trees.ensures.items among in
-    let h = c.decreases in (omega (arith, within), tt)
+    let h = c.decreases in (omega (arith, depth_within json_of _ _ _ _ c.as_slice-trees.ensures.items c.loop-tree-test.true c.tree-item.is), tt)
 
 pub left_after_items-returns-in_err-left-3-clause-none : goal.left_after_items-returns-in_err-left-3-clause-none
 left_after_items-returns-in_err-left-3-clause-none t c =
@@ -73,11 +69,7 @@ left_after_members-returns-in_err-left-3-clause-none t c =
 
 pub left_after_members-left_after-requires : goal.left_after_members-left_after-requires
 left_after_members-left_after-requires t c =
-    let pairs = c.as_slice-pairs.result.now in
-    let m = c.loop-key-item.result in
-    let among = subst (λ y. depth (json_of y.1) ≤ members_depth (members_of (map member_of pairs))) (sym c.loop-key-item.is) (member_depth_at pairs c.loop-key.key-index m c.loop-key-test.true) in
-    let within = subst (λ ms. depth (json_of m.1) ≤ members_depth (members_of ms)) c.as_slice-pairs.ensures.members among in
-    let h = c.decreases in (omega (arith, within), tt)
+    let h = c.decreases in (omega (arith, member_depth_within json_of _ _ _ _ c.as_slice-pairs.ensures.members c.loop-key-test.true c.loop-key-item.is), tt)
 
 pub left_after_members-returns-in_err-left-4-clause-none : goal.left_after_members-returns-in_err-left-4-clause-none
 left_after_members-returns-in_err-left-4-clause-none t c =

@@ -1,22 +1,18 @@
 -- The items and the members, each written behind those before it.
-use Rattle.std.proofs.Common.{◌≤◌, map, sym, ap, subst, arith}
+use Rattle.std.proofs.Common.{ap, arith}
 use Rattle.std.proofs.lemmas.Result.{on_ok_weaker}
 use Rattle.json.specs.Tree.{items_tokens, members_tokens}
 use Rattle.serde_json.specs.Written.{items_outline, members_outline}
-use Rattle.json_tree.specs.Json.{depth, items_depth, members_depth, items_of, members_of}
-use Rattle.json_tree.specs.Tree.{json_of, member_of}
+use Rattle.json_tree.specs.Json.{items_of, members_of}
+use Rattle.json_tree.specs.Tree.{json_of}
 use Rattle.json_tree.specs.Bytes.{to_items, to_members}
-use Rattle.json_tree.proofs.ToData.{depth_at, member_depth_at}
+use Rattle.json_tree.proofs.Depths.{depth_within, member_depth_within}
 use Rattle.json_tree.proofs.Tokens.{items_written, members_written}
 use Rattle.json_tree.proofs.writing.+write_tree.Goals as goal
 
 pub write_items-write_tree-requires : goal.write_items-write_tree-requires
 write_items-write_tree-requires t c =
-    let trees = c.as_slice-trees.result.now in
-    let x = c.tree-item.result in
-    let among = subst (λ y. depth (json_of y) ≤ items_depth (items_of (map json_of trees))) (sym c.tree-item.is) (depth_at trees c.loop-tree.tree-index x c.loop-tree-test.true) in
-    let within = subst (λ xs. depth (json_of x) ≤ items_depth (items_of xs)) c.as_slice-trees.ensures.items among in
-    (let h = c.decreases in omega (arith, within), tt)
+    let h = c.decreases in (omega (arith, depth_within json_of _ _ _ _ c.as_slice-trees.ensures.items c.loop-tree-test.true c.tree-item.is), tt)
 
 pub write_items-returns-clause-tokens : goal.write_items-returns-clause-tokens
 write_items-returns-clause-tokens t c =
@@ -28,11 +24,7 @@ write_items-returns-clause-tokens t c =
 
 pub write_members-write_tree-requires : goal.write_members-write_tree-requires
 write_members-write_tree-requires t c =
-    let pairs = c.as_slice-pairs.result.now in
-    let m = c.loop-key-item.result in
-    let among = subst (λ y. depth (json_of y.1) ≤ members_depth (members_of (map member_of pairs))) (sym c.loop-key-item.is) (member_depth_at pairs c.loop-key.key-index m c.loop-key-test.true) in
-    let within = subst (λ ms. depth (json_of m.1) ≤ members_depth (members_of ms)) c.as_slice-pairs.ensures.members among in
-    (let h = c.decreases in omega (arith, within), tt)
+    let h = c.decreases in (omega (arith, member_depth_within json_of _ _ _ _ c.as_slice-pairs.ensures.members c.loop-key-test.true c.loop-key-item.is), tt)
 
 pub write_members-returns-clause-tokens : goal.write_members-returns-clause-tokens
 write_members-returns-clause-tokens t c =

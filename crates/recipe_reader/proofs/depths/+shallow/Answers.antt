@@ -1,18 +1,15 @@
-use Rattle.std.proofs.Common.{◌≤◌, sym, subst, map, arith, add-one}
+use Rattle.std.proofs.Common.{◌≤◌, subst, arith, add-one}
 use Rattle.std.proofs.lemmas.Grind.{common_steps}
-use Rattle.json_tree.specs.Json.{depth, items_depth, members_depth, items_of, members_of}
-use Rattle.json_tree.specs.Tree.{json_of, member_of}
-use Rattle.json_tree.proofs.ToData.{depth_at, member_depth_at}
+use Rattle.json_tree.specs.Json.{depth}
+use Rattle.json_tree.specs.Tree.{json_of}
+use Rattle.json_tree.proofs.Depths.{depth_within, member_depth_within}
 use Rattle.recipe_reader.proofs.Deeper.{items_more, members_more}
 use Rattle.recipe_reader.proofs.depths.+shallow.Goals as goal
 
 pub are_items_shallow-returns-then-not-is_shallow :
     goal.are_items_shallow-returns-then-not-is_shallow
 are_items_shallow-returns-then-not-is_shallow t c =
-    let trees = c.as_slice-trees.result.now in
-    let x = c.tree-item.result in
-    let among = subst (λ y. depth (json_of y) ≤ items_depth (items_of (map json_of trees))) (sym c.tree-item.is) (depth_at trees c.loop-tree.tree-index x c.loop-tree-test.true) in
-    let within = subst (λ xs. depth (json_of x) ≤ items_depth (items_of xs)) c.as_slice-trees.ensures.items among in
+    let within = depth_within json_of _ _ _ _ c.as_slice-trees.ensures.items c.loop-tree-test.true c.tree-item.is in
     grind (arith, common_steps, within)
 
 pub are_items_shallow-loop-tree-preserved : goal.are_items_shallow-loop-tree-preserved
@@ -25,10 +22,7 @@ are_items_shallow-loop-tree-preserved t c =
 pub are_members_shallow-returns-then-not-is_shallow :
     goal.are_members_shallow-returns-then-not-is_shallow
 are_members_shallow-returns-then-not-is_shallow t c =
-    let pairs = c.as_slice-pairs.result.now in
-    let m = c.loop-tree-item.result in
-    let among = subst (λ y. depth (json_of y.1) ≤ members_depth (members_of (map member_of pairs))) (sym c.loop-tree-item.is) (member_depth_at pairs c.loop-tree.tree-index m c.loop-tree-test.true) in
-    let within = subst (λ ms. depth (json_of m.1) ≤ members_depth (members_of ms)) c.as_slice-pairs.ensures.members among in
+    let within = member_depth_within json_of _ _ _ _ c.as_slice-pairs.ensures.members c.loop-tree-test.true c.loop-tree-item.is in
     grind (arith, common_steps, within)
 
 pub are_members_shallow-loop-tree-preserved : goal.are_members_shallow-loop-tree-preserved

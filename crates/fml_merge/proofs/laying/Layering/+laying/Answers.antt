@@ -4,9 +4,9 @@ use Rattle.std.proofs.lemmas.Result.{on_ok_weaker}
 use Rattle.std.proofs.Math.Nat.{mul-le-mul_left}
 use Rattle.json_tree.specs.Json.{Json, depth, items_depth, members_depth, members_of, get_member}
 use Rattle.json_tree.specs.Json as json
-use Rattle.json_tree.specs.Tree.{json_of, member_of}
+use Rattle.json_tree.specs.Tree.{json_of}
 use Rattle.json_tree.specs.declared.tree.Tree.{Tree}
-use Rattle.json_tree.proofs.ToData.{depth_at, member_depth_at}
+use Rattle.json_tree.proofs.Depths.{depth_within, member_depth_within}
 use Rattle.fml_types.specs.Named.{IsAbove, AreRising, found}
 use Rattle.fml_types.specs.Shape as shape
 use Rattle.fml_types.specs.Shape.{Shape, height}
@@ -145,10 +145,7 @@ lay_over_zero-returns-in_ok-entries-in-Object t c =
 pub lay_items-lay_over_zero-requires : goal.lay_items-lay_over_zero-requires
 lay_items-lay_over_zero-requires t c =
     let types = c.args.self.types.now in
-    let trees = c.as_slice-trees.result.now in
-    let x = c.tree-item.result in
-    let among = subst (λ y. depth (json_of y) ≤ items_depth (json.items_of (map json_of trees))) (sym c.tree-item.is) (depth_at trees c.loop-tree.tree-index x c.loop-tree-test.true) in
-    let within = subst (λ xs. depth (json_of x) ≤ items_depth (json.items_of xs)) c.as_slice-trees.ensures.items among in
+    let within = depth_within json_of _ _ _ _ c.as_slice-trees.ensures.items c.loop-tree-test.true c.tree-item.is in
     let less = mul-le-mul_left (step types) within in
     let h = c.decreases in
     (omega (arith, less), tt)
@@ -301,10 +298,7 @@ lay_named-lay_over_zero-requires t c =
 pub lay_in_place-lay_named-requires : goal.lay_in_place-lay_named-requires
 lay_in_place-lay_named-requires t c =
     let types = c.args.self.types.now in
-    let pairs = c.as_slice-pairs.result.now in
-    let m = c.loop-name-item.result in
-    let among = subst (λ y. depth (json_of y.1) ≤ members_depth (members_of (map member_of pairs))) (sym c.loop-name-item.is) (member_depth_at pairs c.loop-name.name-index m c.loop-name-test.true) in
-    let within = subst (λ ms. depth (json_of m.1) ≤ members_depth (members_of ms)) c.as_slice-pairs.ensures.members among in
+    let within = member_depth_within json_of _ _ _ _ c.as_slice-pairs.ensures.members c.loop-name-test.true c.loop-name-item.is in
     let less = mul-le-mul_left (step types) within in
     let h = c.decreases in
     (omega (arith, less), tt)
