@@ -1,6 +1,6 @@
 -- A step keeps the records of a state's recipes sound.
 use Rattle.std.proofs.Common.{ℕ, Bool, true, false, List, [], length, Option, Some, None, Result, Ok, Err, unwrap_or}
-use Rattle.std.specs.Prelude.{IfOk, nat_lt, nat_le, if◌then◌else◌}
+use Rattle.std.specs.Prelude.{IfOk, nat_lt, if◌then◌else◌}
 use Rattle.json_tree.specs.Json.{Json, IsSound}
 use Rattle.json_tree.specs.declared.tree.Tree.{Tree}
 use Rattle.recipe_reader.specs.Kinds.{kind_of}
@@ -9,15 +9,9 @@ use Rattle.recipe_reader.specs.declared.payload.Payload.{Payload}
 use Rattle.recipe_reader.specs.declared.payload.PayloadFault.{PayloadFault}
 use Rattle.recipe_reader.specs.declared.payload.PayloadFault.TheVariants as payload
 use Rattle.recipe_reader.specs.declared.recipe.Recipe.{Recipe}
-use Rattle.app_context.specs.Contexts.{context_of}
 use Rattle.app_context.specs.declared.context.Context.{Context}
-use Rattle.app_context.specs.declared.key.ContextKey.{ContextKey}
-use Rattle.change_outbox.specs.Contents.{confirmed}
-use Rattle.pref_bindings.specs.Bindings.{bindings_of}
-use Rattle.pref_bindings.specs.declared.bindings.Binding.{Binding}
 use Rattle.enrol_evolver.specs.Evolution.{evolution}
 use Rattle.enrol_states.specs.Choices.{has_no_room}
-use Rattle.event_counts.specs.Kept.{counted_in}
 use Rattle.enrol_states.specs.Commands.{after_opt_out}
 use Rattle.enrol_states.specs.Participation.{takes_part}
 use Rattle.enrol_states.specs.Recipes.{has_branch}
@@ -27,26 +21,19 @@ use Rattle.client_state.specs.declared.client_state.ClientState.{ClientState}
 use Rattle.client_state.specs.Sound.{max_size, AreRecords, HaveRecords}
 use Rattle.client_state.specs.Encoding.{encoding}
 use Rattle.fml_types.specs.declared.manifest.Manifest.{Manifest}
-use Rattle.fml_value.specs.Typed.{TypedValue}
-use Rattle.feature_serving.specs.Serving.{served}
 use Rattle.client_words.specs.declared.answer.Answer.{Answer}
-use Rattle.client_words.specs.declared.answer.Answer.TheVariants.{Okay, OptedOutLimit, EventLimit, NoSuchChange, NotParticipating, NoSuchBranch}
+use Rattle.client_words.specs.declared.answer.Answer.TheVariants.{Okay, OptedOutLimit, NotParticipating, NoSuchBranch}
 use Rattle.client_words.specs.declared.command.Command.{Command}
-use Rattle.client_words.specs.declared.command.Command.TheVariants.{Fetch, Apply, Participate, OptOut, OptIn, Reset, Show, Feature, Event, Confirm, Bind, SetPreference, ClearPreference, WriteManifest}
-use Rattle.client_words.specs.declared.command.Command.TheVariants as commands
+use Rattle.client_words.specs.declared.command.Command.TheVariants.{Fetch, Apply, Participate, OptOut, OptIn, Reset, Event, Confirm, SetPreference, ClearPreference}
 use Rattle.client_steps.specs.declared.session.Session.{Session}
 use Rattle.client_steps.specs.Choosing.{first_taker}
 use Rattle.client_steps.specs.Fetching.{file_tree}
-use Rattle.client_steps.specs.Manifests.{manifest_of}
 use Rattle.client_steps.specs.Settings.{Setting}
-use Rattle.client_steps.specs.Steps.{EnrolmentOutcome, Outcome, Accepted, Refused, Step, whole, seeing, has_no_room_for, preferring, participation, resetting, opting_out, opting_in, taking, offering, choosing, fetched, fetching, context_read, reading_context, bindings_read, reading_bindings, setting_manifest, applying, valued, serving, writing_manifest, outcome, done, step}
+use Rattle.client_steps.specs.Steps.{EnrolmentOutcome, Outcome, Accepted, Refused, whole, seeing, preferring, participation, resetting, opting_out, opting_in, taking, offering, choosing, fetched, fetching, applying, outcome, done, step}
 use Rattle.client_steps.proofs.ReadFiles.{file_sound}
 use Rattle.client_steps.proofs.ReadRecords.{OfPayload, payload_records}
+use Rattle.client_steps.proofs.Outcomes.{either_step, leaving_either, counting_either, confirming_either}
 use Rattle.client_steps.proofs.Stepping.{whole_either, preferring_either}
-
-either_step : (P : Step → Type 0) (b : Bool) (x y : Step) → P x → P y → P (if b then x else y)
-either_step P true x y here there = here
-either_step P false x y here there = there
 
 live_records : (pending : Option (List Recipe)) (live : List Recipe) → AreRecords (pending_recipes pending) → AreRecords live → AreRecords (unwrap_or pending live)
 live_records None live fetched_ones kept_ones = kept_ones
@@ -71,22 +58,6 @@ module _ (at : Setting) (s : ClientState) (session : Session) (h : HaveRecords s
   done-keeps (Accepted t next answer) keeps = either_step (λ to. HaveRecords to.state.enrolment) (nat_lt max_size (length (encoding t))) _ _ h keeps
   done-keeps (Refused answer) keeps = h
 
-  context-keeps : (read : Result Context ContextKey) → Keeps (context_read s session read)
-  context-keeps (Ok context) = h
-  context-keeps (Err key) = tt
-
-  file-keeps : (read : Result Json Answer) → Keeps (reading_context s session read)
-  file-keeps (Ok tree) = context-keeps (context_of tree)
-  file-keeps (Err refusal) = tt
-
-  bindings-keeps : (read : Result (List Binding) (List ℕ)) → Keeps (bindings_read s session read)
-  bindings-keeps (Ok bindings) = h
-  bindings-keeps (Err feature) = tt
-
-  bind-keeps : (read : Result Json Answer) → Keeps (reading_bindings s session read)
-  bind-keeps (Ok tree) = bindings-keeps (bindings_of tree)
-  bind-keeps (Err refusal) = tt
-
   preferring-keeps : (name : List ℕ) (value : Option Tree) → Keeps (preferring s session name value)
   preferring-keeps name value = preferring_either Keeps s session name value tt (λ free. h) (λ holder held fits. record { live = h.live; pending = h.pending })
 
@@ -100,27 +71,11 @@ module _ (at : Setting) (s : ClientState) (session : Session) (h : HaveRecords s
   fetch-keeps (Ok tree) sound = payload-keeps (payload_of tree) (payload_records tree sound)
   fetch-keeps (Err refusal) sound = tt
 
-  manifest-keeps : (read : Result Manifest Answer) → Keeps (setting_manifest s session read)
-  manifest-keeps (Ok manifest) = h
-  manifest-keeps (Err refusal) = tt
-
   apply-keeps : (manifest : Option Manifest) (context : Option Context) → KeepsEnrolment (applying at.now s.enrolment session manifest context)
   unfolding evolution
   apply-keeps None context = tt
   apply-keeps (Some manifest) None = tt
   apply-keeps (Some manifest) (Some context) = record { live = live_records s.enrolment.pending s.enrolment.live h.pending h.live; pending = tt }
-
-  value-keeps : (found : Option TypedValue) → Keeps (valued s session found)
-  value-keeps None = tt
-  value-keeps (Some value) = h
-
-  feature-keeps : (name : List ℕ) (manifest : Option Manifest) → Keeps (serving s session name manifest)
-  feature-keeps name None = tt
-  feature-keeps name (Some manifest) = value-keeps (served manifest s.enrolment name)
-
-  written-keeps : (manifest : Option Manifest) → Keeps (writing_manifest s session manifest)
-  written-keeps None = tt
-  written-keeps (Some manifest) = h
 
   out-keeps : (slug : List ℕ) (full : Bool) → KeepsEnrolment (if full then Refused OptedOutLimit else Accepted (after_opt_out s.enrolment slug) session Okay)
   out-keeps slug true = tt
@@ -143,33 +98,18 @@ module _ (at : Setting) (s : ClientState) (session : Session) (h : HaveRecords s
     choosing-keeps None = tt
     choosing-keeps (Some r) = part-keeps r (takes_part s.enrolment (kind_of r))
 
-  count-keeps : (name : List ℕ) (count : ℕ) (full : Bool) → Keeps (if full then Refused EventLimit else Accepted (record s { events = counted_in name count at.now s.events }) session Okay)
-  count-keeps name count true = tt
-  count-keeps name count false = h
-
-  confirm-keeps : (number : ℕ) (unknown : Bool) → Keeps (if unknown then Refused (NoSuchChange s.outbox.next) else Accepted (record s { outbox = confirmed number s.outbox }) session Okay)
-  confirm-keeps number true = tt
-  confirm-keeps number false = h
-
   outcome-keeps : (command : Command) → Keeps (outcome at s session command)
-  outcome-keeps (commands.Manifest file channel) = manifest-keeps (manifest_of at.files file channel)
-  outcome-keeps (commands.Context file) = file-keeps (file_tree file (at.files file))
   outcome-keeps (Fetch file) = whole-keeps s.events (fetching s.enrolment session (file_tree file (at.files file))) (fetch-keeps (file_tree file (at.files file)) (file_sound file (at.files file)))
   outcome-keeps Apply = whole-keeps s.events (applying at.now s.enrolment session session.manifest (seeing at.now s.events session.context)) (apply-keeps session.manifest (seeing at.now s.events session.context))
   outcome-keeps (Participate kinds on) = whole-keeps s.events (participation s.enrolment session kinds on) (record { live = h.live; pending = h.pending })
   outcome-keeps (OptOut slug) = whole-keeps s.events (opting_out s.enrolment session slug) (out-keeps slug (has_no_room s.enrolment.opted_out slug))
   outcome-keeps (OptIn slug branch) = whole-keeps s.events (opting_in s.enrolment session slug branch) (choosing-keeps slug branch (recipe_with slug s.enrolment.live))
   outcome-keeps (Reset id) = whole-keeps [] (resetting s.enrolment session id) (record { live = h.live; pending = h.pending })
-  outcome-keeps Show = h
-  outcome-keeps (Feature name) = feature-keeps name session.manifest
-  outcome-keeps (Event name count) = count-keeps name count (has_no_room_for name s.events)
-  outcome-keeps commands.Changes = h
-  outcome-keeps (Confirm number) = confirm-keeps number (nat_le s.outbox.next number)
-  outcome-keeps (Bind file) = bind-keeps (file_tree file (at.files file))
   outcome-keeps (SetPreference name value) = preferring-keeps name (Some value)
   outcome-keeps (ClearPreference name) = preferring-keeps name None
-  outcome-keeps commands.Preferences = h
-  outcome-keeps WriteManifest = written-keeps session.manifest
+  outcome-keeps (Event name count) = counting_either at s session Keeps (λ answer. tt) name count (λ room. h)
+  outcome-keeps (Confirm number) = confirming_either at s session Keeps (λ answer. tt) number (λ known. h)
+  outcome-keeps command = leaving_either at s session Keeps (λ answer. tt) (λ next answer. h) command tt
 
   pub step_keeps_records : (command : Command) → HaveRecords (step at s session command).state.enrolment
   unfolding step

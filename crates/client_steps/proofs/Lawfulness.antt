@@ -46,11 +46,8 @@ use Rattle.client_steps.specs.Steps.{OutcomeOver, EnrolmentOutcome, Outcome, Acc
 use Rattle.client_steps.proofs.LinkedManifests.{manifest_linked}
 use Rattle.client_steps.proofs.ReadContexts.{context_version}
 use Rattle.client_steps.proofs.ReadFiles.{file_sound}
+use Rattle.client_steps.proofs.Outcomes.{either_step}
 use Rattle.client_steps.proofs.Stepping.{whole_either, preferring_either}
-
-either_step : (P : Step → Type 0) (b : Bool) (x y : Step) → P x → P y → P (if b then x else y)
-either_step P true x y here there = here
-either_step P false x y here there = there
 
 -- what each session keeps that has a manifest that links, or the context or the bindings of a sound tree, where it has others than before
 module _ (P : Session → Type 0) (at : Setting) (s : ClientState) (session : Session) (was : P session) (links : (file channel : List ℕ) (manifest : Manifest) → manifest_of at.files file channel ≡ Ok manifest → P (with_manifest session manifest)) (takes : (tree : Json) (context : Context) → IsSound tree → context_of tree ≡ Ok context → P (with_context session context)) (binds : (tree : Json) (bindings : List Binding) → IsSound tree → bindings_of tree ≡ Ok bindings → P (with_bindings session bindings)) where

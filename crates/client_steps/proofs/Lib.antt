@@ -2,6 +2,7 @@ mod Takers
 mod Coenrolling
 mod Payloads
 pub mod Stepping
+pub mod Outcomes
 mod JoinValues
 pub mod FollowedPreferences
 mod CountedEvents

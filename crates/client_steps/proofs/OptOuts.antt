@@ -1,6 +1,6 @@
 -- A slug that is opted out stays so, until its user brings it back.
 use Rattle.std.proofs.Common.{Ordering, ◌≡◌, ℕ, Bool, true, false, List, [], ◌∷◌, length, Option, Some, None, Result, Ok, Err, Less, Equal, Greater, ◌||◌, refl, sym, ap, ◌∙◌, subst}
-use Rattle.std.specs.Prelude.{not, nat_lt, nat_le, bytes_eq, if◌then◌else◌}
+use Rattle.std.specs.Prelude.{not, nat_lt, bytes_eq, if◌then◌else◌}
 use Rattle.std.specs.BTreeSet.{insert_key}
 use Rattle.std.specs.Cmp.Lexicographic.{bytes_decides}
 use Rattle.std.specs.Ordering.{match_ordering}
@@ -12,11 +12,7 @@ use Rattle.recipe_reader.specs.declared.payload.Payload.{Payload}
 use Rattle.recipe_reader.specs.declared.payload.PayloadFault.{PayloadFault}
 use Rattle.recipe_reader.specs.declared.payload.PayloadFault.TheVariants as payload
 use Rattle.recipe_reader.specs.declared.recipe.Recipe.{Recipe}
-use Rattle.change_outbox.specs.Contents.{confirmed}
-use Rattle.pref_bindings.specs.Bindings.{bindings_of}
-use Rattle.pref_bindings.specs.declared.bindings.Binding.{Binding}
 use Rattle.enrol_states.specs.Choices.{has_no_room}
-use Rattle.event_counts.specs.Kept.{counted_in}
 use Rattle.event_counts.specs.declared.name_counts.NameCounts.{NameCounts}
 use Rattle.client_state.specs.declared.client_state.ClientState.{ClientState}
 use Rattle.enrol_states.specs.Commands.{after_opt_out, after_opt_in, after_reset, without_text}
@@ -27,25 +23,20 @@ use Rattle.enrol_states.proofs.OptOuts.{is_in-insert}
 use Rattle.enrol_states.proofs.Ordered.{same_texts}
 use Rattle.client_state.specs.Sound.{max_size}
 use Rattle.client_state.specs.Encoding.{encoding}
-use Rattle.app_context.specs.Contexts.{context_of}
 use Rattle.enrol_evolver.specs.Evolution.{evolution}
 use Rattle.app_context.specs.declared.context.Context.{Context}
-use Rattle.app_context.specs.declared.key.ContextKey.{ContextKey}
 use Rattle.fml_types.specs.declared.manifest.Manifest.{Manifest}
-use Rattle.fml_value.specs.Typed.{TypedValue}
-use Rattle.feature_serving.specs.Serving.{served}
 use Rattle.client_words.specs.declared.answer.Answer.{Answer}
-use Rattle.client_words.specs.declared.answer.Answer.TheVariants.{Okay, OptedOutLimit, EventLimit, NoSuchChange, NotParticipating, NoSuchBranch, StateTooLarge}
+use Rattle.client_words.specs.declared.answer.Answer.TheVariants.{Okay, OptedOutLimit, NotParticipating, NoSuchBranch, StateTooLarge}
 use Rattle.client_words.specs.declared.command.Command.{Command}
-use Rattle.client_words.specs.declared.command.Command.TheVariants.{Fetch, Apply, Participate, OptOut, OptIn, Reset, Show, Feature, Event, Confirm, Bind, SetPreference, ClearPreference, WriteManifest}
-use Rattle.client_words.specs.declared.command.Command.TheVariants as commands
+use Rattle.client_words.specs.declared.command.Command.TheVariants.{Fetch, Apply, Participate, OptOut, OptIn, Reset, Event, Confirm, SetPreference, ClearPreference}
 use Rattle.client_steps.specs.declared.session.Session.{Session}
 use Rattle.client_steps.specs.Choosing.{first_taker}
 use Rattle.client_steps.specs.Fetching.{file_tree}
-use Rattle.client_steps.specs.Manifests.{manifest_of}
 use Rattle.client_steps.specs.OptOuts.{BringsBack, OptOutsHold}
 use Rattle.client_steps.specs.Settings.{Setting}
-use Rattle.client_steps.specs.Steps.{EnrolmentOutcome, Outcome, Accepted, Refused, Step, with_enrolment, whole, enrolling, seeing, has_no_room_for, counting, listing_changes, confirming, preferring, listing_preferences, participation, opting_out, taking, offering, choosing, fetched, fetching, context_read, reading_context, bindings_read, reading_bindings, setting_manifest, applying, valued, serving, writing_manifest, done, step}
+use Rattle.client_steps.specs.Steps.{EnrolmentOutcome, Outcome, Accepted, Refused, Step, with_enrolment, whole, enrolling, seeing, counting, confirming, preferring, participation, opting_out, taking, offering, choosing, fetched, fetching, applying, outcome, done, step}
+use Rattle.client_steps.proofs.Outcomes.{either_step, leaving_either, counting_either, confirming_either}
 use Rattle.client_steps.proofs.Stepping.{whole_either, preferring_either}
 
 -- ---- one slug more or less
@@ -84,10 +75,6 @@ kept-without s u (t ∷ ts) other there = first_kept t s u ts (bytes_eq t s) ref
 
 -- ---- what is done
 
-either_step : (P : Step → Type 0) (b : Bool) (x y : Step) → P x → P y → P (if b then x else y)
-either_step P true x y here there = here
-either_step P false x y here there = there
-
 module _ (at : Setting) (s : ClientState) (session : Session) (slug : List ℕ) (there : is_in s.enrolment.opted_out slug ≡ true) where
   -- an accepted state has the slug
   abbrev Keeps : Outcome → Type 0
@@ -107,22 +94,6 @@ module _ (at : Setting) (s : ClientState) (session : Session) (slug : List ℕ) 
   done-keeps (Accepted t next answer) keeps = either_step (λ to. is_in to.state.enrolment.opted_out slug ≡ true) (nat_lt max_size (length (encoding t))) _ _ there keeps
   done-keeps (Refused answer) keeps = there
 
-  context-keeps : (read : Result Context ContextKey) → Keeps (context_read s session read)
-  context-keeps (Ok context) = there
-  context-keeps (Err key) = tt
-
-  file-keeps : (read : Result Json Answer) → Keeps (reading_context s session read)
-  file-keeps (Ok tree) = context-keeps (context_of tree)
-  file-keeps (Err refusal) = tt
-
-  bindings-keeps : (read : Result (List Binding) (List ℕ)) → Keeps (bindings_read s session read)
-  bindings-keeps (Ok bindings) = there
-  bindings-keeps (Err feature) = tt
-
-  bind-keeps : (read : Result Json Answer) → Keeps (reading_bindings s session read)
-  bind-keeps (Ok tree) = bindings-keeps (bindings_of tree)
-  bind-keeps (Err refusal) = tt
-
   payload-keeps : (read : Result Payload PayloadFault) → KeepsEnrolment (fetched s.enrolment session read)
   payload-keeps (Ok found) = there
   payload-keeps (Err payload.NoData) = tt
@@ -133,39 +104,15 @@ module _ (at : Setting) (s : ClientState) (session : Session) (slug : List ℕ) 
   fetch-keeps (Ok tree) = payload-keeps (payload_of tree)
   fetch-keeps (Err refusal) = tt
 
-  manifest-keeps : (read : Result Manifest Answer) → Keeps (setting_manifest s session read)
-  manifest-keeps (Ok manifest) = there
-  manifest-keeps (Err refusal) = tt
-
   apply-keeps : (manifest : Option Manifest) (context : Option Context) → KeepsEnrolment (applying at.now s.enrolment session manifest context)
   unfolding evolution
   apply-keeps None context = tt
   apply-keeps (Some manifest) None = tt
   apply-keeps (Some manifest) (Some context) = there
 
-  value-keeps : (found : Option TypedValue) → Keeps (valued s session found)
-  value-keeps None = tt
-  value-keeps (Some value) = there
-
-  feature-keeps : (name : List ℕ) (manifest : Option Manifest) → Keeps (serving s session name manifest)
-  feature-keeps name None = tt
-  feature-keeps name (Some manifest) = value-keeps (served manifest s.enrolment name)
-
-  written-keeps : (manifest : Option Manifest) → Keeps (writing_manifest s session manifest)
-  written-keeps None = tt
-  written-keeps (Some manifest) = there
-
   out-keeps : (other : List ℕ) (full : Bool) → KeepsEnrolment (if full then Refused OptedOutLimit else Accepted (after_opt_out s.enrolment other) session Okay)
   out-keeps other true = tt
   out-keeps other false = kept-insert other slug s.enrolment.opted_out there
-
-  count-keeps : (name : List ℕ) (count : ℕ) (full : Bool) → Keeps (if full then Refused EventLimit else Accepted (record s { events = counted_in name count at.now s.events }) session Okay)
-  count-keeps name count true = tt
-  count-keeps name count false = there
-
-  confirm-keeps : (number : ℕ) (unknown : Bool) → Keeps (if unknown then Refused (NoSuchChange s.outbox.next) else Accepted (record s { outbox = confirmed number s.outbox }) session Okay)
-  confirm-keeps number true = tt
-  confirm-keeps number false = there
 
   preferring-keeps : (name : List ℕ) (value : Option Tree) → Keeps (preferring s session name value)
   preferring-keeps name value = preferring_either Keeps s session name value tt (λ free. there) (λ holder held fits. there)
@@ -210,8 +157,6 @@ module _ (at : Setting) (s : ClientState) (session : Session) (slug : List ℕ) 
 
   kept : (command : Command) → (BringsBack at s session slug command → ⊥) → is_in (step at s session command).state.enrolment.opted_out slug ≡ true
   unfolding step
-  kept (commands.Manifest file channel) never = done-keeps (setting_manifest s session (manifest_of at.files file channel)) (manifest-keeps (manifest_of at.files file channel))
-  kept (commands.Context file) never = done-keeps (reading_context s session (file_tree file (at.files file))) (file-keeps (file_tree file (at.files file)))
   kept (Fetch file) never = enrolment-keeps (fetching s.enrolment session (file_tree file (at.files file))) (fetch-keeps (file_tree file (at.files file)))
   kept Apply never = enrolment-keeps (applying at.now s.enrolment session session.manifest (seeing at.now s.events session.context)) (apply-keeps session.manifest (seeing at.now s.events session.context))
   kept (Participate kinds on) never = enrolment-keeps (participation s.enrolment session kinds on) there
@@ -220,16 +165,11 @@ module _ (at : Setting) (s : ClientState) (session : Session) (slug : List ℕ) 
   kept (Reset id) never =
       let e = after_reset s.enrolment id in
       whole_either (KeepsUnless true) s session [] e session Okay (λ apart. there) (λ fits. accepted-unless (with_enrolment session s e []) session true (λ apart. absurd cc)) (λ back is_done. never (back, is_done))
-  kept Show never = done-keeps (Accepted s session _) there
-  kept (Feature name) never = done-keeps (serving s session name session.manifest) (feature-keeps name session.manifest)
-  kept (Event name count) never = done-keeps (counting at.now s session name count) (count-keeps name count (has_no_room_for name s.events))
-  kept commands.Changes never = done-keeps (listing_changes s session) there
-  kept (Confirm number) never = done-keeps (confirming s session number) (confirm-keeps number (nat_le s.outbox.next number))
-  kept (Bind file) never = done-keeps (reading_bindings s session (file_tree file (at.files file))) (bind-keeps (file_tree file (at.files file)))
   kept (SetPreference name value) never = done-keeps (preferring s session name (Some value)) (preferring-keeps name (Some value))
   kept (ClearPreference name) never = done-keeps (preferring s session name None) (preferring-keeps name None)
-  kept commands.Preferences never = done-keeps (listing_preferences s session) there
-  kept WriteManifest never = done-keeps (writing_manifest s session session.manifest) (written-keeps session.manifest)
+  kept (Event name count) never = done-keeps (counting at.now s session name count) (counting_either at s session Keeps (λ answer. tt) name count (λ room. there))
+  kept (Confirm number) never = done-keeps (confirming s session number) (confirming_either at s session Keeps (λ answer. tt) number (λ known. there))
+  kept command never = done-keeps (outcome at s session command) (leaving_either at s session Keeps (λ answer. tt) (λ next answer. there) command tt)
 
 -- ---- an opt-out
 

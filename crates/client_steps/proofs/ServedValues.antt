@@ -52,6 +52,7 @@ use Rattle.client_steps.specs.Steps.{OutcomeOver, EnrolmentOutcome, Outcome, Acc
 use Rattle.json_tree.specs.Inverse.{tree_from}
 use Rattle.client_steps.proofs.LinkedManifests.{manifest_linked}
 use Rattle.client_steps.proofs.SoundValues.{records_sound}
+use Rattle.client_steps.proofs.Outcomes.{either_step}
 use Rattle.client_steps.proofs.Stepping.{whole_either, preferring_either}
 use Rattle.json_tree.proofs.Trees.{same_values}
 use Rattle.client_steps.proofs.Trees.{tree_of_value}
@@ -110,10 +111,6 @@ checked-plain (Err fault) = link-plain fault
 manifest-plain : (files : List ℕ → Option (List ℕ)) (name channel : List ℕ) → RefusesPlainly (manifest_of files name channel)
 unfolding manifest_of
 manifest-plain files name channel = checked-plain (linked files name channel)
-
-either_step : (P : Step → Type 0) (b : Bool) (x y : Step) → P x → P y → P (if b then x else y)
-either_step P true x y here there = here
-either_step P false x y here there = there
 
 -- ---- the commands that are answered no value
 

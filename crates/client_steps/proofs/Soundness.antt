@@ -1,6 +1,6 @@
 -- A step keeps a state sound and a session lawful, and so do many.
 use Rattle.std.proofs.Common.{◌≡◌, ◌≤◌, ℕ, Bool, true, false, List, [], ◌∷◌, length, Option, Some, None, Result, Ok, Err, IsTrue, refl, sym, subst}
-use Rattle.std.specs.Prelude.{All, nat_lt, nat_le, if◌then◌else◌}
+use Rattle.std.specs.Prelude.{All, nat_lt, if◌then◌else◌}
 use Rattle.std.proofs.lemmas.Bool.{leb-false, ltb-false}
 use Rattle.std.proofs.lemmas.List.Elements.{All-head, All-tail}
 use Rattle.json_tree.specs.Json.{Json}
@@ -12,18 +12,12 @@ use Rattle.recipe_reader.specs.declared.payload.Payload.{Payload}
 use Rattle.recipe_reader.specs.declared.payload.PayloadFault.{PayloadFault}
 use Rattle.recipe_reader.specs.declared.payload.PayloadFault.TheVariants as payload
 use Rattle.recipe_reader.specs.declared.recipe.Recipe.{Recipe}
-use Rattle.app_context.specs.Contexts.{context_of}
 use Rattle.app_context.specs.declared.context.Context.{Context}
-use Rattle.app_context.specs.declared.key.ContextKey.{ContextKey}
 use Rattle.enrol_evolver.proofs.Consistency.{evolved}
-use Rattle.change_outbox.specs.Contents.{confirmed}
-use Rattle.pref_bindings.specs.Bindings.{bindings_of}
 use Rattle.pref_bindings.specs.Changes.{set_by_user}
 use Rattle.pref_bindings.specs.Preferences as preference_lists
-use Rattle.pref_bindings.specs.declared.bindings.Binding.{Binding}
 use Rattle.pref_bindings.specs.declared.preference.Preference.{Preference}
 use Rattle.enrol_states.specs.Choices.{has_no_room}
-use Rattle.event_counts.specs.Kept.{counted_in}
 use Rattle.event_counts.specs.Sound as counts
 use Rattle.event_counts.specs.declared.name_counts.NameCounts.{NameCounts}
 use Rattle.event_counts.proofs.Soundness.{sound_none}
@@ -44,23 +38,19 @@ use Rattle.client_state.proofs.Ended.{ended_is_consistent}
 use Rattle.client_state.proofs.HoldersAfter.{holders_after, holders_set}
 use Rattle.fml_types.specs.Coenrolling.{coenrolling}
 use Rattle.fml_types.specs.declared.manifest.Manifest.{Manifest}
-use Rattle.fml_value.specs.Typed.{TypedValue}
-use Rattle.feature_serving.specs.Serving.{served}
 use Rattle.client_words.specs.declared.answer.Answer.{Answer}
-use Rattle.client_words.specs.declared.answer.Answer.TheVariants.{Okay, OptedOutLimit, EventLimit, NoSuchChange, NotParticipating, NoSuchBranch, StateTooLarge}
+use Rattle.client_words.specs.declared.answer.Answer.TheVariants.{Okay, OptedOutLimit, NotParticipating, NoSuchBranch, StateTooLarge}
 use Rattle.client_words.specs.declared.command.Command.{Command}
-use Rattle.client_words.specs.declared.command.Command.TheVariants.{Fetch, Apply, Participate, OptOut, OptIn, Reset, Show, Feature, Event, Confirm, Bind, SetPreference, ClearPreference, WriteManifest}
-use Rattle.client_words.specs.declared.command.Command.TheVariants as commands
+use Rattle.client_words.specs.declared.command.Command.TheVariants.{Fetch, Apply, Participate, OptOut, OptIn, Reset, Event, Confirm, SetPreference, ClearPreference}
 use Rattle.client_steps.specs.declared.session.Session.{Session}
 use Rattle.client_steps.specs.Choosing.{first_taker}
 use Rattle.client_steps.specs.EventSteps.{is_okay}
 use Rattle.client_steps.specs.Fetching.{file_tree}
-use Rattle.client_steps.specs.Manifests.{manifest_of}
 use Rattle.client_steps.specs.PreferenceSteps.{set_after}
 use Rattle.client_steps.specs.Settings.{Setting}
 use Rattle.client_steps.specs.Soundness.{HasVersion, HasLinked, IsSession, IsLawful, Line, IsLine, all_after, HasConsistentParts, StepsStaySound}
-use Rattle.client_words.specs.Commands.{IsCommand, IsEvent}
-use Rattle.client_steps.specs.Steps.{EnrolmentOutcome, Outcome, Accepted, Refused, Step, preferences_with, whole, enrolling, seeing, has_no_room_for, counting, listing_changes, listing_preferences, confirming, preferring, participation, opting_out, taking, offering, choosing, opting_in, resetting, showing, fetched, fetching, context_read, reading_context, bindings_read, reading_bindings, setting_manifest, applying, valued, serving, writing_manifest, outcome, done, step}
+use Rattle.client_words.specs.Commands.{IsCommand}
+use Rattle.client_steps.specs.Steps.{EnrolmentOutcome, Outcome, Accepted, Refused, Step, preferences_with, whole, enrolling, seeing, counting, confirming, preferring, participation, opting_out, taking, offering, choosing, opting_in, resetting, fetched, fetching, applying, outcome, done, step}
 use Rattle.client_steps.proofs.Coenrolling.{coenrolling_names, coenrolling_rise}
 use Rattle.client_steps.proofs.CountedEvents.{counted_sound}
 use Rattle.client_steps.proofs.JoinValues.{join_sets}
@@ -70,12 +60,9 @@ use Rattle.client_steps.proofs.Payloads.{payload_kept}
 use Rattle.client_steps.proofs.Outboxes.{appended_is_sound, changes_slugs, confirmed_is_sound}
 use Rattle.client_steps.proofs.PreferenceSteps.{preferences_follow}
 use Rattle.client_steps.proofs.FollowedPreferences.{done_sound, users_sound}
+use Rattle.client_steps.proofs.Outcomes.{either_step, leaving_either, counting_either, confirming_either}
 use Rattle.client_steps.proofs.Stepping.{pending_consistent, preferring_either, whole_either}
 use Rattle.client_steps.proofs.Takers.{free_where}
-
-either_step : (P : Step → Type 0) (b : Bool) (x y : Step) → P x → P y → P (if b then x else y)
-either_step P true x y here there = here
-either_step P false x y here there = there
 
 -- ---- the parts that follow nothing of what recipes hold
 
@@ -99,22 +86,6 @@ module _ (at : Setting) (s : ClientState) (session : Session) (c : HasConsistent
   done-keeps (Accepted t next answer) keeps = either_step (λ to. HasConsistentParts to.state) (nat_lt max_size (length (encoding t))) _ _ c keeps
   done-keeps (Refused answer) keeps = c
 
-  context-keeps : (read : Result Context ContextKey) → Keeps (context_read s session read)
-  context-keeps (Ok context) = c
-  context-keeps (Err key) = tt
-
-  file-keeps : (read : Result Json Answer) → Keeps (reading_context s session read)
-  file-keeps (Ok tree) = context-keeps (context_of tree)
-  file-keeps (Err refusal) = tt
-
-  bindings-keeps : (read : Result (List Binding) (List ℕ)) → Keeps (bindings_read s session read)
-  bindings-keeps (Ok bindings) = c
-  bindings-keeps (Err feature) = tt
-
-  bind-keeps : (read : Result Json Answer) → Keeps (reading_bindings s session read)
-  bind-keeps (Ok tree) = bindings-keeps (bindings_of tree)
-  bind-keeps (Err refusal) = tt
-
   payload-keeps : (tree : Json) (read : Result Payload PayloadFault) → payload_of tree ≡ read → KeepsEnrolment (fetched s.enrolment session read)
   payload-keeps tree (Ok found) is = pending_consistent s.enrolment found.recipes c.enrolment (payload_kept tree found is)
   payload-keeps tree (Err payload.NoData) is = tt
@@ -125,10 +96,6 @@ module _ (at : Setting) (s : ClientState) (session : Session) (c : HasConsistent
   fetch-keeps (Ok tree) = payload-keeps tree (payload_of tree) refl
   fetch-keeps (Err refusal) = tt
 
-  manifest-keeps : (read : Result Manifest Answer) → Keeps (setting_manifest s session read)
-  manifest-keeps (Ok manifest) = c
-  manifest-keeps (Err refusal) = tt
-
   apply-keeps : at.now ≤ last_moment → (manifest : Option Manifest) → HasLinked manifest → (context : Option Context) → HasVersion context → KeepsEnrolment (applying at.now s.enrolment session manifest context)
   apply-keeps moment None linked context text = tt
   apply-keeps moment (Some manifest) linked None text = tt
@@ -138,18 +105,6 @@ module _ (at : Setting) (s : ClientState) (session : Session) (c : HasConsistent
   seen-version : (context : Option Context) → HasVersion context → HasVersion (seeing at.now s.events context)
   seen-version None text = tt
   seen-version (Some context) text = text
-
-  value-keeps : (found : Option TypedValue) → Keeps (valued s session found)
-  value-keeps None = tt
-  value-keeps (Some value) = c
-
-  feature-keeps : (name : List ℕ) (manifest : Option Manifest) → Keeps (serving s session name manifest)
-  feature-keeps name None = tt
-  feature-keeps name (Some manifest) = value-keeps (served manifest s.enrolment name)
-
-  written-keeps : (manifest : Option Manifest) → Keeps (writing_manifest s session manifest)
-  written-keeps None = tt
-  written-keeps (Some manifest) = c
 
   out-keeps : (slug : List ℕ) → IsSlug slug → (full : Bool) → has_no_room s.enrolment.opted_out slug ≡ full → KeepsEnrolment (if full then Refused OptedOutLimit else Accepted (after_opt_out s.enrolment slug) session Okay)
   out-keeps slug is_slug true e = tt
@@ -173,15 +128,6 @@ module _ (at : Setting) (s : ClientState) (session : Session) (c : HasConsistent
     choosing-keeps None e = tt
     choosing-keeps (Some r) e = part-keeps r e (takes_part s.enrolment (kind_of r)) refl
 
-  count-keeps : (name : List ℕ) (count : ℕ) → IsEvent name count → at.now ≤ last_moment → (full : Bool) → has_no_room_for name s.events ≡ full
-      → Keeps (if full then Refused EventLimit else Accepted (record s { events = counted_in name count at.now s.events }) session Okay)
-  count-keeps name count is moment true e = tt
-  count-keeps name count is moment false e = record { enrolment = c.enrolment; events = counted_sound name count at.now s.events c.events is.name moment e; outbox = c.outbox }
-
-  confirm-keeps : (number : ℕ) (unknown : Bool) → nat_le s.outbox.next number ≡ unknown → Keeps (if unknown then Refused (NoSuchChange s.outbox.next) else Accepted (record s { outbox = confirmed number s.outbox }) session Okay)
-  confirm-keeps number true e = tt
-  confirm-keeps number false e = record { enrolment = c.enrolment; events = c.events; outbox = confirmed_is_sound s.outbox number c.outbox (leb-false s.outbox.next number e) }
-
   preferring-keeps : (name : List ℕ) (value : Option Tree) → Keeps (preferring s session name value)
   preferring-keeps name value =
       preferring_either Keeps s session name value tt (λ free. record { enrolment = c.enrolment; events = c.events; outbox = c.outbox })
@@ -194,8 +140,6 @@ module _ (at : Setting) (s : ClientState) (session : Session) (c : HasConsistent
 
   parts : (command : Command) → at.now ≤ last_moment → IsCommand command → IsSession session → HasConsistentParts (step at s session command).state
   unfolding step
-  parts (commands.Manifest file channel) moment is texts = done-keeps (setting_manifest s session (manifest_of at.files file channel)) (manifest-keeps (manifest_of at.files file channel))
-  parts (commands.Context file) moment is texts = done-keeps (reading_context s session (file_tree file (at.files file))) (file-keeps (file_tree file (at.files file)))
   parts (Fetch file) moment is texts = enrolment-keeps (fetching s.enrolment session (file_tree file (at.files file))) (fetch-keeps (file_tree file (at.files file)))
   parts Apply moment is texts =
       let seen = seeing at.now s.events session.context in
@@ -205,16 +149,15 @@ module _ (at : Setting) (s : ClientState) (session : Session) (c : HasConsistent
   parts (OptIn slug branch) moment is texts = enrolment-keeps (opting_in s.enrolment session slug branch) (choosing-keeps slug branch is.0 is.1 (recipe_with slug s.enrolment.live) refl)
   parts (Reset id) moment is texts =
       done-keeps (whole s session [] (resetting s.enrolment session id)) (whole-keeps [] (sound_none [] refl) (resetting s.enrolment session id) (reset-consistent s.enrolment id is c.enrolment))
-  parts Show moment is texts = done-keeps (showing s session) c
-  parts (Feature name) moment is texts = done-keeps (serving s session name session.manifest) (feature-keeps name session.manifest)
-  parts (Event name count) moment is texts = done-keeps (counting at.now s session name count) (count-keeps name count is moment (has_no_room_for name s.events) refl)
-  parts commands.Changes moment is texts = done-keeps (listing_changes s session) c
-  parts (Confirm number) moment is texts = done-keeps (confirming s session number) (confirm-keeps number (nat_le s.outbox.next number) refl)
-  parts (Bind file) moment is texts = done-keeps (reading_bindings s session (file_tree file (at.files file))) (bind-keeps (file_tree file (at.files file)))
   parts (SetPreference name value) moment is texts = done-keeps (preferring s session name (Some value)) (preferring-keeps name (Some value))
   parts (ClearPreference name) moment is texts = done-keeps (preferring s session name None) (preferring-keeps name None)
-  parts commands.Preferences moment is texts = done-keeps (listing_preferences s session) c
-  parts WriteManifest moment is texts = done-keeps (writing_manifest s session session.manifest) (written-keeps session.manifest)
+  parts (Event name count) moment is texts =
+      done-keeps (counting at.now s session name count)
+      (counting_either at s session Keeps (λ answer. tt) name count (λ room. record { enrolment = c.enrolment; events = counted_sound name count at.now s.events c.events is.name moment room; outbox = c.outbox }))
+  parts (Confirm number) moment is texts =
+      done-keeps (confirming s session number)
+      (confirming_either at s session Keeps (λ answer. tt) number (λ known. record { enrolment = c.enrolment; events = c.events; outbox = confirmed_is_sound s.outbox number c.outbox (leb-false s.outbox.next number known) }))
+  parts command moment is texts = done-keeps (outcome at s session command) (leaving_either at s session Keeps (λ answer. tt) (λ next answer. c) command tt)
 
 -- ---- the preferences
 
@@ -225,24 +168,9 @@ module _ (P : List Preference → Type 0) (ps : List Preference) (was : P ps) (s
   set_if name value command false is set leaves = subst P (sym leaves) was
 
   set_keeps : (command : Command) → IsCommand command → (is_done : Bool) → P (set_after command is_done ps)
-  set_keeps (commands.Manifest file channel) is is_done = was
-  set_keeps (commands.Context file) is is_done = was
-  set_keeps (Fetch file) is is_done = was
-  set_keeps Apply is is_done = was
-  set_keeps (Participate kinds on) is is_done = was
-  set_keeps (OptOut slug) is is_done = was
-  set_keeps (OptIn slug branch) is is_done = was
-  set_keeps (Reset id) is is_done = was
-  set_keeps Show is is_done = was
-  set_keeps (Feature name) is is_done = was
-  set_keeps (Event name count) is is_done = was
-  set_keeps commands.Changes is is_done = was
-  set_keeps (Confirm number) is is_done = was
-  set_keeps (Bind file) is is_done = was
   set_keeps (SetPreference name value) is is_done = set_if name (Some value) (SetPreference name value) is_done (sets name (Some value) is.0 is.1) refl refl
   set_keeps (ClearPreference name) is is_done = set_if name None (ClearPreference name) is_done (sets name None is tt) refl refl
-  set_keeps commands.Preferences is is_done = was
-  set_keeps WriteManifest is is_done = was
+  set_keeps command is is_done = was
 
 module _ (at : Setting) (s : ClientState) (session : Session) (c : IsConsistent s) (records : HaveRecords s.enrolment) where
   consistent : (command : Command) → at.now ≤ last_moment → IsCommand command → IsSession session → IsConsistent (step at s session command).state

@@ -43,7 +43,7 @@ pending_consistent s recipes was kept = record {
 
 -- ---- an accepted enrolment
 
-either : (P : Outcome → Type 0) (b : Bool) (x y : Outcome) → P x → (b ≡ false → P y) → P (if b then x else y)
+pub either : (P : Outcome → Type 0) (b : Bool) (x y : Outcome) → P x → (b ≡ false → P y) → P (if b then x else y)
 either P true x y here there = here
 either P false x y here there = there refl
 
