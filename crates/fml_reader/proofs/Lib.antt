@@ -1,3 +1,4 @@
+pub mod SameTrees
 pub mod Unders
 pub mod Steps
 pub mod Rising

@@ -1,4 +1,5 @@
 pub mod Schemas
+pub mod Trees
 pub mod Copies
 pub mod Ratios
 pub mod Loops
