@@ -1,52 +1,39 @@
 -- A step keeps a session lawful, and its texts in UTF-8.
-use Rattle.std.proofs.Common.{◌≡◌, ℕ, Bool, true, false, List, [], length, Option, Some, None, Result, Ok, Err, IsUtf8, refl, subst}
-use Rattle.std.specs.Prelude.{IfOk, nat_lt, nat_le, if◌then◌else◌}
+use Rattle.std.proofs.Common.{◌≡◌, ℕ, List, [], length, Option, Some, None, Result, Ok, Err, IsUtf8, refl, subst}
+use Rattle.std.specs.Prelude.{IfOk, nat_lt}
 use Rattle.json_tree.specs.Json as json
 use Rattle.json_tree.specs.Json.{Json, IsSound}
 use Rattle.json_tree.specs.declared.tree.Tree.{Tree}
-use Rattle.recipe_reader.specs.Kinds.{kind_of}
-use Rattle.recipe_reader.specs.Payloads.{payload_of, recipe_with}
-use Rattle.recipe_reader.specs.declared.payload.Payload.{Payload}
-use Rattle.recipe_reader.specs.declared.payload.PayloadFault.{PayloadFault}
-use Rattle.recipe_reader.specs.declared.payload.PayloadFault.TheVariants as payload
-use Rattle.recipe_reader.specs.declared.recipe.Recipe.{Recipe}
 use Rattle.app_context.specs.Contexts.{context_of}
 use Rattle.app_context.specs.declared.context.Context.{Context}
 use Rattle.app_context.specs.declared.key.ContextKey.{ContextKey}
-use Rattle.change_outbox.specs.Contents.{confirmed}
 use Rattle.pref_bindings.specs.Bindings.{AreBindings, bindings_of}
 use Rattle.pref_bindings.specs.declared.bindings.Binding.{Binding}
 use Rattle.pref_bindings.proofs.BindingsRead.{read_are}
 use Rattle.enrol_evolver.specs.Evolution.{version_of}
-use Rattle.enrol_states.specs.Choices.{has_no_room}
-use Rattle.event_counts.specs.Kept.{counted_in}
 use Rattle.event_counts.specs.declared.name_counts.NameCounts.{NameCounts}
 use Rattle.client_state.specs.declared.client_state.ClientState.{ClientState}
-use Rattle.enrol_states.specs.Commands.{after_opt_out}
-use Rattle.enrol_states.specs.Participation.{takes_part}
-use Rattle.enrol_states.specs.Recipes.{has_branch}
 use Rattle.client_state.specs.Sound.{max_size}
 use Rattle.client_state.specs.Encoding.{encoding}
 use Rattle.fml_types.specs.declared.manifest.Manifest.{Manifest}
 use Rattle.fml_value.specs.Typed.{TypedValue}
 use Rattle.feature_serving.specs.Serving.{served}
 use Rattle.client_words.specs.declared.answer.Answer.{Answer}
-use Rattle.client_words.specs.declared.answer.Answer.TheVariants.{Okay, OptedOutLimit, EventLimit, NoSuchChange, NotParticipating, NoSuchBranch}
 use Rattle.client_words.specs.declared.command.Command.{Command}
 use Rattle.client_words.specs.declared.command.Command.TheVariants.{Fetch, Apply, Participate, OptOut, OptIn, Reset, Show, Feature, Event, Confirm, Bind, SetPreference, ClearPreference, WriteManifest}
 use Rattle.client_words.specs.declared.command.Command.TheVariants as commands
 use Rattle.client_steps.specs.declared.session.Session.{Session}
-use Rattle.client_steps.specs.Choosing.{first_taker}
 use Rattle.client_steps.specs.Fetching.{file_tree}
 use Rattle.client_steps.specs.Manifests.{manifest_of}
 use Rattle.client_steps.specs.Sessions.{with_manifest, with_context, with_bindings}
 use Rattle.client_steps.specs.Settings.{Setting}
 use Rattle.client_steps.specs.Soundness.{HasVersion, HasLinked, HasBindings, IsSession, IsLawfulManifest, IsLawfulContext, IsLawfulBindings, IsLawful}
-use Rattle.client_steps.specs.Steps.{OutcomeOver, EnrolmentOutcome, Outcome, Accepted, Refused, Step, whole, seeing, has_no_room_for, preferring, participation, resetting, opting_out, opting_in, taking, offering, choosing, fetched, fetching, context_read, reading_context, bindings_read, reading_bindings, setting_manifest, applying, valued, serving, writing_manifest, outcome, done, step}
+use Rattle.client_steps.specs.Steps.{OutcomeOver, EnrolmentOutcome, Outcome, Accepted, Refused, whole, seeing, preferring, participation, resetting, opting_out, opting_in, fetching, context_read, reading_context, bindings_read, reading_bindings, setting_manifest, applying, valued, serving, writing_manifest, outcome, done, step}
 use Rattle.client_steps.proofs.LinkedManifests.{manifest_linked}
 use Rattle.client_steps.proofs.ReadContexts.{context_version}
 use Rattle.client_steps.proofs.ReadFiles.{file_sound}
-use Rattle.client_steps.proofs.Outcomes.{either_step}
+use Rattle.client_steps.proofs.EnrolmentOutcomes.{fetching_either, applying_either, opting_out_either, opting_in_either}
+use Rattle.client_steps.proofs.Outcomes.{either_step, counting_either, confirming_either}
 use Rattle.client_steps.proofs.Stepping.{whole_either, preferring_either}
 
 -- what each session keeps that has a manifest that links, or the context or the bindings of a sound tree, where it has others than before
@@ -82,24 +69,9 @@ module _ (P : Session → Type 0) (at : Setting) (s : ClientState) (session : Se
   preferring-carries : (name : List ℕ) (value : Option Tree) → Carries (preferring s session name value)
   preferring-carries name value = preferring_either (λ (asked : Outcome). Carries asked) s session name value tt (λ free. was) (λ holder held fits. was)
 
-  payload-carries : (read : Result Payload PayloadFault) → Carries (fetched s.enrolment session read)
-  payload-carries (Ok found) = was
-  payload-carries (Err payload.NoData) = tt
-  payload-carries (Err (payload.TooManyRecipes count)) = tt
-  payload-carries (Err payload.OutOfMemory) = tt
-
-  fetch-carries : (read : Result Json Answer) → Carries (fetching s.enrolment session read)
-  fetch-carries (Ok tree) = payload-carries (payload_of tree)
-  fetch-carries (Err refusal) = tt
-
   manifest-carries : (file channel : List ℕ) (read : Result Manifest Answer) → manifest_of at.files file channel ≡ read → Carries (setting_manifest s session read)
   manifest-carries file channel (Ok manifest) is = links file channel manifest is
   manifest-carries file channel (Err refusal) is = tt
-
-  apply-carries : (manifest : Option Manifest) (context : Option Context) → Carries (applying at.now s.enrolment session manifest context)
-  apply-carries None context = tt
-  apply-carries (Some manifest) None = tt
-  apply-carries (Some manifest) (Some context) = was
 
   value-carries : (found : Option TypedValue) → Carries (valued s session found)
   value-carries None = tt
@@ -113,49 +85,20 @@ module _ (P : Session → Type 0) (at : Setting) (s : ClientState) (session : Se
   written-carries None = tt
   written-carries (Some manifest) = was
 
-  out-carries : (slug : List ℕ) (full : Bool) → Carries (if full then Refused OptedOutLimit else Accepted (after_opt_out s.enrolment slug) session Okay)
-  out-carries slug true = tt
-  out-carries slug false = was
-
-  module _ (slug branch : List ℕ) where
-    taking-carries : (taker : Option (List ℕ × List ℕ)) → Carries (taking s.enrolment session slug branch taker)
-    taking-carries None = was
-    taking-carries (Some taker) = tt
-
-    branch-carries : (r : Recipe) (has : Bool) → Carries (if has then taking s.enrolment session slug branch (first_taker s.enrolment r s.enrolment.rows) else Refused NoSuchBranch)
-    branch-carries r true = taking-carries (first_taker s.enrolment r s.enrolment.rows)
-    branch-carries r false = tt
-
-    part-carries : (r : Recipe) (on : Bool) → Carries (if on then offering s.enrolment session slug branch r else Refused NotParticipating)
-    part-carries r true = branch-carries r (has_branch r branch)
-    part-carries r false = tt
-
-    choosing-carries : (found : Option Recipe) → Carries (choosing s.enrolment session slug branch found)
-    choosing-carries None = tt
-    choosing-carries (Some r) = part-carries r (takes_part s.enrolment (kind_of r))
-
-  count-carries : (name : List ℕ) (count : ℕ) (full : Bool) → Carries (if full then Refused EventLimit else Accepted (record s { events = counted_in name count at.now s.events }) session Okay)
-  count-carries name count true = tt
-  count-carries name count false = was
-
-  confirm-carries : (number : ℕ) (unknown : Bool) → Carries (if unknown then Refused (NoSuchChange s.outbox.next) else Accepted (record s { outbox = confirmed number s.outbox }) session Okay)
-  confirm-carries number true = tt
-  confirm-carries number false = was
-
   outcome-carries : (command : Command) → Carries (outcome at s session command)
   outcome-carries (commands.Manifest file channel) = manifest-carries file channel (manifest_of at.files file channel) refl
   outcome-carries (commands.Context file) = file-carries (file_tree file (at.files file)) (file_sound file (at.files file))
-  outcome-carries (Fetch file) = whole-carries s.events (fetching s.enrolment session (file_tree file (at.files file))) (fetch-carries (file_tree file (at.files file)))
-  outcome-carries Apply = whole-carries s.events (applying at.now s.enrolment session session.manifest (seeing at.now s.events session.context)) (apply-carries session.manifest (seeing at.now s.events session.context))
+  outcome-carries (Fetch file) = whole-carries s.events (fetching s.enrolment session (file_tree file (at.files file))) (fetching_either s.enrolment session (λ (asked : EnrolmentOutcome). Carries asked) (λ answer. tt) (file_tree file (at.files file)) (λ tree found is loads. was))
+  outcome-carries Apply = whole-carries s.events (applying at.now s.enrolment session session.manifest (seeing at.now s.events session.context)) (applying_either s.enrolment session (λ (asked : EnrolmentOutcome). Carries asked) (λ answer. tt) at.now session.manifest (seeing at.now s.events session.context) (λ m c. was))
   outcome-carries (Participate kinds on) = whole-carries s.events (participation s.enrolment session kinds on) was
-  outcome-carries (OptOut slug) = whole-carries s.events (opting_out s.enrolment session slug) (out-carries slug (has_no_room s.enrolment.opted_out slug))
-  outcome-carries (OptIn slug branch) = whole-carries s.events (opting_in s.enrolment session slug branch) (choosing-carries slug branch (recipe_with slug s.enrolment.live))
+  outcome-carries (OptOut slug) = whole-carries s.events (opting_out s.enrolment session slug) (opting_out_either s.enrolment session (λ (asked : EnrolmentOutcome). Carries asked) (λ answer. tt) slug was)
+  outcome-carries (OptIn slug branch) = whole-carries s.events (opting_in s.enrolment session slug branch) (opting_in_either s.enrolment session (λ (asked : EnrolmentOutcome). Carries asked) (λ answer. tt) slug branch was)
   outcome-carries (Reset id) = whole-carries [] (resetting s.enrolment session id) was
   outcome-carries Show = was
   outcome-carries (Feature name) = feature-carries name session.manifest
-  outcome-carries (Event name count) = count-carries name count (has_no_room_for name s.events)
+  outcome-carries (Event name count) = counting_either at s session (λ (asked : Outcome). Carries asked) (λ answer. tt) name count (λ room. was)
   outcome-carries commands.Changes = was
-  outcome-carries (Confirm number) = confirm-carries number (nat_le s.outbox.next number)
+  outcome-carries (Confirm number) = confirming_either at s session (λ (asked : Outcome). Carries asked) (λ answer. tt) number (λ known. was)
   outcome-carries (Bind file) = bind-carries (file_tree file (at.files file)) (file_sound file (at.files file))
   outcome-carries (SetPreference name value) = preferring-carries name (Some value)
   outcome-carries (ClearPreference name) = preferring-carries name None

@@ -3,6 +3,7 @@ mod Coenrolling
 mod Payloads
 pub mod Stepping
 pub mod Outcomes
+pub mod EnrolmentOutcomes
 mod JoinValues
 pub mod FollowedPreferences
 mod CountedEvents

@@ -1,24 +1,16 @@
 -- A slug that is opted out stays so, until its user brings it back.
-use Rattle.std.proofs.Common.{Ordering, ◌≡◌, ℕ, Bool, true, false, List, [], ◌∷◌, length, Option, Some, None, Result, Ok, Err, Less, Equal, Greater, ◌||◌, refl, sym, ap, ◌∙◌, subst}
+use Rattle.std.proofs.Common.{Ordering, ◌≡◌, ℕ, Bool, true, false, List, [], ◌∷◌, length, Option, Some, None, Less, Equal, Greater, ◌||◌, refl, sym, ap, ◌∙◌, subst}
 use Rattle.std.specs.Prelude.{not, nat_lt, bytes_eq, if◌then◌else◌}
 use Rattle.std.specs.BTreeSet.{insert_key}
 use Rattle.std.specs.Cmp.Lexicographic.{bytes_decides}
 use Rattle.std.specs.Ordering.{match_ordering}
-use Rattle.json_tree.specs.Json.{Json}
 use Rattle.json_tree.specs.declared.tree.Tree.{Tree}
-use Rattle.recipe_reader.specs.Kinds.{kind_of}
-use Rattle.recipe_reader.specs.Payloads.{slug_cmp, payload_of, recipe_with}
-use Rattle.recipe_reader.specs.declared.payload.Payload.{Payload}
-use Rattle.recipe_reader.specs.declared.payload.PayloadFault.{PayloadFault}
-use Rattle.recipe_reader.specs.declared.payload.PayloadFault.TheVariants as payload
-use Rattle.recipe_reader.specs.declared.recipe.Recipe.{Recipe}
+use Rattle.recipe_reader.specs.Payloads.{slug_cmp}
 use Rattle.enrol_states.specs.Choices.{has_no_room}
 use Rattle.event_counts.specs.declared.name_counts.NameCounts.{NameCounts}
 use Rattle.client_state.specs.declared.client_state.ClientState.{ClientState}
 use Rattle.enrol_states.specs.Commands.{after_opt_out, after_opt_in, after_reset, without_text}
 use Rattle.enrol_states.specs.Order.{is_in}
-use Rattle.enrol_states.specs.Participation.{takes_part}
-use Rattle.enrol_states.specs.Recipes.{has_branch}
 use Rattle.enrol_states.proofs.OptOuts.{is_in-insert}
 use Rattle.enrol_states.proofs.Ordered.{same_texts}
 use Rattle.client_state.specs.Sound.{max_size}
@@ -26,16 +18,15 @@ use Rattle.client_state.specs.Encoding.{encoding}
 use Rattle.enrol_evolver.specs.Evolution.{evolution}
 use Rattle.app_context.specs.declared.context.Context.{Context}
 use Rattle.fml_types.specs.declared.manifest.Manifest.{Manifest}
-use Rattle.client_words.specs.declared.answer.Answer.{Answer}
-use Rattle.client_words.specs.declared.answer.Answer.TheVariants.{Okay, OptedOutLimit, NotParticipating, NoSuchBranch, StateTooLarge}
+use Rattle.client_words.specs.declared.answer.Answer.TheVariants.{Okay, OptedOutLimit, StateTooLarge}
 use Rattle.client_words.specs.declared.command.Command.{Command}
 use Rattle.client_words.specs.declared.command.Command.TheVariants.{Fetch, Apply, Participate, OptOut, OptIn, Reset, Event, Confirm, SetPreference, ClearPreference}
 use Rattle.client_steps.specs.declared.session.Session.{Session}
-use Rattle.client_steps.specs.Choosing.{first_taker}
 use Rattle.client_steps.specs.Fetching.{file_tree}
 use Rattle.client_steps.specs.OptOuts.{BringsBack, OptOutsHold}
 use Rattle.client_steps.specs.Settings.{Setting}
-use Rattle.client_steps.specs.Steps.{EnrolmentOutcome, Outcome, Accepted, Refused, Step, with_enrolment, whole, enrolling, seeing, counting, confirming, preferring, participation, opting_out, taking, offering, choosing, fetched, fetching, applying, outcome, done, step}
+use Rattle.client_steps.specs.Steps.{EnrolmentOutcome, Outcome, Accepted, Refused, Step, with_enrolment, whole, enrolling, seeing, counting, confirming, preferring, participation, opting_out, fetching, applying, applied, outcome, done, step}
+use Rattle.client_steps.proofs.EnrolmentOutcomes.{fetching_either, applying_either, opting_out_either, opting_in_either}
 use Rattle.client_steps.proofs.Outcomes.{either_step, leaving_either, counting_either, confirming_either}
 use Rattle.client_steps.proofs.Stepping.{whole_either, preferring_either}
 
@@ -94,25 +85,9 @@ module _ (at : Setting) (s : ClientState) (session : Session) (slug : List ℕ) 
   done-keeps (Accepted t next answer) keeps = either_step (λ to. is_in to.state.enrolment.opted_out slug ≡ true) (nat_lt max_size (length (encoding t))) _ _ there keeps
   done-keeps (Refused answer) keeps = there
 
-  payload-keeps : (read : Result Payload PayloadFault) → KeepsEnrolment (fetched s.enrolment session read)
-  payload-keeps (Ok found) = there
-  payload-keeps (Err payload.NoData) = tt
-  payload-keeps (Err (payload.TooManyRecipes count)) = tt
-  payload-keeps (Err payload.OutOfMemory) = tt
-
-  fetch-keeps : (read : Result Json Answer) → KeepsEnrolment (fetching s.enrolment session read)
-  fetch-keeps (Ok tree) = payload-keeps (payload_of tree)
-  fetch-keeps (Err refusal) = tt
-
-  apply-keeps : (manifest : Option Manifest) (context : Option Context) → KeepsEnrolment (applying at.now s.enrolment session manifest context)
+  applied-keeps : (manifest : Manifest) (context : Context) → is_in (applied at.now s.enrolment manifest context).opted_out slug ≡ true
   unfolding evolution
-  apply-keeps None context = tt
-  apply-keeps (Some manifest) None = tt
-  apply-keeps (Some manifest) (Some context) = there
-
-  out-keeps : (other : List ℕ) (full : Bool) → KeepsEnrolment (if full then Refused OptedOutLimit else Accepted (after_opt_out s.enrolment other) session Okay)
-  out-keeps other true = tt
-  out-keeps other false = kept-insert other slug s.enrolment.opted_out there
+  applied-keeps manifest context = there
 
   preferring-keeps : (name : List ℕ) (value : Option Tree) → Keeps (preferring s session name value)
   preferring-keeps name value = preferring_either Keeps s session name value tt (λ free. there) (λ holder held fits. there)
@@ -135,33 +110,20 @@ module _ (at : Setting) (s : ClientState) (session : Session) (slug : List ℕ) 
   accepted-unless : (t : ClientState) (next : Session) (back : Bool) → (back ≡ false → is_in t.enrolment.opted_out slug ≡ true) → KeepsUnless back (Accepted t next Okay)
   accepted-unless t next back keeps = unless_at t next back (nat_lt max_size (length (encoding t))) keeps
 
-  module _ (other branch : List ℕ) where
-    taking-unless : (taker : Option (List ℕ × List ℕ)) → KeepsUnless (bytes_eq other slug) (enrolling s session (taking s.enrolment session other branch taker))
-    taking-unless None =
-        let e = after_opt_in s.enrolment other branch in
-        whole_either (KeepsUnless (bytes_eq other slug)) s session s.events e session Okay (λ never. there)
-        (λ fits. accepted-unless (with_enrolment session s e s.events) session (bytes_eq other slug) (λ apart. kept-without other slug s.enrolment.opted_out apart there))
-    taking-unless (Some taker) = λ never. there
-
-    branch-unless : (r : Recipe) (has : Bool) → KeepsUnless (bytes_eq other slug) (enrolling s session (if has then taking s.enrolment session other branch (first_taker s.enrolment r s.enrolment.rows) else Refused NoSuchBranch))
-    branch-unless r true = taking-unless (first_taker s.enrolment r s.enrolment.rows)
-    branch-unless r false = λ never. there
-
-    part-unless : (r : Recipe) (on : Bool) → KeepsUnless (bytes_eq other slug) (enrolling s session (if on then offering s.enrolment session other branch r else Refused NotParticipating))
-    part-unless r true = branch-unless r (has_branch r branch)
-    part-unless r false = λ never. there
-
-    choosing-unless : (found : Option Recipe) → KeepsUnless (bytes_eq other slug) (enrolling s session (choosing s.enrolment session other branch found))
-    choosing-unless None = λ never. there
-    choosing-unless (Some r) = part-unless r (takes_part s.enrolment (kind_of r))
+  taken-unless : (other branch : List ℕ) → KeepsUnless (bytes_eq other slug) (enrolling s session (Accepted (after_opt_in s.enrolment other branch) session Okay))
+  taken-unless other branch =
+      let e = after_opt_in s.enrolment other branch in
+      whole_either (KeepsUnless (bytes_eq other slug)) s session s.events e session Okay (λ never. there)
+      (λ fits. accepted-unless (with_enrolment session s e s.events) session (bytes_eq other slug) (λ apart. kept-without other slug s.enrolment.opted_out apart there))
 
   kept : (command : Command) → (BringsBack at s session slug command → ⊥) → is_in (step at s session command).state.enrolment.opted_out slug ≡ true
   unfolding step
-  kept (Fetch file) never = enrolment-keeps (fetching s.enrolment session (file_tree file (at.files file))) (fetch-keeps (file_tree file (at.files file)))
-  kept Apply never = enrolment-keeps (applying at.now s.enrolment session session.manifest (seeing at.now s.events session.context)) (apply-keeps session.manifest (seeing at.now s.events session.context))
+  kept (Fetch file) never = enrolment-keeps (fetching s.enrolment session (file_tree file (at.files file))) (fetching_either s.enrolment session KeepsEnrolment (λ answer. tt) (file_tree file (at.files file)) (λ tree found is loads. there))
+  kept Apply never = enrolment-keeps (applying at.now s.enrolment session session.manifest (seeing at.now s.events session.context)) (applying_either s.enrolment session KeepsEnrolment (λ answer. tt) at.now session.manifest (seeing at.now s.events session.context) applied-keeps)
   kept (Participate kinds on) never = enrolment-keeps (participation s.enrolment session kinds on) there
-  kept (OptOut other) never = enrolment-keeps (opting_out s.enrolment session other) (out-keeps other (has_no_room s.enrolment.opted_out other))
-  kept (OptIn other branch) never = choosing-unless other branch (recipe_with other s.enrolment.live) (λ back is_done. never (back, is_done))
+  kept (OptOut other) never = enrolment-keeps (opting_out s.enrolment session other) (opting_out_either s.enrolment session KeepsEnrolment (λ answer. tt) other (kept-insert other slug s.enrolment.opted_out there))
+  kept (OptIn other branch) never =
+      opting_in_either s.enrolment session (λ (asked : EnrolmentOutcome). KeepsUnless (bytes_eq other slug) (enrolling s session asked)) (λ answer never. there) other branch (taken-unless other branch) (λ back is_done. never (back, is_done))
   kept (Reset id) never =
       let e = after_reset s.enrolment id in
       whole_either (KeepsUnless true) s session [] e session Okay (λ apart. there) (λ fits. accepted-unless (with_enrolment session s e []) session true (λ apart. absurd cc)) (λ back is_done. never (back, is_done))

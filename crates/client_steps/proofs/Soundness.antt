@@ -1,5 +1,5 @@
 -- A step keeps a state sound and a session lawful, and so do many.
-use Rattle.std.proofs.Common.{◌≡◌, ◌≤◌, ℕ, Bool, true, false, List, [], ◌∷◌, length, Option, Some, None, Result, Ok, Err, IsTrue, refl, sym, subst}
+use Rattle.std.proofs.Common.{◌≡◌, ◌≤◌, ℕ, Bool, true, false, List, [], ◌∷◌, length, Option, Some, None, Result, IsTrue, refl, sym, subst}
 use Rattle.std.specs.Prelude.{All, nat_lt, if◌then◌else◌}
 use Rattle.std.proofs.lemmas.Bool.{leb-false, ltb-false}
 use Rattle.std.proofs.lemmas.List.Elements.{All-head, All-tail}
@@ -7,10 +7,7 @@ use Rattle.json_tree.specs.Json.{Json}
 use Rattle.json_tree.specs.declared.tree.Tree.{Tree}
 use Rattle.plain_text.specs.Names.{is_name}
 use Rattle.recipe_reader.specs.Kinds.{kind_of}
-use Rattle.recipe_reader.specs.Payloads.{payload_of, recipe_with}
-use Rattle.recipe_reader.specs.declared.payload.Payload.{Payload}
-use Rattle.recipe_reader.specs.declared.payload.PayloadFault.{PayloadFault}
-use Rattle.recipe_reader.specs.declared.payload.PayloadFault.TheVariants as payload
+use Rattle.recipe_reader.specs.Payloads.{recipe_with}
 use Rattle.recipe_reader.specs.declared.recipe.Recipe.{Recipe}
 use Rattle.app_context.specs.declared.context.Context.{Context}
 use Rattle.enrol_evolver.proofs.Consistency.{evolved}
@@ -50,7 +47,7 @@ use Rattle.client_steps.specs.PreferenceSteps.{set_after}
 use Rattle.client_steps.specs.Settings.{Setting}
 use Rattle.client_steps.specs.Soundness.{HasVersion, HasLinked, IsSession, IsLawful, Line, IsLine, all_after, HasConsistentParts, StepsStaySound}
 use Rattle.client_words.specs.Commands.{IsCommand}
-use Rattle.client_steps.specs.Steps.{EnrolmentOutcome, Outcome, Accepted, Refused, Step, preferences_with, whole, enrolling, seeing, counting, confirming, preferring, participation, opting_out, taking, offering, choosing, opting_in, resetting, fetched, fetching, applying, outcome, done, step}
+use Rattle.client_steps.specs.Steps.{EnrolmentOutcome, Outcome, Accepted, Refused, Step, preferences_with, whole, enrolling, seeing, counting, confirming, preferring, participation, opting_out, taking, offering, choosing, opting_in, resetting, fetching, applying, outcome, done, step}
 use Rattle.client_steps.proofs.Coenrolling.{coenrolling_names, coenrolling_rise}
 use Rattle.client_steps.proofs.CountedEvents.{counted_sound}
 use Rattle.client_steps.proofs.JoinValues.{join_sets}
@@ -60,6 +57,7 @@ use Rattle.client_steps.proofs.Payloads.{payload_kept}
 use Rattle.client_steps.proofs.Outboxes.{appended_is_sound, changes_slugs, confirmed_is_sound}
 use Rattle.client_steps.proofs.PreferenceSteps.{preferences_follow}
 use Rattle.client_steps.proofs.FollowedPreferences.{done_sound, users_sound}
+use Rattle.client_steps.proofs.EnrolmentOutcomes.{fetching_either}
 use Rattle.client_steps.proofs.Outcomes.{either_step, leaving_either, counting_either, confirming_either}
 use Rattle.client_steps.proofs.Stepping.{pending_consistent, preferring_either, whole_either}
 use Rattle.client_steps.proofs.Takers.{free_where}
@@ -86,15 +84,8 @@ module _ (at : Setting) (s : ClientState) (session : Session) (c : HasConsistent
   done-keeps (Accepted t next answer) keeps = either_step (λ to. HasConsistentParts to.state) (nat_lt max_size (length (encoding t))) _ _ c keeps
   done-keeps (Refused answer) keeps = c
 
-  payload-keeps : (tree : Json) (read : Result Payload PayloadFault) → payload_of tree ≡ read → KeepsEnrolment (fetched s.enrolment session read)
-  payload-keeps tree (Ok found) is = pending_consistent s.enrolment found.recipes c.enrolment (payload_kept tree found is)
-  payload-keeps tree (Err payload.NoData) is = tt
-  payload-keeps tree (Err (payload.TooManyRecipes count)) is = tt
-  payload-keeps tree (Err payload.OutOfMemory) is = tt
-
   fetch-keeps : (read : Result Json Answer) → KeepsEnrolment (fetching s.enrolment session read)
-  fetch-keeps (Ok tree) = payload-keeps tree (payload_of tree) refl
-  fetch-keeps (Err refusal) = tt
+  fetch-keeps read = fetching_either s.enrolment session KeepsEnrolment (λ answer. tt) read (λ tree found is loads. pending_consistent s.enrolment found.recipes c.enrolment (payload_kept tree found loads))
 
   apply-keeps : at.now ≤ last_moment → (manifest : Option Manifest) → HasLinked manifest → (context : Option Context) → HasVersion context → KeepsEnrolment (applying at.now s.enrolment session manifest context)
   apply-keeps moment None linked context text = tt
