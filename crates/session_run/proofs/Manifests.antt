@@ -1,51 +1,38 @@
 -- Which manifest a run has set.
 use Rattle.std.proofs.Common.{◌≡◌, ◌⊎◌, inl, inr, ⊎_elim, ℕ, zero, suc, ◌<◌, ◌≤◌, ◌+◌, Bool, true, false, List, [], length, get_or, refl, sym, ◌∙◌, ap, subst, arith, below_more, Option, Some, None, Result, Ok, Err}
-use Rattle.std.specs.Prelude.{nat_le, nat_lt, slice_get, if◌then◌else◌}
+use Rattle.std.specs.Prelude.{nat_lt, slice_get, if◌then◌else◌}
 use Rattle.std.proofs.lemmas.List.{take_more}
 use Rattle.std.proofs.lemmas.Option.{slice_get-get_or}
 use Rattle.json_tree.specs.Json.{Json}
 use Rattle.json_tree.specs.declared.tree.Tree.{Tree}
-use Rattle.recipe_reader.specs.Payloads.{payload_of, recipe_with}
-use Rattle.recipe_reader.specs.declared.payload.Payload.{Payload}
-use Rattle.recipe_reader.specs.declared.payload.PayloadFault.{PayloadFault}
-use Rattle.recipe_reader.specs.declared.payload.PayloadFault.TheVariants as payload
-use Rattle.recipe_reader.specs.Kinds.{kind_of}
-use Rattle.recipe_reader.specs.declared.recipe.Recipe.{Recipe}
 use Rattle.app_context.specs.Contexts.{context_of}
 use Rattle.app_context.specs.declared.context.Context.{Context}
 use Rattle.app_context.specs.declared.key.ContextKey.{ContextKey}
-use Rattle.enrol_states.specs.Choices.{has_no_room}
-use Rattle.enrol_states.specs.Commands.{after_opt_out}
-use Rattle.enrol_states.specs.Participation.{takes_part}
-use Rattle.enrol_states.specs.Recipes.{has_branch}
-use Rattle.enrol_states.specs.declared.state.State.{State}
-use Rattle.change_outbox.specs.Contents.{confirmed}
-use Rattle.event_counts.specs.Kept.{counted_in}
 use Rattle.event_counts.specs.declared.name_counts.NameCounts.{NameCounts}
 use Rattle.pref_bindings.specs.Bindings.{bindings_of}
-use Rattle.pref_bindings.specs.Preferences.{holder_of}
 use Rattle.pref_bindings.specs.declared.bindings.Binding.{Binding}
 use Rattle.client_state.specs.declared.client_state.ClientState.{ClientState}
-use Rattle.client_state.specs.Following.{enrolment_ended, is_spent}
 use Rattle.client_state.specs.Sound.{max_size}
 use Rattle.client_state.specs.Encoding.{encoding}
 use Rattle.fml_types.specs.declared.manifest.Manifest.{Manifest}
 use Rattle.fml_value.specs.Typed.{TypedValue}
 use Rattle.feature_serving.specs.Serving.{served}
 use Rattle.client_words.specs.declared.answer.Answer.{Answer}
-use Rattle.client_words.specs.declared.answer.Answer.TheVariants.{Okay, OptedOutLimit, NotParticipating, NoSuchBranch, EventLimit, NoSuchChange, ChangesSpent, StateTooLarge}
+use Rattle.client_words.specs.declared.answer.Answer.TheVariants.{Okay, StateTooLarge}
 use Rattle.client_words.specs.declared.command.Command.{Command}
 use Rattle.client_words.specs.declared.command.Command.TheVariants.{Fetch, Apply, Participate, OptOut, OptIn, Reset, Show, Feature, Event, Confirm, Bind, SetPreference, ClearPreference, WriteManifest}
 use Rattle.client_words.specs.declared.command.Command.TheVariants as commands
 use Rattle.client_steps.specs.declared.session.Session.{Session}
-use Rattle.client_steps.specs.Choosing.{first_taker}
 use Rattle.client_steps.specs.Fetching.{file_tree}
 use Rattle.client_steps.specs.Manifests.{manifest_of}
 use Rattle.client_steps.specs.Sessions.{with_manifest}
 use Rattle.client_steps.specs.Settings.{Setting}
-use Rattle.client_steps.specs.Steps.{OutcomeOver, EnrolmentOutcome, Outcome, Accepted, Refused, Step, with_enrolment, whole, enrolling, seeing, has_no_room_for, counting, confirming, participation, opting_out, taking, offering, choosing, opting_in, resetting, showing, listing_changes, listing_preferences, fetched, fetching, context_read, reading_context, bindings_read, reading_bindings, releasing, valued_by_user, preferring, setting_manifest, applying, valued, serving, writing_manifest, done, step}
+use Rattle.client_steps.specs.Steps.{OutcomeOver, EnrolmentOutcome, Outcome, Accepted, Refused, Step, whole, enrolling, seeing, counting, confirming, participation, opting_out, opting_in, resetting, showing, listing_changes, listing_preferences, fetching, context_read, reading_context, bindings_read, reading_bindings, preferring, setting_manifest, applying, valued, serving, writing_manifest, done, step}
 use Rattle.client_words.specs.declared.line.LineFault.{LineFault}
 use Rattle.client_words.specs.Commands.{command_of}
+use Rattle.client_steps.proofs.EnrolmentOutcomes.{fetching_either, applying_either, opting_out_either, opting_in_either}
+use Rattle.client_steps.proofs.Outcomes.{either_step, counting_either, confirming_either}
+use Rattle.client_steps.proofs.Stepping.{whole_either, preferring_either}
 use Rattle.session_run.specs.Steps.{RunState, run_after, effect, run_at}
 use Rattle.session_run.specs.Values.{LineSets, IsSetLast}
 use Rattle.session_run.proofs.Running.{run-more}
@@ -76,10 +63,6 @@ record Sets (at : Setting) (s : ClientState) (session : Session) (command : Comm
 abbrev SetsOrStays : Setting → ClientState → Session → Command → Manifest → Type 0
 SetsOrStays at s session command m = Sets at s session command m ⊎ ((session.manifest ≡ Some m) × ((that : Manifest) → Sets at s session command that → ⊥))
 
-either_step : (P : Step → Type 0) (b : Bool) (x y : Step) → P x → P y → P (if b then x else y)
-either_step P true x y here there = here
-either_step P false x y here there = there
-
 module _ (at : Setting) (s : ClientState) (session : Session) where
   abbrev Keeps : {S : Type 0} → OutcomeOver S → Type 0
   Keeps (Accepted t next answer) = next.manifest ≡ session.manifest
@@ -89,13 +72,8 @@ module _ (at : Setting) (s : ClientState) (session : Session) where
   done-keeps (Accepted t next answer) keeps = either_step (λ to. to.session.manifest ≡ session.manifest) (nat_lt max_size (length (encoding t))) _ _ refl keeps
   done-keeps (Refused answer) keeps = refl
 
-  -- whether the outbox has numbers for the changes or not
-  spent-keeps : (t : ClientState) (next : Session) (answer : Answer) (spent : Bool) → next.manifest ≡ session.manifest → Keeps {S = ClientState} (if spent then Refused ChangesSpent else Accepted t next answer)
-  spent-keeps t next answer true keeps = tt
-  spent-keeps t next answer false keeps = keeps
-
   whole-keeps : (counts : List NameCounts) (asked : EnrolmentOutcome) → Keeps asked → Keeps (whole s session counts asked)
-  whole-keeps counts (Accepted e next answer) keeps = spent-keeps (with_enrolment session s e counts) next answer (is_spent s.enrolment e s.outbox) keeps
+  whole-keeps counts (Accepted e next answer) keeps = whole_either (λ (asked : Outcome). Keeps asked) s session counts e next answer tt (λ fits. keeps)
   whole-keeps counts (Refused answer) keeps = tt
 
   -- where the counts stay
@@ -118,31 +96,8 @@ module _ (at : Setting) (s : ClientState) (session : Session) where
   bind-keeps (Ok tree) = bindings-keep (bindings_of tree)
   bind-keeps (Err refusal) = tt
 
-  release-keeps : (holder : Option (List ℕ)) → Keeps (releasing s session holder)
-  release-keeps None = refl
-  release-keeps (Some holder) = whole-keeps s.events (Accepted (enrolment_ended holder s.enrolment) session Okay) refl
-
-  value-set-keeps : (name : List ℕ) (value : Option Tree) (asked : Outcome) → Keeps asked → Keeps (valued_by_user name value asked)
-  value-set-keeps name value (Accepted t next answer) keeps = keeps
-  value-set-keeps name value (Refused answer) keeps = tt
-
   preferring-keeps : (name : List ℕ) (value : Option Tree) → Keeps (preferring s session name value)
-  preferring-keeps name value = value-set-keeps name value (releasing s session (holder_of name s.preferences)) (release-keeps (holder_of name s.preferences))
-
-  payload-keeps : (read : Result Payload PayloadFault) → Keeps (fetched s.enrolment session read)
-  payload-keeps (Ok found) = refl
-  payload-keeps (Err payload.NoData) = tt
-  payload-keeps (Err (payload.TooManyRecipes count)) = tt
-  payload-keeps (Err payload.OutOfMemory) = tt
-
-  fetch-keeps : (read : Result Json Answer) → Keeps (fetching s.enrolment session read)
-  fetch-keeps (Ok tree) = payload-keeps (payload_of tree)
-  fetch-keeps (Err refusal) = tt
-
-  apply-keeps : (manifest : Option Manifest) (context : Option Context) → Keeps (applying at.now s.enrolment session manifest context)
-  apply-keeps None context = tt
-  apply-keeps (Some manifest) None = tt
-  apply-keeps (Some manifest) (Some context) = refl
+  preferring-keeps name value = preferring_either (λ (asked : Outcome). Keeps asked) s session name value tt (λ free. refl) (λ holder held fits. refl)
 
   value-keeps : (value : Option TypedValue) → Keeps (valued s session value)
   value-keeps None = tt
@@ -155,35 +110,6 @@ module _ (at : Setting) (s : ClientState) (session : Session) where
   written-keeps : (manifest : Option Manifest) → Keeps (writing_manifest s session manifest)
   written-keeps None = tt
   written-keeps (Some manifest) = refl
-
-  out-keeps : (slug : List ℕ) (full : Bool) → Keeps {S = State} (if full then Refused OptedOutLimit else Accepted (after_opt_out s.enrolment slug) session Okay)
-  out-keeps slug true = tt
-  out-keeps slug false = refl
-
-  module _ (slug branch : List ℕ) where
-    taking-keeps : (taker : Option (List ℕ × List ℕ)) → Keeps (taking s.enrolment session slug branch taker)
-    taking-keeps None = refl
-    taking-keeps (Some taker) = tt
-
-    branch-keeps : (r : Recipe) (has : Bool) → Keeps {S = State} (if has then taking s.enrolment session slug branch (first_taker s.enrolment r s.enrolment.rows) else Refused NoSuchBranch)
-    branch-keeps r true = taking-keeps (first_taker s.enrolment r s.enrolment.rows)
-    branch-keeps r false = tt
-
-    part-keeps : (r : Recipe) (on : Bool) → Keeps {S = State} (if on then offering s.enrolment session slug branch r else Refused NotParticipating)
-    part-keeps r true = branch-keeps r (has_branch r branch)
-    part-keeps r false = tt
-
-    choosing-keeps : (found : Option Recipe) → Keeps (choosing s.enrolment session slug branch found)
-    choosing-keeps None = tt
-    choosing-keeps (Some r) = part-keeps r (takes_part s.enrolment (kind_of r))
-
-  count-keeps : (name : List ℕ) (count : ℕ) (full : Bool) → Keeps {S = ClientState} (if full then Refused EventLimit else Accepted (record s { events = counted_in name count at.now s.events }) session Okay)
-  count-keeps name count true = tt
-  count-keeps name count false = refl
-
-  confirm-keeps : (number : ℕ) (unknown : Bool) → Keeps {S = ClientState} (if unknown then Refused (NoSuchChange s.outbox.next) else Accepted (record s { outbox = confirmed number s.outbox }) session Okay)
-  confirm-keeps number true = tt
-  confirm-keeps number false = refl
 
   -- a command that is no `manifest` stays
   stays : (command : Command) (m : Manifest) → ((file channel : List ℕ) → command ≡ commands.Manifest file channel → ⊥) → (step at s session command).session.manifest ≡ session.manifest
@@ -227,17 +153,17 @@ module _ (at : Setting) (s : ClientState) (session : Session) where
   unfolding step
   sets_or_stays (commands.Manifest file channel) m is = manifest-sets file channel m (manifest_of at.files file channel) refl is
   sets_or_stays (commands.Context file) m is = stays (commands.Context file) m (λ f c e. cc) (done-keeps (reading_context s session (file_tree file (at.files file))) (file-keeps (file_tree file (at.files file)))) is
-  sets_or_stays (Fetch file) m is = stays (Fetch file) m (λ f c e. cc) (enrolling-keeps (fetching s.enrolment session (file_tree file (at.files file))) (fetch-keeps (file_tree file (at.files file)))) is
-  sets_or_stays Apply m is = stays Apply m (λ f c e. cc) (enrolling-keeps (applying at.now s.enrolment session session.manifest (seeing at.now s.events session.context)) (apply-keeps session.manifest (seeing at.now s.events session.context))) is
+  sets_or_stays (Fetch file) m is = stays (Fetch file) m (λ f c e. cc) (enrolling-keeps (fetching s.enrolment session (file_tree file (at.files file))) (fetching_either s.enrolment session (λ (asked : EnrolmentOutcome). Keeps asked) (λ answer. tt) (file_tree file (at.files file)) (λ tree found is loads. refl))) is
+  sets_or_stays Apply m is = stays Apply m (λ f c e. cc) (enrolling-keeps (applying at.now s.enrolment session session.manifest (seeing at.now s.events session.context)) (applying_either s.enrolment session (λ (asked : EnrolmentOutcome). Keeps asked) (λ answer. tt) at.now session.manifest (seeing at.now s.events session.context) (λ m c. refl))) is
   sets_or_stays (Participate part on) m is = stays (Participate part on) m (λ f c e. cc) (enrolling-keeps (participation s.enrolment session part on) refl) is
-  sets_or_stays (OptOut slug) m is = stays (OptOut slug) m (λ f c e. cc) (enrolling-keeps (opting_out s.enrolment session slug) (out-keeps slug (has_no_room s.enrolment.opted_out slug))) is
-  sets_or_stays (OptIn slug branch) m is = stays (OptIn slug branch) m (λ f c e. cc) (enrolling-keeps (opting_in s.enrolment session slug branch) (choosing-keeps slug branch (recipe_with slug s.enrolment.live))) is
+  sets_or_stays (OptOut slug) m is = stays (OptOut slug) m (λ f c e. cc) (enrolling-keeps (opting_out s.enrolment session slug) (opting_out_either s.enrolment session (λ (asked : EnrolmentOutcome). Keeps asked) (λ answer. tt) slug refl)) is
+  sets_or_stays (OptIn slug branch) m is = stays (OptIn slug branch) m (λ f c e. cc) (enrolling-keeps (opting_in s.enrolment session slug branch) (opting_in_either s.enrolment session (λ (asked : EnrolmentOutcome). Keeps asked) (λ answer. tt) slug branch refl)) is
   sets_or_stays (Reset id) m is = stays (Reset id) m (λ f c e. cc) (done-keeps (whole s session [] (resetting s.enrolment session id)) (whole-keeps [] (resetting s.enrolment session id) refl)) is
   sets_or_stays Show m is = stays Show m (λ f c e. cc) (done-keeps (showing s session) refl) is
   sets_or_stays (Feature name) m is = stays (Feature name) m (λ f c e. cc) (done-keeps (serving s session name session.manifest) (feature-keeps name session.manifest)) is
-  sets_or_stays (Event name count) m is = stays (Event name count) m (λ f c e. cc) (done-keeps (counting at.now s session name count) (count-keeps name count (has_no_room_for name s.events))) is
+  sets_or_stays (Event name count) m is = stays (Event name count) m (λ f c e. cc) (done-keeps (counting at.now s session name count) (counting_either at s session (λ (asked : Outcome). Keeps asked) (λ answer. tt) name count (λ room. refl))) is
   sets_or_stays commands.Changes m is = stays commands.Changes m (λ f c e. cc) (done-keeps (listing_changes s session) refl) is
-  sets_or_stays (Confirm number) m is = stays (Confirm number) m (λ f c e. cc) (done-keeps (confirming s session number) (confirm-keeps number (nat_le s.outbox.next number))) is
+  sets_or_stays (Confirm number) m is = stays (Confirm number) m (λ f c e. cc) (done-keeps (confirming s session number) (confirming_either at s session (λ (asked : Outcome). Keeps asked) (λ answer. tt) number (λ known. refl))) is
   sets_or_stays (Bind file) m is = stays (Bind file) m (λ f c e. cc) (done-keeps (reading_bindings s session (file_tree file (at.files file))) (bind-keeps (file_tree file (at.files file)))) is
   sets_or_stays (SetPreference name value) m is = stays (SetPreference name value) m (λ f c e. cc) (done-keeps (preferring s session name (Some value)) (preferring-keeps name (Some value))) is
   sets_or_stays (ClearPreference name) m is = stays (ClearPreference name) m (λ f c e. cc) (done-keeps (preferring s session name None) (preferring-keeps name None)) is
