@@ -1,5 +1,6 @@
 // A payload, ready to be written on a side.
-ghost use Rattle.std.specs.Prelude.{◌≡◌, ◌<◌, ◌≤◌, ◌+◌, ◌++◌, ◌↔◌, [], ◌∷◌, length, IfOk, IsErrOf};
+ghost use Rattle.std.specs.Prelude.{◌≡◌, ◌<◌, ◌≤◌, ◌+◌, ◌++◌, ◌↔◌, [], ◌∷◌, drop, length, IfOk, IsErrOf};
+ghost use Rattle.std.specs.Int.{w32, to_be_bytes};
 ghost use Rattle.gate_journal.specs.Records.{framed};
 
 use crate::format::CLOSED;
@@ -58,6 +59,7 @@ impl Model for Frame {
 
 impl Frame {
     /// Frames a payload.
+    #[tactic(auto, unfolding(crate::specs::Records::framed))]
     pub fn new(alloc: Global, payload: &[u8]) -> Result<Frame, FrameFault>
         ensures payload { IfOk result (λ frame. frame ≡ payload.now) }
         ensures within { IfOk result (λ frame. length frame ≤ MAX_PAYLOAD) }
@@ -66,10 +68,29 @@ impl Frame {
         if payload.len() > MAX_PAYLOAD {
             return Err(FrameFault::TooLong);
         }
-        let length = payload.len() as u32;
-        let mut bytes = Vec::with_capacity(alloc, payload.len() + 5)?;
-        bytes.extend_from_slice(&length.to_be_bytes())?;
+        let mut bytes = Frame::begin(alloc, payload.len())?;
         bytes.extend_from_slice(payload)?;
+        Ok(Frame::finish(bytes)?)
+    }
+
+    /// The length of a payload in four bytes, with room for the payload behind it, which `finish` frames then.
+    pub fn begin(alloc: Global, len: usize) -> Result<Vec<u8>, AllocError>
+        requires { len ≤ MAX_PAYLOAD }
+        ensures { IfOk result (λ bytes. bytes.items ≡ to_be_bytes w32 len) }
+    {
+        let mut bytes = Vec::with_capacity(alloc, len + 5)?;
+        bytes.extend_from_slice(&(len as u32).to_be_bytes())?;
+        Ok(bytes)
+    }
+
+    /// Frames the payload that stands behind its length. It isn't copied where `begin` took the room for it.
+    pub fn finish(bytes: Vec<u8>) -> Result<Frame, AllocError>
+        requires payload { bytes.items ≡ framed (drop 4 bytes.items) }
+        requires within { length (drop 4 bytes.items) ≤ MAX_PAYLOAD }
+        ensures payload { IfOk result (λ frame. frame ≡ drop 4 bytes.items) }
+        ensures within { IfOk result (λ frame. length frame ≤ MAX_PAYLOAD) }
+    {
+        let mut bytes = bytes;
         bytes.push(CLOSED)?;
         Ok(Frame { bytes })
     }

@@ -29,11 +29,19 @@ impl Batch {
             return Err(AllocError);
         };
         let mut bytes = Vec::with_capacity(alloc, size)?;
+        self.add_bytes(&mut bytes)?;
+        Ok(bytes)
+    }
+
+    /// Adds the bytes of the batch to others.
+    pub fn add_bytes(&self, bytes: &mut Vec<u8>) -> Result<(), AllocError>
+        ensures bytes { OnOk result (bytes.new.items ≡ bytes.old.items ++ batch_text self.now) }
+        ensures rules { IfOk result (λ _. IsBatch self.now) }
+    {
         if self.is_clear() {
             bytes.push(CLEAR)?;
         }
-        put_changes(&mut bytes, self.changes())?;
-        Ok(bytes)
+        put_changes(bytes, self.changes())
     }
 
     /// How many bytes the batch has. It takes no memory.

@@ -13,7 +13,7 @@ ghost use Rattle.pair_store.specs.Pair.{HasNoList, HasNoStore};
 ghost use Rattle.pair_store.specs.Repair.{repair_cost, shut_first, IsLeftByOpening, IsUnwritten};
 ghost use Rattle.pair_store.specs.Store.{store_made, IsClosedOn, HasFailed, PairStandsWithGate};
 ghost use Rattle.row_batches.specs.declared.store_row.StoreRow.{StoreRow};
-ghost use Rattle.row_batches.specs.Batch.{applied, batch_text, whole_of};
+ghost use Rattle.row_batches.specs.Batch.{IsBatch, applied, batch_text, whole_of};
 ghost use Rattle.row_batches.specs.Batches.{HaveRoom};
 ghost use Rattle.row_batches.specs.Rows.{AreRows, value_of};
 ghost use Rattle.row_store.specs.Folding.{Fold};
@@ -85,8 +85,7 @@ impl RowStore {
         ensures disk_faults { H.disk_faults host.old ≤ H.disk_faults host.new }
         ensures say_faults { H.say_faults host.new ≡ H.say_faults host.old }
     {
-        let bytes = whole.bytes(alloc)?;
-        let frame = frame_of(alloc, &bytes)?;
+        let frame = batch_frame(alloc, whole)?;
         make_pair(host, &frame)?;
         Ok(())
     }
@@ -233,13 +232,24 @@ fn ready_for(
             is_whole: true,
         })
     } else {
-        let bytes = batch.bytes(alloc)?;
         Ok(Ready {
             batch: copy_of(alloc, batch)?,
-            frame: frame_of(alloc, &bytes)?,
+            frame: batch_frame(alloc, batch)?,
             is_whole: false,
         })
     }
+}
+
+// The frame of a batch's bytes, which are put into it at once.
+#[tactic(auto, unfolding(gate_journal::specs::Records::framed))]
+fn batch_frame(alloc: Global, batch: &Batch) -> Result<Frame, AllocError>
+    requires { length (batch_text batch.now) ≤ MAX_PAYLOAD }
+    ensures payload { IfOk result (λ frame. frame ≡ batch_text batch.now) }
+    ensures rules { IfOk result (λ _. IsBatch batch.now) }
+{
+    let mut bytes = Frame::begin(alloc, batch.size() as usize)?;
+    batch.add_bytes(&mut bytes)?;
+    Frame::finish(bytes)
 }
 
 // The bytes of the whole map after a batch.
