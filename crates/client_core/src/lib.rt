@@ -3,7 +3,6 @@
 #![tactic(auto)]
 
 mod client;
-mod making;
 mod opening;
 mod prepared;
 mod preparing;
