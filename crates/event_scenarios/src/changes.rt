@@ -1,9 +1,9 @@
 //! Rows on the changes from the rows that keep some counts to those that keep others.
 
-use crate::histories::counts_after;
+use crate::histories::{count_all, count_given};
 use crate::kept::add_row;
 use event_counts::Counts;
-use row_batches::RowChange;
+use row_batches::{RowChange, StoreRow};
 use row_tables::{Fault, add_between, add_none, parts};
 use std::alloc::{AllocError, Global};
 
@@ -11,24 +11,40 @@ use std::alloc::{AllocError, Global};
 /// the events of the old counts, and behind ` | ` those of the new ones.
 pub(crate) fn find_changes(
     alloc: Global,
+    counts: &mut Counts,
     given: &str,
     input: &str,
     found: &mut String,
 ) -> Result<(), Fault> {
     let (old, new) = parts(input)?;
-    let old = counts_after(alloc, given, old)?;
-    find_changes_from(alloc, &old, given, new, found)
+    count_all(alloc, counts, old)?;
+    find_changes_from(alloc, counts, given, new, found)
 }
 
 fn find_changes_from(
     alloc: Global,
     old: &Counts,
     given: &str,
-    new: &str,
+    events: &str,
     found: &mut String,
 ) -> Result<(), Fault> {
-    let new = counts_after(alloc, given, new)?;
-    add_changes_between(alloc, old, &new, found)
+    let mut new = Counts::new(alloc);
+    let outcome = find_changes_to(alloc, old, &mut new, given, events, found);
+    drop(new);
+    outcome
+}
+
+fn find_changes_to(
+    alloc: Global,
+    old: &Counts,
+    new: &mut Counts,
+    given: &str,
+    events: &str,
+    found: &mut String,
+) -> Result<(), Fault> {
+    count_given(alloc, new, given)?;
+    count_all(alloc, new, events)?;
+    Ok(add_changes_between(alloc, old, new, found)?)
 }
 
 fn add_changes_between(
@@ -36,26 +52,30 @@ fn add_changes_between(
     old: &Counts,
     new: &Counts,
     found: &mut String,
-) -> Result<(), Fault> {
+) -> Result<(), AllocError> {
     let changes = old.changes_to(alloc, new)?;
-    add_changes(changes.as_slice(), new.size(), found)
+    let outcome = add_changes(changes.as_slice(), new.size(), found);
+    drop(changes);
+    outcome
 }
 
-fn add_changes(changes: &[RowChange], size: u128, found: &mut String) -> Result<(), Fault> {
+fn add_changes(changes: &[RowChange], size: u128, found: &mut String) -> Result<(), AllocError> {
     for change in changes {
         add_change(change, found)?;
     }
     add_none(found)?;
-    Ok(write!(found, "; {size} bytes")?)
+    write!(found, "; {size} bytes")
 }
 
 fn add_change(change: &RowChange, found: &mut String) -> Result<(), AllocError> {
     add_between(found, ", ")?;
     match change {
-        RowChange::Put(row) => {
-            found.push_str("put ")?;
-            add_row(row, found)
-        }
+        RowChange::Put(row) => add_put(row, found),
         RowChange::Delete(key) => write!(found, "delete {}", key.as_slice().escape_ascii()),
     }
+}
+
+fn add_put(row: &StoreRow, found: &mut String) -> Result<(), AllocError> {
+    found.push_str("put ")?;
+    add_row(row, found)
 }

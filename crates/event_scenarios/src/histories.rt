@@ -2,39 +2,22 @@
 //! a comma stands between two. Where a number is given, so many names come first, `n0`, `n1` and so on, each once and at the
 //! moment 0.
 
-use crate::inputs::{moment, number};
+use crate::inputs::{number, times};
 use event_counts::{CountFault, Counts};
-use plain_text::is_name;
+use plain_text::{LAST_MOMENT, is_name};
 use row_tables::{Fault, cut};
 use std::alloc::Global;
-
-/// The counts after these events.
-pub(crate) fn counts_after(alloc: Global, given: &str, events: &str) -> Result<Counts, Fault> {
-    let mut counts = Counts::new(alloc);
-    count_all(alloc, &mut counts, given, events)?;
-    Ok(counts)
-}
 
 /// How many names there are after an event, or why it isn't counted. Row: the event.
 pub(crate) fn find_answer(
     alloc: Global,
-    given: &str,
+    counts: &mut Counts,
     event: &str,
     found: &mut String,
 ) -> Result<(), Fault> {
-    let counts = counts_after(alloc, given, "")?;
-    add_answer(alloc, &counts, event, found)
-}
-
-fn add_answer(
-    alloc: Global,
-    counts: &Counts,
-    event: &str,
-    found: &mut String,
-) -> Result<(), Fault> {
-    match counted(alloc, counts, event)? {
-        Ok(more) => add_size(alloc, &more, found),
-        Err(fault) => Ok(write!(found, "{fault:?}")?),
+    match count_event(alloc, counts, event)? {
+        None => add_size(alloc, counts, found),
+        Some(fault) => Ok(write!(found, "{fault:?}")?),
     }
 }
 
@@ -43,13 +26,12 @@ fn add_size(alloc: Global, counts: &Counts, found: &mut String) -> Result<(), Fa
     Ok(write!(found, "{} names", rows.len())?)
 }
 
-fn count_all(alloc: Global, counts: &mut Counts, given: &str, events: &str) -> Result<(), Fault> {
-    let names = if given.is_empty() { 0 } else { number(given)? };
-    count_names(alloc, counts, names)?;
-    for event in events.split(", ") {
-        count_event(alloc, counts, event)?;
+/// Counts the names that are given, which may be no text.
+pub(crate) fn count_given(alloc: Global, counts: &mut Counts, given: &str) -> Result<(), Fault> {
+    if given.is_empty() {
+        return Ok(());
     }
-    Ok(())
+    count_names(alloc, counts, number(given)?)
 }
 
 fn count_names(alloc: Global, counts: &mut Counts, names: u64) -> Result<(), Fault> {
@@ -61,35 +43,45 @@ fn count_names(alloc: Global, counts: &mut Counts, names: u64) -> Result<(), Fau
 
 fn count_name(alloc: Global, counts: &mut Counts, place: u64) -> Result<(), Fault> {
     let event = format!(in alloc; "n{place} 1 0")?;
-    count_event(alloc, counts, event.as_str())
+    count_one(alloc, counts, event.as_str())
 }
 
-fn count_event(alloc: Global, counts: &mut Counts, event: &str) -> Result<(), Fault> {
+/// Counts events.
+pub(crate) fn count_all(alloc: Global, counts: &mut Counts, events: &str) -> Result<(), Fault> {
+    for event in events.split(", ") {
+        count_one(alloc, counts, event)?;
+    }
+    Ok(())
+}
+
+fn count_one(alloc: Global, counts: &mut Counts, event: &str) -> Result<(), Fault> {
     if event.is_empty() {
         return Ok(());
     }
-    match counted(alloc, counts, event)? {
-        Ok(more) => {
-            *counts = more;
-            Ok(())
-        }
-        Err(_) => Err(Fault::NoRow),
+    match count_event(alloc, counts, event)? {
+        None => Ok(()),
+        Some(_) => Err(Fault::NoRow),
     }
 }
 
-fn counted(
+// Counts an event, or says why it isn't counted.
+fn count_event(
     alloc: Global,
-    counts: &Counts,
+    counts: &mut Counts,
     event: &str,
-) -> Result<Result<Counts, CountFault>, Fault> {
+) -> Result<Option<CountFault>, Fault> {
     let (name, rest) = cut(event);
-    let (count, now) = cut(rest);
-    let now = moment(now)?;
-    let Ok(count) = u32::try_from(number(count)?) else {
-        return Err(Fault::NoRow);
-    };
-    if !is_name(name.as_bytes()) {
+    let (spelled, now) = cut(rest);
+    let count = times(spelled)?;
+    let now = number(now)?;
+    if now > LAST_MOMENT || !is_name(name.as_bytes()) {
         return Err(Fault::NoRow);
     }
-    Ok(counts.count_in(alloc, name, count, now))
+    match counts.count_in(alloc, name, count, now) {
+        Ok(more) => {
+            *counts = more;
+            Ok(None)
+        }
+        Err(fault) => Ok(Some(fault)),
+    }
 }
