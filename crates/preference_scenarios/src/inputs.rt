@@ -9,7 +9,6 @@ ghost use Rattle.pref_bindings.specs.Preferences.{IsValue};
 use json_tree::{Tree, read, write};
 use plain_text::{Slug, is_name, slug_of};
 use pref_bindings::is_value;
-use recipe_reader::{Recipe, read_record};
 use row_tables::{Fault, cut};
 use sequences::Text;
 use std::alloc::Global;
@@ -35,18 +34,10 @@ pub(crate) fn add_tree(alloc: Global, tree: &Tree, found: &mut String) -> Result
     }
 }
 
-/// A recipe whose branch `treatment` has these features, and whose branch `control` has none.
-pub(crate) fn recipe(alloc: Global, features: &str) -> Result<Recipe, Fault> {
+/// A record whose branch `treatment` has these features, and whose branch `control` has none.
+pub(crate) fn record_with(alloc: Global, features: &str) -> Result<Tree, Fault> {
     let record = format!(in alloc; "{BEFORE}{features}{BEHIND}")?;
-    recipe_of(alloc, record.as_str())
-}
-
-fn recipe_of(alloc: Global, record: &str) -> Result<Recipe, Fault> {
-    let record = tree(alloc, record)?;
-    match read_record(alloc, &record) {
-        Ok(recipe) => Ok(recipe),
-        Err(_) => Err(Fault::NoRow),
-    }
+    tree(alloc, record.as_str())
 }
 
 pub(crate) fn slug(alloc: Global, text: &str) -> Result<Slug, Fault> {

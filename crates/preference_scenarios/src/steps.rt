@@ -1,12 +1,13 @@
 //! Rows on what steps make of preferences. Steps are `set NAME VALUE`, `clear NAME`, `join SLUG` and what it sets, and
 //! `leave SLUG`; a comma stands between two.
 
-ghost use Rattle.std.specs.Prelude.{⊤, MatchOption};
+ghost use Rattle.std.specs.Prelude.{⊤, IsTrue, MatchOption};
+ghost use Rattle.plain_text.specs.Names.{is_name};
+ghost use Rattle.pref_bindings.specs.Changes.{AreSettings};
 ghost use Rattle.pref_bindings.specs.Preferences.{IsValue};
 
 use crate::inputs::{add_tree, name, settings, slug, value};
 use json_tree::Tree;
-use plain_text::Slug;
 use pref_bindings::{Hold, Preference, Prefs};
 use row_tables::{Fault, add_between, add_none, cut, parts};
 use sequences::Text;
@@ -16,10 +17,11 @@ use std::alloc::Global;
 /// there are none. Row: the steps.
 pub(crate) fn find_preferences(
     alloc: Global,
+    prefs: &mut Prefs,
     input: &str,
     found: &mut String,
 ) -> Result<(), Fault> {
-    let prefs = prefs_after(alloc, input)?;
+    do_all(alloc, prefs, input)?;
     add_preferences(alloc, prefs.as_slice(), found)
 }
 
@@ -36,8 +38,7 @@ fn add_preferences(
 }
 
 fn add_preference(alloc: Global, preference: &Preference, found: &mut String) -> Result<(), Fault> {
-    found.push_str(preference.name.as_str())?;
-    found.push_str(" ")?;
+    write!(found, "{} ", preference.name.as_str())?;
     add_tree(alloc, &preference.value, found)?;
     match &preference.hold {
         Some(hold) => add_hold(alloc, hold, found),
@@ -54,10 +55,15 @@ fn add_hold(alloc: Global, hold: &Hold, found: &mut String) -> Result<(), Fault>
 }
 
 /// What is known of a name after steps: its value and who holds it. Row: the steps, then ` | ` and the name.
-pub(crate) fn find_known(alloc: Global, input: &str, found: &mut String) -> Result<(), Fault> {
+pub(crate) fn find_known(
+    alloc: Global,
+    prefs: &mut Prefs,
+    input: &str,
+    found: &mut String,
+) -> Result<(), Fault> {
     let (steps, name) = parts(input)?;
-    let prefs = prefs_after(alloc, steps)?;
-    add_known(alloc, &prefs, name, found)
+    do_all(alloc, prefs, steps)?;
+    add_known(alloc, prefs, name, found)
 }
 
 fn add_known(alloc: Global, prefs: &Prefs, name: &str, found: &mut String) -> Result<(), Fault> {
@@ -72,75 +78,95 @@ fn add_known(alloc: Global, prefs: &Prefs, name: &str, found: &mut String) -> Re
     Ok(write!(found, ", {holder}")?)
 }
 
-/// The preferences after steps.
-pub(crate) fn prefs_after(alloc: Global, steps: &str) -> Result<Prefs, Fault> {
-    let mut prefs = Prefs::new(alloc);
-    do_all(alloc, &mut prefs, steps)?;
-    Ok(prefs)
-}
-
-fn do_all(alloc: Global, prefs: &mut Prefs, steps: &str) -> Result<(), Fault> {
+/// Does steps.
+pub(crate) fn do_all(alloc: Global, prefs: &mut Prefs, steps: &str) -> Result<(), Fault> {
     for step in steps.split(", ") {
-        if !step.is_empty() {
-            do_step(alloc, prefs, step)?;
-        }
+        do_step(alloc, prefs, step)?;
     }
     Ok(())
 }
 
 fn do_step(alloc: Global, prefs: &mut Prefs, step: &str) -> Result<(), Fault> {
-    *prefs = after_step(alloc, prefs, step)?;
-    Ok(())
-}
-
-fn after_step(alloc: Global, prefs: &Prefs, step: &str) -> Result<Prefs, Fault> {
     let (kind, rest) = cut(step);
     let (first, second) = cut(rest);
     match kind {
-        "set" => after_set(alloc, prefs, first, second),
-        "clear" => after_clear(alloc, prefs, first),
-        "join" => after_join(alloc, prefs, first, second),
-        "leave" => after_leave(alloc, prefs, first),
+        "" => Ok(()),
+        "set" => set(alloc, prefs, first, second),
+        "clear" => set_named(alloc, prefs, first, None),
+        "join" => join(alloc, prefs, first, second),
+        "leave" => leave(alloc, prefs, first),
         _ => Err(Fault::NoRow),
     }
 }
 
-fn after_set(alloc: Global, prefs: &Prefs, text: &str, spelled: &str) -> Result<Prefs, Fault> {
+fn set(alloc: Global, prefs: &mut Prefs, text: &str, spelled: &str) -> Result<(), Fault> {
     let value = value(alloc, spelled)?;
-    with_value(alloc, prefs, text, Some(&value))
+    let outcome = set_named(alloc, prefs, text, Some(&value));
+    drop(value);
+    outcome
 }
 
-fn after_clear(alloc: Global, prefs: &Prefs, text: &str) -> Result<Prefs, Fault> {
-    with_value(alloc, prefs, text, None)
-}
-
-// The preferences where the user has given a preference this value, or none.
-fn with_value(
+// The user gives a preference this value, or none.
+fn set_named(
     alloc: Global,
-    prefs: &Prefs,
+    prefs: &mut Prefs,
     text: &str,
     value: Option<&Tree>,
-) -> Result<Prefs, Fault>
+) -> Result<(), Fault>
     requires { MatchOption value ⊤ (λ v. IsValue v.now) }
 {
     let name = name(alloc, text)?;
+    user_set(prefs, &name, value)
+}
+
+fn user_set(prefs: &mut Prefs, name: &Text, value: Option<&Tree>) -> Result<(), Fault>
+    requires name { IsTrue (is_name name.now) }
+    requires value { MatchOption value ⊤ (λ v. IsValue v.now) }
+{
     if prefs.holder(name.as_str()).is_some() {
         return Err(Fault::NoRow);
     }
-    Ok(prefs.user_set(&name, value)?)
+    match prefs.user_set(name, value) {
+        Ok(next) => {
+            *prefs = next;
+            Ok(())
+        }
+        Err(_) => Err(Fault::OutOfMemory),
+    }
 }
 
-fn after_join(alloc: Global, prefs: &Prefs, text: &str, spelled: &str) -> Result<Prefs, Fault> {
+fn join(alloc: Global, prefs: &mut Prefs, text: &str, spelled: &str) -> Result<(), Fault> {
+    let settings = settings(alloc, spelled)?;
+    let outcome = join_with(alloc, prefs, text, &settings);
+    drop(settings);
+    outcome
+}
+
+fn join_with(
+    alloc: Global,
+    prefs: &mut Prefs,
+    text: &str,
+    settings: &[(Text, Tree)],
+) -> Result<(), Fault>
+    requires { AreSettings settings.now }
+{
     let slug = slug(alloc, text)?;
-    with_settings(alloc, prefs, &slug, spelled)
+    match prefs.join(alloc, &slug, settings) {
+        Ok(next) => {
+            *prefs = next;
+            Ok(())
+        }
+        Err(_) => Err(Fault::OutOfMemory),
+    }
 }
 
-fn with_settings(alloc: Global, prefs: &Prefs, slug: &Slug, spelled: &str) -> Result<Prefs, Fault> {
-    let settings: Vec<(Text, Tree)> = settings(alloc, spelled)?;
-    Ok(prefs.join(alloc, slug, &settings)?)
-}
-
-fn after_leave(alloc: Global, prefs: &Prefs, text: &str) -> Result<Prefs, Fault> {
+fn leave(alloc: Global, prefs: &mut Prefs, text: &str) -> Result<(), Fault> {
     let slug = slug(alloc, text)?;
-    Ok(prefs.leave(alloc, &slug)?)
+    match prefs.leave(alloc, &slug) {
+        Ok(next) => {
+            *prefs = next;
+            Ok(())
+        }
+        Err(_) => Err(Fault::OutOfMemory),
+    }
 }
