@@ -19,8 +19,8 @@ use Rattle.fml_imports.specs.Tables.{Tables, no_tables, with_enum, with_object, 
 use Rattle.fml_imports.specs.declared.fault.JoinRefusal.TheVariants as refusals
 use Rattle.fml_imports.specs.declared.joining.Linked.{Linked}
 use Rattle.fml_imports.proofs.Alls.{all_nil, all_cons, all_head, all_tail, all_append, all_mapped, all_flat}
-use Rattle.fml_imports.proofs.Maps.{left_false, right_false}
-use Rattle.fml_imports.proofs.RisingFeatures.{rises_with}
+use Rattle.fml_imports.proofs.Names.{left_false, right_false}
+use Rattle.fml_imports.proofs.Rising.{rises_with}
 use Rattle.fml_imports.proofs.SoundManifests.{bind_ok, each_keeps, all_with, added, checked_ok}
 
 -- what is asked of the parts of a manifest

@@ -27,7 +27,7 @@ use Rattle.fml_imports.specs.declared.fault.JoinRefusal.{JoinRefusal}
 use Rattle.fml_imports.specs.declared.fault.JoinRefusal.TheVariants.{DuplicateName}
 use Rattle.fml_imports.specs.declared.joining.Linked.{Linked}
 use Rattle.fml_imports.proofs.Alls.{all_nil, all_cons, all_head, all_tail, all_map}
-use Rattle.fml_imports.proofs.Maps.{sides, turned, left_false, right_false}
+use Rattle.fml_imports.proofs.Names.{sides, turned, left_false, right_false}
 use Rattle.fml_imports.proofs.ReadsAgain.{alone}
 
 abbrev done : {A : Type 0} → A → Result A JoinRefusal

@@ -3,8 +3,10 @@ pub mod Singles
 pub mod SoundValues
 pub mod ReadModules
 pub mod Steps
-pub mod Maps
-pub mod Inserted
+pub mod Names
+pub mod Rising
+pub mod Adding
+pub mod Gathered
 pub mod SoundManifests
 pub mod Overriding
 pub mod Standing

@@ -1,18 +1,16 @@
 -- Overrides, as they are laid over features one after the other.
-use Rattle.std.proofs.Common.{◌≡◌, ℕ, Bool, true, false, List, [], ◌∷◌, ◌++◌, map, Option, Some, None, refl, sym, ap, ◌∙◌, subst, append_assoc}
-use Rattle.std.specs.Prelude.{◌||◌, bytes_eq, cond, is_some, if◌then◌else◌}
-use Rattle.std.specs.BTreeMap.{is_at}
-use Rattle.std.specs.Cmp.Lexicographic.{slice_cmp, bytes_decides}
-use Rattle.std.specs.List.Sorted.{IsStrictlySortedBy}
-use Rattle.std.specs.Map.{lookup, set_value, keys_of}
-use Rattle.std.specs.Ordering.{nat_cmp, is_eq}
+use Rattle.std.proofs.Common.{◌≡◌, ℕ, zero, suc, Bool, true, false, List, [], ◌∷◌, ◌++◌, ◌<◌, length, get_or, set, map, Option, Some, None, refl, sym, ap, ◌∙◌, subst, append_assoc, arith}
+use Rattle.std.specs.Prelude.{bytes_eq, is_some, option_map, if◌then◌else◌}
+use Rattle.std.specs.Cmp.Lexicographic.{bytes_decides}
 use Rattle.std.proofs.lemmas.List.{append-nil}
-use Rattle.std.proofs.lemmas.Map.Text.{is_eq-slice_cmp}
-use Rattle.fml_types.specs.Named.{IsBelow, AreRising, has_name}
+use Rattle.fml_types.specs.Named.{IsBelow, AreRising, has_name, place}
 use Rattle.fml_types.specs.declared.manifest.DefaultEntry.{DefaultEntry}
 use Rattle.fml_types.specs.declared.manifest.FeatureDefinition.{FeatureDefinition}
-use Rattle.fml_imports.specs.Overrides.{entries_over, overridden}
-use Rattle.fml_imports.proofs.Maps.{sides, turned, left_false, right_false, held_name, rises}
+use Rattle.fml_types.proofs.Places.{place_within}
+use Rattle.fml_imports.specs.Overrides.{entries_over, overridden, laid_at}
+use Rattle.fml_imports.specs.Tables.{feature_for}
+use Rattle.fml_imports.proofs.Names.{turned, left_false, right_false, placed}
+use Rattle.fml_imports.proofs.Rising.{absent_below, rising_same}
 
 abbrev Overrides : Type 0
 Overrides = List (List ℕ × List DefaultEntry)
@@ -31,58 +29,66 @@ none_over rest name es (f ∷ fs) h =
     let other : bytes_eq name f.0 ≡ false = turned name f.0 ∙ left_false (bytes_eq f.0 name) (has_name name fs) h in
     ap (λ g. g ∷ map (overridden ((name, es) ∷ rest)) fs) (over_other rest name es f other) ∙ ap (λ gs. overridden rest f ∷ gs) (none_over rest name es fs (right_false (bytes_eq f.0 name) (has_name name fs) h))
 
--- a name below all others is none of them
-below_absent : (name : List ℕ) (fs : Features) → IsBelow name fs → has_name name fs ≡ false
-below_absent name [] h = refl
-below_absent name (f ∷ fs) h = ap (λ b. b || has_name name fs) (sym (sides name f.0) ∙ ap is_eq h.0) ∙ below_absent name fs h.1
+-- the entries are put after those of the feature of the name
+over_this : (rest : Overrides) (name : List ℕ) (es : List DefaultEntry) (k : List ℕ) (f : FeatureDefinition) → bytes_eq name k ≡ true → overridden rest (k, record f { defaults = f.defaults ++ es }) ≡ overridden ((name, es) ∷ rest) (k, f)
+over_this rest name es k f same =
+    ap (λ (ds : List DefaultEntry). (k, record f { defaults = ds })) (append_assoc f.defaults es (entries_over k rest))
+    ∙ ap (λ b. (k, record f { defaults = f.defaults ++ (if b then es ++ entries_over k rest else entries_over k rest) })) (sym same)
 
--- a feature with more entries of its own
-with_more : List DefaultEntry → FeatureDefinition → FeatureDefinition
-with_more es f = record f { defaults = f.defaults ++ es }
+-- the name is that of the first feature, or stands among the others
+at-first : (rest : Overrides) (name : List ℕ) (es : List DefaultEntry) (f : List ℕ × FeatureDefinition) (fs : Features) (b : Bool) (o : Option ℕ) (i : ℕ) → bytes_eq f.0 name ≡ b → IsBelow f.0 fs → (if b then Some 0 else option_map suc o) ≡ Some i
+    → ((j : ℕ) → o ≡ Some j → map (overridden rest) (laid_at j es fs) ≡ map (overridden ((name, es) ∷ rest)) fs) → map (overridden rest) (laid_at i es (f ∷ fs)) ≡ map (overridden ((name, es) ∷ rest)) (f ∷ fs)
+at-first rest name es f fs true o zero is below h later =
+    let same : f.0 ≡ name = (bytes_decides f.0 name).0 is in
+    let absent : has_name name fs ≡ false = subst (λ n. has_name n fs ≡ false) same (absent_below f.0 fs below) in
+    ap (λ (g : List ℕ × FeatureDefinition). g ∷ map (overridden rest) fs) (over_this rest name es f.0 f.1 (turned name f.0 ∙ is)) ∙ ap (λ (gs : Features). overridden ((name, es) ∷ rest) f ∷ gs) (sym (none_over rest name es fs absent))
+at-first rest name es f fs true o (suc i) is below h later = absurd cc
+at-first rest name es f fs false None i is below h later = absurd cc
+at-first rest name es f fs false (Some j) zero is below h later = absurd cc
+at-first rest name es f fs false (Some j) (suc i) is below h later =
+    let same : j ≡ i = cc in
+    ap (λ (g : List ℕ × FeatureDefinition). g ∷ map (overridden rest) (laid_at i es fs)) (sym (over_other rest name es f (turned name f.0 ∙ is))) ∙ ap (λ (gs : Features). overridden ((name, es) ∷ rest) f ∷ gs) (later i (ap (λ n. Some n) same))
 
-module _ (rest : Overrides) (name : List ℕ) (es : List DefaultEntry) where
-  -- the entries are put after those of the feature of the name
-  over_this : (k : List ℕ) (f : FeatureDefinition) → bytes_eq name k ≡ true → overridden rest (k, with_more es f) ≡ overridden ((name, es) ∷ rest) (k, f)
-  unfolding with_more
-  over_this k f same =
-      ap (λ (ds : List DefaultEntry). (k, record f { defaults = ds })) (append_assoc f.defaults es (entries_over k rest))
-      ∙ ap (λ b. (k, record f { defaults = f.defaults ++ (if b then es ++ entries_over k rest else entries_over k rest) })) (sym same)
+-- a feature that is there takes the entries
+pub laid_over : (rest : Overrides) (name : List ℕ) (es : List DefaultEntry) (fs : Features) (i : ℕ) → AreRising fs → place name fs ≡ Some i → map (overridden rest) (laid_at i es fs) ≡ map (overridden ((name, es) ∷ rest)) fs
+laid_over rest name es [] i rising h = absurd cc
+laid_over rest name es (f ∷ fs) i rising h = at-first rest name es f fs (bytes_eq f.0 name) (place name fs) i refl rising.0 h (λ j at_j. laid_over rest name es fs j rising.1 at_j)
 
-  abbrev here : List ℕ → Bool
-  here k = is_at (slice_cmp nat_cmp name) k
+-- where it isn't there nothing changes
+pub laid_none : (rest : Overrides) (name : List ℕ) (es : List DefaultEntry) (fs : Features) → place name fs ≡ None → map (overridden rest) fs ≡ map (overridden ((name, es) ∷ rest)) fs
+laid_none rest name es fs h = sym (none_over rest name es fs (sym (placed name fs) ∙ ap is_some h))
 
-  at_first : (b : Bool) (g : List ℕ × FeatureDefinition) (gs : Features) (f : FeatureDefinition) → here g.0 ≡ b → IsBelow g.0 gs → cond b (Some g.1) (lookup here gs) ≡ Some f
-      → (lookup here gs ≡ Some f → map (overridden rest) (set_value here gs (with_more es f)) ≡ map (overridden ((name, es) ∷ rest)) gs)
-      → map (overridden rest) (cond b ((g.0, with_more es f) ∷ gs) (g ∷ set_value here gs (with_more es f))) ≡ map (overridden ((name, es) ∷ rest)) (g ∷ gs)
-  at_first true g gs f is below found later =
-      let one : g.1 ≡ f = cc in
-      let equal : bytes_eq name g.0 ≡ true = sym (is_eq-slice_cmp name g.0) ∙ is in
-      let same : name ≡ g.0 = (bytes_decides name g.0).0 equal in
-      let absent : has_name name gs ≡ false = subst (λ n. has_name n gs ≡ false) (sym same) (below_absent g.0 gs below) in
-      ap (λ (d : FeatureDefinition). overridden rest (g.0, with_more es d) ∷ map (overridden rest) gs) (sym one)
-      ∙ ap (λ (h : List ℕ × FeatureDefinition). h ∷ map (overridden rest) gs) (over_this g.0 g.1 equal)
-      ∙ ap (λ (hs : Features). overridden ((name, es) ∷ rest) g ∷ hs) (sym (none_over rest name es gs absent))
-  at_first false g gs f is below found later =
-      let other : bytes_eq name g.0 ≡ false = sym (is_eq-slice_cmp name g.0) ∙ is in
-      ap (λ (h : List ℕ × FeatureDefinition). h ∷ map (overridden rest) (set_value here gs (with_more es f))) (sym (over_other rest name es g other)) ∙ ap (λ (hs : Features). overridden ((name, es) ∷ rest) g ∷ hs) (later found)
+-- the names stay
+laid_below : (i : ℕ) (es : List DefaultEntry) (a : List ℕ) (fs : Features) → IsBelow a fs → IsBelow a (laid_at i es fs)
+laid_below i es a [] below = tt
+laid_below zero es a (f ∷ fs) below = below
+laid_below (suc i) es a (f ∷ fs) below = (below.0, laid_below i es a fs below.1)
 
-  laid_found : (fs : Features) (f : FeatureDefinition) → AreRising fs → lookup here fs ≡ Some f → map (overridden rest) (set_value here fs (with_more es f)) ≡ map (overridden ((name, es) ∷ rest)) fs
-  laid_found [] f rising found = absurd cc
-  laid_found (g ∷ gs) f rising found = at_first (here g.0) g gs f refl rising.0 found (laid_found gs f rising.1)
+pub laid_rises : (i : ℕ) (es : List DefaultEntry) (fs : Features) → AreRising fs → AreRising (laid_at i es fs)
+laid_rises i es [] rising = tt
+laid_rises zero es (f ∷ fs) rising = rising
+laid_rises (suc i) es (f ∷ fs) rising = (laid_below i es f.0 fs rising.0, laid_rises i es fs rising.1)
 
-  -- a feature that is there takes the entries
-  pub laid_over : (fs laid : Features) (f : FeatureDefinition) → IsStrictlySortedBy (slice_cmp nat_cmp) (keys_of fs) → lookup here fs ≡ Some f → laid ≡ set_value here fs (record f { defaults = f.defaults ++ es })
-      → map (overridden rest) laid ≡ map (overridden ((name, es) ∷ rest)) fs
-  unfolding with_more
-  laid_over fs laid f sorted found is = ap (map (overridden rest)) is ∙ laid_found fs f (rises fs sorted) found
+pub laid_set : (fs : Features) (i : ℕ) (es : List DefaultEntry) (f : List ℕ × FeatureDefinition) (ds : List DefaultEntry) → i < length fs → f ≡ get_or fs i f → ds ≡ f.1.defaults ++ es → set fs i (f.0, record f.1 { defaults = ds }) ≡ laid_at i es fs
+laid_set [] i es f ds within is more = absurd (omega (arith, within))
+laid_set (g ∷ gs) zero es f ds within is more =
+    ap (λ (d : List DefaultEntry). (f.0, record f.1 { defaults = d }) ∷ gs) more ∙ ap (λ (h : List ℕ × FeatureDefinition). (h.0, record h.1 { defaults = h.1.defaults ++ es }) ∷ gs) is
+laid_set (g ∷ gs) (suc i) es f ds within is more = ap (λ (hs : Features). g ∷ hs) (laid_set gs i es f ds (omega (arith, within)) is more)
 
-  absent-held : (o : Option FeatureDefinition) (b : Bool) → is_some o ≡ b → o ≡ None → b ≡ false
-  absent-held None b is h = sym is
-  absent-held (Some f) b is h = absurd cc
+pub place_there : {T : Type 0} (name : List ℕ) (ps qs : List (List ℕ × T)) (i : ℕ) → Some i ≡ place name ps → qs ≡ ps → i < length qs
+place_there name ps qs i at_i same = subst (λ l. i < length l) (sym same) (place_within name ps i (sym at_i))
 
-  -- where it isn't there nothing changes
-  pub laid_none : (fs : Features) → lookup here fs ≡ None → map (overridden rest) fs ≡ map (overridden ((name, es) ∷ rest)) fs
-  laid_none fs h = sym (none_over rest name es fs (absent-held (lookup here fs) (has_name name fs) (held_name name fs) h))
+pub laid_all_rise : (fs laid : Features) (i : ℕ) (es : List DefaultEntry) → laid ≡ laid_at i es fs → AreRising fs → AreRising laid
+laid_all_rise fs laid i es is rising = subst AreRising (sym is) (laid_rises i es fs rising)
+
+pub laid_turn : (rest : Overrides) (name : List ℕ) (es : List DefaultEntry) (fs pairs laid new : Features) (i : ℕ) → Some i ≡ place name fs → pairs ≡ fs → AreRising pairs → laid ≡ laid_at i es pairs → new ≡ laid
+    → map (overridden rest) new ≡ map (overridden ((name, es) ∷ rest)) fs
+laid_turn rest name es fs pairs laid new i at_i same rising is put =
+    ap (map (overridden rest)) (put ∙ is ∙ ap (laid_at i es) same) ∙ laid_over rest name es fs i (subst AreRising same rising) (sym at_i)
+
+-- the features of a file, as they count for a channel, rise as they did
+pub counted_rise : (asked channel : List ℕ) (fs all : Features) → all ≡ map (feature_for asked channel) fs → AreRising fs → AreRising all
+counted_rise asked channel fs all is rising = subst AreRising (sym is) (rising_same (feature_for asked channel) (λ f. refl) fs rising)
 
 -- without overrides features stay as they are
 pub over_nothing : (fs : Features) → map (overridden []) fs ≡ fs

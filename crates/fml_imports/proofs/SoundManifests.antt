@@ -34,7 +34,7 @@ use Rattle.fml_imports.specs.declared.fault.JoinFault.{JoinFault}
 use Rattle.fml_imports.specs.declared.fault.JoinRefusal.{JoinRefusal}
 use Rattle.fml_imports.specs.declared.fault.JoinRefusal.TheVariants as refusals
 use Rattle.fml_imports.proofs.Alls.{all_nil, all_cons, all_head, all_tail, all_append, all_map, all_mapped, all_flat}
-use Rattle.fml_imports.proofs.Maps.{turned, left_false, right_false}
+use Rattle.fml_imports.proofs.Names.{turned, left_false, right_false}
 use Rattle.fml_imports.proofs.ReadModules.{read_module}
 
 pub bind_ok : {A B : Type 0} (r : Result A JoinRefusal) (f : A → Result B JoinRefusal) (b : B) → (r >>= f) ≡ Ok b → (a : A) × (r ≡ Ok a) × (f a ≡ Ok b)

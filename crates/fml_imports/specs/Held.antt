@@ -1,14 +1,14 @@
--- What the maps hold in which definitions are gathered.
+-- What the tables hold in which definitions are gathered.
 use Rattle.std.specs.Prelude.{◌≡◌, Result, Ok, Err}
 use Rattle.fml_imports.specs.Outcome.{Fails}
 use Rattle.fml_imports.specs.Tables.{Tables}
 use Rattle.fml_imports.specs.declared.fault.JoinFault.{JoinFault}
 use Rattle.fml_imports.specs.declared.fault.JoinRefusal.{JoinRefusal}
-use Rattle.fml_imports.specs.declared.tables.TableMaps.{TableMaps}
+use Rattle.fml_imports.specs.declared.tables.TablesByName.{TablesByName}
 use Rattle.fml_imports.specs.declared.tables.Definitions.{Definitions}
 
-abbrev pub held : TableMaps → Tables
-held maps = record { enums = maps.enums.entries; objects = maps.objects.entries; features = maps.features.entries }
+abbrev pub held : TablesByName → Tables
+held tables = record { enums = tables.enums; objects = tables.objects; features = tables.features }
 
 -- what a call returned holds what joining gives, unless memory ran out
 abbrev pub GivesHeld : Result Definitions JoinFault → Result Tables JoinRefusal → Type 0

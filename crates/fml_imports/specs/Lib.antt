@@ -2,6 +2,7 @@ pub mod Outcome
 pub mod Channels
 pub mod Sound
 pub mod Tables
+pub mod Merging
 pub mod Overrides
 pub mod Imports
 pub mod Joining

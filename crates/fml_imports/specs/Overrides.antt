@@ -1,5 +1,5 @@
 -- What imports lay over features: lists of entries, under the features' names.
-use Rattle.std.specs.Prelude.{ℕ, List as Seq, [], ◌∷◌, ◌++◌, map, bytes_eq, if◌then◌else◌}
+use Rattle.std.specs.Prelude.{ℕ, zero, suc, List as Seq, [], ◌∷◌, ◌++◌, map, bytes_eq, if◌then◌else◌}
 use Rattle.std.specs.List.{flat_map}
 use Rattle.fml_types.specs.declared.manifest.DefaultEntry.{DefaultEntry}
 use Rattle.fml_types.specs.declared.manifest.FeatureDefinition.{FeatureDefinition}
@@ -27,3 +27,9 @@ entries_over name (o ∷ os) = if bytes_eq o.0 name then o.1 ++ entries_over nam
 -- a feature with its own entries, and after them the overrides of its name
 abbrev pub overridden : Seq (Seq ℕ × Seq DefaultEntry) → Seq ℕ × FeatureDefinition → Seq ℕ × FeatureDefinition
 overridden overrides f = (f.0, record f.1 { defaults = f.1.defaults ++ entries_over f.0 overrides })
+
+-- the features with more entries of the one at a place
+abbrev pub laid_at : ℕ → Seq DefaultEntry → Seq (Seq ℕ × FeatureDefinition) → Seq (Seq ℕ × FeatureDefinition)
+laid_at place entries [] = []
+laid_at zero entries (f ∷ fs) = (f.0, record f.1 { defaults = f.1.defaults ++ entries }) ∷ fs
+laid_at (suc place) entries (f ∷ fs) = f ∷ laid_at place entries fs

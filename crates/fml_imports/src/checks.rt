@@ -11,6 +11,7 @@ ghost use Rattle.fml_imports.specs.Joining.{unknown_in, unknown_of, all_known, a
 ghost use Rattle.fml_imports.specs.Outcome.{Gives};
 
 use crate::fault::{JoinFault, JoinRefusal};
+use crate::merging::has_name;
 use fml_types::{
     ByName, FeatureDefinition, Field, FieldType, GroundFault, Key, Manifest, ObjectDefinition,
     TypeTable, Ungrounded, grounded,
@@ -158,11 +159,4 @@ fn unknown_key<'a>(types: &TypeTable, key: &'a Key) -> Option<&'a Text>
         }
         Key::String => None,
     }
-}
-
-#[tactic(auto, using(crate::proofs::Maps::placed))]
-fn has_name<T>(table: &ByName<T>, name: &Text) -> bool
-    ensures { result ≡ has_name name.now table.now }
-{
-    table.place(name.as_str()).is_some()
 }

@@ -8,6 +8,7 @@ mod fault;
 mod imports;
 mod joining;
 mod laws;
+mod merging;
 mod overrides;
 mod single_file;
 mod tables;

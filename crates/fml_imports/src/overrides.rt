@@ -1,19 +1,38 @@
 // The entries that files and their imports have for features.
-ghost use Rattle.std.specs.Prelude.{◌≡◌, ◌++◌, ℕ, List, [], ◌∷◌, None, IfOk, OnOk, map, if◌then◌else◌};
+ghost use Rattle.std.specs.Prelude.{◌≡◌, ◌<◌, ◌++◌, ℕ, List, [], ◌∷◌, None, IfOk, OnOk, length, map, if◌then◌else◌};
 ghost use Rattle.std.specs.List.{flat_map};
+ghost use Rattle.fml_types.specs.Named.{AreRising};
 ghost use Rattle.fml_types.specs.declared.manifest.DefaultEntry.{DefaultEntry};
 ghost use Rattle.fml_imports.specs.Channels.{is_for, kept_entries, entries_for};
-ghost use Rattle.fml_imports.specs.Overrides.{import_overrides, overridden};
-ghost use Rattle.fml_imports.specs.Tables.{definition_for};
+ghost use Rattle.fml_imports.specs.Overrides.{import_overrides, overridden, laid_at};
+ghost use Rattle.fml_imports.specs.Tables.{definition_for, feature_for};
 
+use crate::merging::{risen, taken};
 use fml_reader::Import;
-use fml_types::{DefaultEntry, FeatureDefinition};
+use fml_types::{ByName, DefaultEntry, FeatureDefinition};
 use sequences::{Sequence, Text};
 use std::alloc::{AllocError, Global};
-use std::collections::BTreeMap;
+
+/// The features of a file of this channel, with those of their entries that count for the asked one.
+pub(crate) fn features_for(
+    alloc: Global,
+    asked: &Text,
+    channel: &Text,
+    features: ByName<FeatureDefinition>,
+) -> Result<ByName<FeatureDefinition>, AllocError>
+    ensures { IfOk result (λ fs. fs ≡ map (feature_for asked.now channel.now) features) }
+{
+    let features = risen(features);
+    let mut pairs = Vec::with_capacity(alloc, features.len())?;
+    for (name, definition) in features {
+        let definition = definition_for(alloc, asked, channel, definition)?;
+        pairs.push((name, definition))?;
+    }
+    Ok(ByName::from_vec(pairs))
+}
 
 /// The feature of a file of this channel, with those of its entries that count for the asked one.
-pub(crate) fn definition_for(
+fn definition_for(
     alloc: Global,
     asked: &Text,
     channel: &Text,
@@ -118,17 +137,44 @@ fn push_import(
 }
 
 /// Lays entries over the feature of this name, where there is one.
+#[tactic(auto, using(crate::proofs::Overriding::laid_turn, crate::proofs::Overriding::laid_none, crate::proofs::Overriding::place_there, crate::proofs::Overriding::laid_all_rise))]
 pub(crate) fn lay(
-    features: &mut BTreeMap<Text, FeatureDefinition>,
+    alloc: Global,
+    features: &mut ByName<FeatureDefinition>,
     name: &Text,
     entries: Sequence<DefaultEntry>,
 ) -> Result<(), AllocError>
-    ensures { OnOk result ((rest : List (List ℕ × List DefaultEntry)) → map (overridden rest) features.new.entries ≡ map (overridden ((name.now, entries) ∷ rest)) features.old.entries) }
+    ensures { OnOk result ((rest : List (List ℕ × List DefaultEntry)) → map (overridden rest) features.new ≡ map (overridden ((name.now, entries) ∷ rest)) features.old) }
 {
-    if let Some(feature) = features.get_mut(name) {
-        append(&mut feature.defaults, entries)?;
+    match features.place(name.as_str()) {
+        Some(place) => {
+            let mut pairs = risen(taken(alloc, features));
+            lay_at(&mut pairs, place, entries)?;
+            put_back(features, pairs);
+            Ok(())
+        }
+        None => Ok(()),
     }
+}
+
+/// Lays entries over the feature at this place.
+fn lay_at(
+    features: &mut Vec<(Text, FeatureDefinition)>,
+    place: usize,
+    entries: Sequence<DefaultEntry>,
+) -> Result<(), AllocError>
+    requires { place < length features.old.items }
+    ensures { OnOk result (features.new.items ≡ laid_at place entries features.old.items) }
+{
+    append(&mut features[place].1.defaults, entries)?;
     Ok(())
+}
+
+fn put_back<T: Drop>(names: &mut ByName<T>, pairs: Vec<(Text, T)>)
+    requires { AreRising pairs.items }
+    ensures { names.new ≡ pairs.items }
+{
+    *names = ByName::from_vec(pairs);
 }
 
 fn append(

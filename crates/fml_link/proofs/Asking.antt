@@ -8,7 +8,7 @@ use Rattle.host_model.specs.Shelf.{IsReached}
 use Rattle.host_model.specs.ShelfLaws.{reached_once, reached_then}
 use Rattle.host_model.specs.declared.shelf.Shelf.{Ghosts}
 use Rattle.fml_types.specs.Named.{has_name}
-use Rattle.fml_imports.proofs.Maps.{turned, left_false, right_false}
+use Rattle.fml_imports.proofs.Names.{turned, left_false, right_false}
 use Rattle.fml_link.specs.Asked.{names_of, BeginWith, IsAskedFrom}
 use Rattle.fml_link.specs.Files.{list_after, with_named}
 use Rattle.fml_link.specs.Laws.{are_distinct}

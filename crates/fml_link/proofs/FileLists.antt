@@ -2,7 +2,7 @@
 use Rattle.std.proofs.Common.{◌≡◌, ℕ, zero, suc, Bool, true, false, List, [], ◌∷◌, ◌++◌, Option, Some, None, Ok, refl, sym, ap, ◌∙◌, subst}
 use Rattle.std.specs.Prelude.{◌&&◌, ◌||◌, not, bytes_eq, slice_get}
 use Rattle.fml_types.specs.Named.{has_name}
-use Rattle.fml_imports.proofs.Maps.{turned, left_false, right_false}
+use Rattle.fml_imports.proofs.Names.{turned, left_false, right_false}
 use Rattle.fml_link.specs.Files.{file_module, named_by, with_named, after_file, list_after}
 use Rattle.fml_link.specs.Laws.{are_distinct, StartWithRoot, AreDistinct}
 use Rattle.fml_link.proofs.Linked.{bind_ok}

@@ -1,8 +1,0 @@
-use Rattle.std.proofs.Common.{◌≡◌}
-use Rattle.fml_imports.specs.Outcome.{each}
-use Rattle.fml_imports.specs.Held.{held}
-use Rattle.fml_imports.specs.Tables.{with_enum}
-use Rattle.fml_imports.proofs.tables.TableMaps.add_enums.Given as goal
-
-abbrev pub invariant-loop-name : goal.invariant-loop-name
-invariant-loop-name l = each with_enum (held l.self) l.name-iterator.rest.items ≡ each with_enum (held l.fn.self) l.fn.enums

@@ -1,7 +1,0 @@
-use Rattle.std.proofs.Common.{sym, ◌∙◌}
-use Rattle.fml_imports.specs.Held.{held}
-use Rattle.fml_imports.proofs.Inserted.{object_left}
-use Rattle.fml_imports.proofs.tables.TableMaps.add_object.Goals as goal
-
-pub returns : goal.returns
-returns c = object_left (held c.args.self.now) (c.args.name, c.args.definition) c.insert.new.map.entries c.insert.result (sym c.has_name.ensures ∙ c.if-has_name.false) c.insert.ensures
