@@ -2,6 +2,7 @@
 //! items.
 #![tactic(auto)]
 
+mod predecessor;
 mod sequence;
 mod shared;
 mod text;

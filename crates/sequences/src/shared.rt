@@ -3,7 +3,9 @@ ghost use Rattle.std.specs.Prelude.{◌≡◌, ◌<◌, ◌≤◌, ◌↔◌, []
 ghost use Rattle.std.specs.List.{insert, remove};
 ghost use Rattle.std.specs.Cmp.Lexicographic.{pointwise, lists_per};
 ghost use Rattle.sequences.specs.Shared.{shared_items};
+ghost use Rattle.sequences.specs.Succession.{Makes, Succeeds};
 
+use crate::predecessor::{ItemChange, Predecessor, copies};
 use crate::sequence::Sequence;
 use std::alloc::{AllocError, Global};
 use std::marker::Model;
@@ -16,22 +18,29 @@ pub trait ExactClone: Clone {
 
 /// A list, which contracts see as the list of its items. A clone shares the list, and a list with
 /// several owners is copied before one of them changes it.
+///
+/// A list that is made of another by the change of one item keeps the other, so that the next one is made in that one's place.
 #[derive(Drop)]
 pub struct SharedList<T> {
     alloc: Global,
     list: Option<Rc<Sequence<T>>>,
+    // The list that this one was made of by the change of one item, for the next one to be made in its place.
+    predecessor: Option<Predecessor<T>>,
 }
 
 impl<T> Model for SharedList<T> {
     ghost use Rattle.std.specs.Prelude.{List};
     ghost use Rattle.std.specs.Coded.{coded_list};
     ghost use Rattle.sequences.specs.Shared.{shared_items};
+    ghost use Rattle.sequences.specs.Succession.{Succeeds};
 
     ghost Value = { List T };
 
     ghost coded = { coded_list T.code };
 
     ghost view = { λ l. shared_items l.list };
+
+    ghost invariant = { λ l. Succeeds l.predecessor (shared_items l.list) };
 }
 
 impl<T> SharedList<T> {
@@ -39,7 +48,11 @@ impl<T> SharedList<T> {
     pub fn new(alloc: Global) -> SharedList<T>
         ensures { result ≡ [] }
     {
-        SharedList { alloc, list: None }
+        SharedList {
+            alloc,
+            list: None,
+            predecessor: None,
+        }
     }
 
     /// The items. It takes no memory.
@@ -82,6 +95,7 @@ impl<T: Drop> SharedList<T> {
         Ok(SharedList {
             alloc,
             list: Some(Rc::new(alloc, items)?),
+            predecessor: None,
         })
     }
 }
@@ -92,6 +106,7 @@ impl<T: ExactClone + Drop> SharedList<T> {
         ensures ok { OnOk result (self.new ≡ self.old ++ item ∷ []) }
         ensures err { OnErr result (self.new ≡ self.old) }
     {
+        self.predecessor = None;
         match &mut self.list {
             Some(items) => push_to(items, item),
             None => {
@@ -107,6 +122,7 @@ impl<T: ExactClone + Drop> SharedList<T> {
         ensures ok { OnOk result (self.new ≡ insert self.old place item) }
         ensures err { OnErr result (self.new ≡ self.old) }
     {
+        self.predecessor = None;
         match &mut self.list {
             Some(items) => insert_into(items, place, item),
             None => {
@@ -122,22 +138,86 @@ impl<T: ExactClone + Drop> SharedList<T> {
         ensures ok { OnOk result (self.new ≡ slice_set self.old place item) }
         ensures err { OnErr result (self.new ≡ self.old) }
     {
+        self.predecessor = None;
         match &mut self.list {
             Some(items) => replace_in(items, place, item),
             None => Ok(()),
         }
     }
+}
 
-    /// Takes the item at `place` out. Want of memory leaves the list as it was.
-    pub fn remove(&mut self, place: usize) -> Result<(), AllocError>
-        requires { place < length self.old }
-        ensures ok { OnOk result (self.new ≡ remove self.old place) }
-        ensures err { OnErr result (self.new ≡ self.old) }
+impl<T: ExactClone + Drop> SharedList<T> {
+    /// The list with an item before the one at `place`. This one stays the same. Where it was made by such a call itself, and the
+    /// list that it was made of has no other owner, the new one is made in the place of that, and the items aren't copied.
+    pub fn inserted(&mut self, place: usize, item: T) -> Result<SharedList<T>, AllocError>
+        requires { place ≤ length self.old }
+        ensures same { self.new ≡ self.old }
+        ensures list { IfOk result (λ l. l ≡ insert self.old place item) }
     {
-        match &mut self.list {
-            Some(items) => remove_from(items, place),
-            None => Ok(()),
+        let mut items = self.own_items()?;
+        items.insert(place, item)?;
+        self.successor(items, ItemChange::Insertion(place))
+    }
+
+    /// The list with an item in the place of the one at `place`. This one stays the same. The items are copied as by `inserted`.
+    pub fn replaced(&mut self, place: usize, item: T) -> Result<SharedList<T>, AllocError>
+        requires { place < length self.old }
+        ensures same { self.new ≡ self.old }
+        ensures list { IfOk result (λ l. l ≡ slice_set self.old place item) }
+    {
+        let mut items = self.own_items()?;
+        items.replace(place, item);
+        self.successor(items, ItemChange::Replacement(place))
+    }
+
+    /// The list without the item at `place`. This one stays the same. The items are copied as by `inserted`.
+    pub fn removed(&mut self, place: usize) -> Result<SharedList<T>, AllocError>
+        requires { place < length self.old }
+        ensures same { self.new ≡ self.old }
+        ensures list { IfOk result (λ l. l ≡ remove self.old place) }
+    {
+        let mut items = self.own_items()?;
+        drop(items.remove(place));
+        self.successor(items, ItemChange::Removal(place))
+    }
+
+    // The items in a sequence of their own. The predecessor is used up for that.
+    fn own_items(&mut self) -> Result<Sequence<T>, AllocError>
+        ensures same { self.new ≡ self.old }
+        ensures items { IfOk result (λ items. items ≡ self.old) }
+    {
+        match self.predecessor.take() {
+            Some(predecessor) => predecessor.brought_to(self.alloc, self.as_slice()),
+            None => copies(self.alloc, self.as_slice()),
         }
+    }
+
+    // The list of items that the change makes of this one's.
+    fn successor(&self, items: Sequence<T>, change: ItemChange) -> Result<SharedList<T>, AllocError>
+        requires { Makes change self.now items }
+        ensures { IfOk result (λ l. l ≡ items) }
+    {
+        Ok(SharedList {
+            alloc: self.alloc,
+            list: Some(Rc::new(self.alloc, items)?),
+            predecessor: predecessor_in(&self.list, change)?,
+        })
+    }
+}
+
+// The list, where there is one, as the predecessor of each that the change makes of it.
+fn predecessor_in<T: Drop>(
+    list: &Option<Rc<Sequence<T>>>,
+    change: ItemChange,
+) -> Result<Option<Predecessor<T>>, AllocError>
+    ensures { IfOk result (λ p. (made : _) → Makes change (shared_items list.now) made → Succeeds p made) }
+{
+    match list {
+        Some(items) => Ok(Some(Predecessor {
+            items: items.clone()?,
+            change,
+        })),
+        None => Ok(None),
     }
 }
 
@@ -185,39 +265,39 @@ fn replace_in<T: ExactClone + Drop>(
     Ok(())
 }
 
-fn remove_from<T: ExactClone + Drop>(
-    items: &mut Rc<Sequence<T>>,
-    place: usize,
-) -> Result<(), AllocError>
-    requires { place < length items.old.value }
-    ensures ok { OnOk result (items.new.value ≡ remove items.old.value place) }
-    ensures err { OnErr result (items.new.value ≡ items.old.value) }
-{
-    let own = Rc::make_mut(items)?;
-    take_out(own, place);
-    Ok(())
-}
-
-fn take_out<T: Drop>(items: &mut Sequence<T>, place: usize)
-    requires { place < length items.old }
-    ensures { items.new ≡ remove items.old place }
-{
-    let _item = items.remove(place);
-}
-
 /// The same list with one more owner. It takes no memory.
 impl<T: Drop> Clone for SharedList<T> {
     ghost is_clone = { λ l m. m ≡ l };
 
     fn clone(&self) -> Result<SharedList<T>, AllocError> {
-        let list = match &self.list {
-            Some(items) => Some(items.clone()?),
-            None => None,
-        };
         Ok(SharedList {
             alloc: self.alloc,
-            list,
+            list: same_list(&self.list)?,
+            predecessor: same_predecessor(&self.predecessor)?,
         })
+    }
+}
+
+fn same_list<T: Drop>(list: &Option<Rc<Sequence<T>>>) -> Result<Option<Rc<Sequence<T>>>, AllocError>
+    ensures { IfOk result (λ same. shared_items same ≡ shared_items list.now) }
+{
+    match list {
+        Some(items) => Ok(Some(items.clone()?)),
+        None => Ok(None),
+    }
+}
+
+fn same_predecessor<T: Drop>(
+    predecessor: &Option<Predecessor<T>>,
+) -> Result<Option<Predecessor<T>>, AllocError>
+    ensures { IfOk result (λ same. (made : _) → Succeeds predecessor.now made → Succeeds same made) }
+{
+    match predecessor {
+        Some(predecessor) => Ok(Some(Predecessor {
+            items: predecessor.items.clone()?,
+            change: predecessor.change,
+        })),
+        None => Ok(None),
     }
 }
 

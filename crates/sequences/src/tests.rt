@@ -1,4 +1,5 @@
 use super::*;
+use std::alloc::{AllocError, Global};
 use std::test::Fail;
 
 #[test]
@@ -36,11 +37,63 @@ fn a_shared_list_changes_alone(rt: HostRuntime) -> Result<(), Fail> {
     assert_eq!(rt; names.get(0).map(Text::as_str), Some("a"));
     names.replace(0, Text::new(alloc, "c")?)?;
     assert_eq!(rt; names.get(0).map(Text::as_str), Some("c"));
-    names.remove(0)?;
-    assert!(rt; names == before);
     let mut numbers: Sequence<Text> = Sequence::new(alloc);
     numbers.push(Text::new(alloc, "b")?)?;
     let same = SharedList::from_sequence(alloc, numbers)?;
     assert!(rt; same == before);
     Ok(())
+}
+
+#[test]
+fn a_list_is_made_of_another(rt: HostRuntime) -> Result<(), Fail> {
+    let alloc = rt.alloc();
+    let mut list: SharedList<Text> = SharedList::new(alloc);
+    let mut held = list.clone()?;
+    for (change, place, item, is_held, after) in [
+        ("insert", 0, "b", false, "b"),
+        ("insert", 0, "a", false, "ab"),
+        ("insert", 2, "d", false, "abd"),
+        ("replace", 1, "c", false, "acd"),
+        ("remove", 0, "", false, "cd"),
+        ("insert", 1, "x", false, "cxd"),
+        ("remove", 2, "", true, "cx"),
+        ("replace", 0, "y", false, "yx"),
+        ("replace", 1, "z", true, "yz"),
+        ("remove", 0, "", true, "z"),
+        ("remove", 0, "", false, ""),
+        ("insert", 0, "e", false, "e"),
+    ] {
+        let next = made_of(alloc, &mut list, change, place, item)?;
+        assert_eq!(rt; joined(alloc, &next)?.as_str(), after);
+        if is_held {
+            held = list;
+        }
+        list = next;
+    }
+    assert_eq!(rt; joined(alloc, &held)?.as_str(), "yz");
+    Ok(())
+}
+
+fn made_of(
+    alloc: Global,
+    list: &mut SharedList<Text>,
+    change: &str,
+    place: usize,
+    item: &str,
+) -> Result<SharedList<Text>, Fail> {
+    let item = Text::new(alloc, item)?;
+    match change {
+        "insert" if place <= list.len() => Ok(list.inserted(place, item)?),
+        "replace" if place < list.len() => Ok(list.replaced(place, item)?),
+        "remove" if place < list.len() => Ok(list.removed(place)?),
+        _ => Err(Fail::new("no such change")),
+    }
+}
+
+fn joined(alloc: Global, list: &SharedList<Text>) -> Result<String, AllocError> {
+    let mut joined = String::new(alloc);
+    for item in list.as_slice() {
+        joined.push_str(item.as_str())?;
+    }
+    Ok(joined)
 }
