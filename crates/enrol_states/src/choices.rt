@@ -57,22 +57,30 @@ impl From<AllocError> for OptInFault {
 
 /// The state in which the slug is opted out, whether or not it has a recipe. An enrolment of it
 /// ends, and where the client never took part, the opt-out is the reason. Lists that stay as they
-/// are are shared.
-pub fn opt_out(alloc: Global, state: &State, slug: &Slug) -> Result<State, OptOutFault>
-    requires { IsConsistent state.now }
-    ensures answer { OptsOut state.now slug.now result }
+/// are are shared, and the others are made in the place of those that these were made of. The state is lent to that, and stays the
+/// same.
+pub fn opt_out(alloc: Global, state: &mut State, slug: &Slug) -> Result<State, OptOutFault>
+    requires { IsConsistent state.old }
+    ensures same { state.new ≡ state.old }
+    ensures answer { OptsOut state.old slug.now result }
     ensures consistent { IfOk result IsConsistent }
 {
     slug_fits(slug);
-    let opted_out = with_slug(&state.opted_out, slug)?;
-    let rows = rows_opted_out_of(&state.rows, slug)?;
+    let opted_out = with_slug(&mut state.opted_out, slug)?;
+    let rows = rows_opted_out_of(&mut state.rows, slug)?;
     Ok(state.with_rows(opted_out, rows)?)
 }
 
-/// The state in which the client is enrolled in the branch that its user chose.
-pub fn opt_in(alloc: Global, state: &State, slug: &Slug, branch: &Slug) -> Result<State, OptInFault>
-    requires { IsConsistent state.now }
-    ensures answer { OptsIn state.now slug.now branch.now result }
+/// The state in which the client is enrolled in the branch that its user chose. The state is lent as to `opt_out`.
+pub fn opt_in(
+    alloc: Global,
+    state: &mut State,
+    slug: &Slug,
+    branch: &Slug,
+) -> Result<State, OptInFault>
+    requires { IsConsistent state.old }
+    ensures same { state.new ≡ state.old }
+    ensures answer { OptsIn state.old slug.now branch.now result }
     ensures consistent { IfOk result IsConsistent }
 {
     slug_fits(slug);

@@ -14,11 +14,12 @@ use std::alloc::AllocError;
 
 /// The slugs with one more at its place, unless it is there.
 pub(crate) fn with_slug(
-    slugs: &SharedList<Slug>,
+    slugs: &mut SharedList<Slug>,
     slug: &Slug,
 ) -> Result<SharedList<Slug>, OptOutFault>
-    requires { Rise slugs.now }
-    ensures { Joins slugs.now slug.now result }
+    requires { Rise slugs.old }
+    ensures same { slugs.new ≡ slugs.old }
+    ensures slugs { Joins slugs.old slug.now result }
 {
     match slugs.as_slice().binary_search(slug) {
         Ok(_) => Ok(slugs.clone()?),
@@ -28,33 +29,36 @@ pub(crate) fn with_slug(
 
 /// The slugs with one more at a place, if there is room.
 fn with_slug_at(
-    slugs: &SharedList<Slug>,
+    slugs: &mut SharedList<Slug>,
     place: usize,
     slug: &Slug,
 ) -> Result<SharedList<Slug>, OptOutFault>
-    requires within { place ≤ length slugs.now }
-    requires place { IsPlace slug.now slugs.now place }
-    ensures { Joins slugs.now slug.now result }
+    requires within { place ≤ length slugs.old }
+    requires place { IsPlace slug.now slugs.old place }
+    ensures same { slugs.new ≡ slugs.old }
+    ensures slugs { Joins slugs.old slug.now result }
 {
     if slugs.len() >= MAX_OPTED_OUT {
         return Err(OptOutFault::OptedOutLimit);
     }
-    let mut more = slugs.clone()?;
-    more.insert(place, slug.clone()?)?;
-    Ok(more)
+    Ok(slugs.inserted(place, slug.clone()?)?)
 }
 
 /// The rows after an opt-out of the slug.
 pub(crate) fn rows_opted_out_of(
-    rows: &SharedList<Row>,
+    rows: &mut SharedList<Row>,
     slug: &Slug,
 ) -> Result<SharedList<Row>, AllocError>
-    requires { Rise (slugs_of rows.now) }
-    ensures { IfOk result (λ rs. rs ≡ map (opted_out_of slug.now) rows.now) }
+    requires { Rise (slugs_of rows.old) }
+    ensures same { rows.new ≡ rows.old }
+    ensures rows { IfOk result (λ rs. rs ≡ map (opted_out_of slug.now) rows.old) }
 {
     let items = rows.as_slice();
     match items.binary_search_by(|row| row.slug.cmp(slug)) {
-        Ok(place) => with_row_at(rows, place, items[place].opted_out()?),
+        Ok(place) => {
+            let row = items[place].opted_out()?;
+            with_row_at(rows, place, row)
+        }
         Err(_) => rows.clone(),
     }
 }

@@ -1,5 +1,5 @@
 //! Rows on the commands over states with recipes.
-ghost use Rattle.std.specs.Prelude.{◌≤◌, IfOk};
+ghost use Rattle.std.specs.Prelude.{◌≡◌, ◌≤◌, IfOk};
 ghost use Rattle.enrol_states.specs.Consistent.{IsConsistent};
 
 use crate::inputs::{recipes, slug};
@@ -73,8 +73,8 @@ fn rivals(alloc: Global) -> Result<State>
     with_recipes(alloc, records.as_str())
 }
 
-fn chosen(alloc: Global, state: &State, name: &str, branch: &str) -> Result<State>
-    requires { IsConsistent state.now }
+fn chosen(alloc: Global, state: &mut State, name: &str, branch: &str) -> Result<State>
+    requires { IsConsistent state.old }
     ensures { IfOk result IsConsistent }
 {
     let (name, branch) = (slug(alloc, name)?, slug(alloc, branch)?);
@@ -84,9 +84,10 @@ fn chosen(alloc: Global, state: &State, name: &str, branch: &str) -> Result<Stat
     }
 }
 
-fn without(alloc: Global, state: &State, name: &str) -> Result<State>
-    requires { IsConsistent state.now }
-    ensures { IfOk result IsConsistent }
+fn without(alloc: Global, state: &mut State, name: &str) -> Result<State>
+    requires { IsConsistent state.old }
+    ensures same { state.new ≡ state.old }
+    ensures consistent { IfOk result IsConsistent }
 {
     let name = slug(alloc, name)?;
     match opt_out(alloc, state, &name) {
@@ -109,8 +110,8 @@ fn switch(line: &str) -> Option<(Kinds, bool)> {
 }
 
 // The state after a line: a switch, `reset`, `out` and a slug, or a slug and a branch.
-pub(crate) fn step(alloc: Global, state: &State, line: &str) -> Result<State>
-    requires { IsConsistent state.now }
+pub(crate) fn step(alloc: Global, state: &mut State, line: &str) -> Result<State>
+    requires { IsConsistent state.old }
     ensures { IfOk result IsConsistent }
 {
     if let Some((part, on)) = switch(line) {
@@ -134,7 +135,7 @@ fn run(alloc: Global, state: State, lines: &str) -> Result<State>
     let mut state = state;
     for line in lines.split(',') {
         if !line.is_empty() {
-            state = step(alloc, &state, line.trim())?;
+            state = step(alloc, &mut state, line.trim())?;
         }
     }
     Ok(state)
@@ -172,13 +173,13 @@ pub(crate) fn parts_after(alloc: Global, input: &str) -> Result<String> {
 /// The answer to an opt-in after lines over four recipes. Row: the lines, a slug and a branch.
 pub(crate) fn opt_in_after(alloc: Global, input: &str) -> Result<String> {
     let (lines, words) = halves(input)?;
-    let state = rivals_after(alloc, lines)?;
-    opt_in_answer(alloc, &state, words)
+    let mut state = rivals_after(alloc, lines)?;
+    opt_in_answer(alloc, &mut state, words)
 }
 
 // The answer to an opt-in to a slug and a branch.
-fn opt_in_answer(alloc: Global, state: &State, words: &str) -> Result<String>
-    requires { IsConsistent state.now }
+fn opt_in_answer(alloc: Global, state: &mut State, words: &str) -> Result<String>
+    requires { IsConsistent state.old }
 {
     let (name, branch) = cut(words);
     let (name, branch) = (slug(alloc, name)?, slug(alloc, branch)?);
@@ -186,8 +187,8 @@ fn opt_in_answer(alloc: Global, state: &State, words: &str) -> Result<String>
 }
 
 // The answer to an opt-in, in words.
-fn answer_text(alloc: Global, state: &State, slug: &Slug, branch: &Slug) -> Result<String>
-    requires { IsConsistent state.now }
+fn answer_text(alloc: Global, state: &mut State, slug: &Slug, branch: &Slug) -> Result<String>
+    requires { IsConsistent state.old }
 {
     match opt_in(alloc, state, slug, branch) {
         Ok(_) => word(alloc, "ok"),
@@ -251,23 +252,25 @@ fn client_text(alloc: Global, state: &State, is_same: bool) -> Result<String> {
 pub(crate) fn opt_outs(alloc: Global, input: &str) -> Result<String> {
     let (number, again) = cut(input);
     let count = read_number(number.as_bytes()).context("no number")?;
-    let state = opted_out_of(alloc, count)?;
-    let is_limit = is_at_limit(alloc, &state)?;
-    let stays = stays_opted_out(alloc, &state, again)?;
+    let mut state = opted_out_of(alloc, count)?;
+    let is_limit = is_at_limit(alloc, &mut state)?;
+    let stays = stays_opted_out(alloc, &mut state, again)?;
     let is_in = state.is_opted_out("one-more");
     Ok(format!(in alloc; "{is_limit} {is_in} {stays}")?)
 }
 
-fn is_at_limit(alloc: Global, state: &State) -> Result<bool>
-    requires { IsConsistent state.now }
+fn is_at_limit(alloc: Global, state: &mut State) -> Result<bool>
+    requires { IsConsistent state.old }
+    ensures { state.new ≡ state.old }
 {
     let name = slug(alloc, "one-more")?;
     let more = opt_out(alloc, state, &name);
     Ok(matches!(more, Err(OptOutFault::OptedOutLimit)))
 }
 
-fn stays_opted_out(alloc: Global, state: &State, name: &str) -> Result<bool>
-    requires { IsConsistent state.now }
+fn stays_opted_out(alloc: Global, state: &mut State, name: &str) -> Result<bool>
+    requires { IsConsistent state.old }
+    ensures { state.new ≡ state.old }
 {
     let next = without(alloc, state, name)?;
     Ok(next.is_opted_out(name) && next == *state)
@@ -280,7 +283,7 @@ fn opted_out_of(alloc: Global, count: u64) -> Result<State>
     let mut state = State::new(alloc, ID, NOW);
     for number in 0..count {
         let name = format!(in alloc; "slug-{number}")?;
-        state = without(alloc, &state, name.as_str())?;
+        state = without(alloc, &mut state, name.as_str())?;
     }
     Ok(state)
 }

@@ -131,7 +131,7 @@ fn client_after(
     let mut state = choices::with_recipes(alloc, record.as_str())?;
     for line in lines.split(',') {
         if !line.is_empty() {
-            state = client_step(alloc, table, context, &state, line.trim())?;
+            state = client_step(alloc, table, context, &mut state, line.trim())?;
         }
     }
     Ok(state)
@@ -141,10 +141,10 @@ fn client_step(
     alloc: Global,
     table: &TransformTable,
     context: &Context,
-    state: &State,
+    state: &mut State,
     line: &str,
 ) -> Result<State>
-    requires consistent { IsConsistent state.now }
+    requires consistent { IsConsistent state.old }
     requires table { HasStandardNames table.now }
     ensures { IfOk result IsConsistent }
 {

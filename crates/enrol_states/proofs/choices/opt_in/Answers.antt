@@ -13,4 +13,4 @@ is_free c = search rules
 
 pub returns-clause-consistent : goal.returns-clause-consistent
 returns-clause-consistent c =
-    subst IsConsistent (sym c.in_ok-enrolled.ensures) (consistent c.args.state.now c.args.slug.now c.args.branch.now c.in-Some.recipe.now c.slug_fits.ensures c.slug_fits-2.ensures (may_choose c) (is_free c) c.requires)
+    subst IsConsistent (sym c.in_ok-enrolled.ensures.state) (consistent c.args.state.now c.args.slug.now c.args.branch.now c.in-Some.recipe.now c.slug_fits.ensures c.slug_fits-2.ensures (may_choose c) (is_free c) c.requires)

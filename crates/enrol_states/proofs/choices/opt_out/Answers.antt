@@ -8,4 +8,4 @@ is_after : (c : goal.In_ok-with_rows) → c.in_ok-with_rows.field-0 ≡ after_op
 is_after c = search rules
 
 pub returns-clause-consistent : goal.returns-clause-consistent
-returns-clause-consistent c = subst IsConsistent (sym (is_after c)) (consistent c.args.state.now c.args.slug.now c.slug_fits.ensures c.in_ok-opted_out.ensures.0 c.requires)
+returns-clause-consistent c = subst IsConsistent (sym (is_after c)) (consistent c.args.state.now c.args.slug.now c.slug_fits.ensures c.in_ok-opted_out.ensures.slugs.0 c.requires)

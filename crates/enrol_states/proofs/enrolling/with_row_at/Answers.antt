@@ -4,8 +4,8 @@ use Rattle.enrol_states.specs.declared.state.Row.{Row}
 use Rattle.enrol_states.proofs.Answered.{if_matched, same_row}
 use Rattle.enrol_states.proofs.enrolling.with_row_at.Goals as goal
 
-pub returns-then-eq : goal.returns-then-eq
-returns-then-eq c =
+pub returns-then-eq-clause-rows : goal.returns-then-eq-clause-rows
+returns-then-eq-clause-rows c =
     let d = c.index-items-place.result in
     let same : row_eq d c.args.row ≡ true = search rules in
     let here : d ≡ get_or c.args.rows.now c.args.place d = c.index-items-place.is ∙ ap (λ (rs : List Row). get_or rs c.args.place d) c.as_slice-items.ensures in

@@ -7,16 +7,16 @@ use Rattle.enrol_states.proofs.Ordered.{place_missed}
 use Rattle.enrol_states.proofs.Enrolments.{without-at, without-place}
 use Rattle.enrol_states.proofs.enrolling.without_slug.Goals as goal
 
-pub returns-in-Ok : goal.returns-in-Ok
-returns-in-Ok c =
+pub returns-in-Ok-clause-others : goal.returns-in-Ok-clause-others
+returns-in-Ok-clause-others c =
     let slug = c.args.slug.now in
     let slugs = c.as_slice.result.now in
     let rise = subst Rise (sym c.as_slice.ensures) c.requires in
     let left = without-at slug slugs c.in-Ok.place slug c.in-Ok.ensures.bound rise (c.in-Ok.ensures.ok slug) in
-    if_ok c.without_slug_at.result _ _ (subst (λ ts. remove ts c.in-Ok.place ≡ without_text slug ts) c.as_slice.ensures left) c.without_slug_at.ensures
+    if_ok c.removed.result _ _ (subst (λ ts. remove ts c.in-Ok.place ≡ without_text slug ts) c.as_slice.ensures left) c.removed.ensures.list
 
-pub returns-in-Err : goal.returns-in-Err
-returns-in-Err c =
+pub returns-in-Err-clause-others : goal.returns-in-Err-clause-others
+returns-in-Err-clause-others c =
     let slug = c.args.slug.now in
     let slugs = c.as_slice.result.now in
     let missed = place_missed slug slugs c.in-Err.field-0 (subst Rise (sym c.as_slice.ensures) c.requires) c.in-Err.ensures.position in

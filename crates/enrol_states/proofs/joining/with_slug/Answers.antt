@@ -10,8 +10,8 @@ with_slug_at-requires-clause-place c =
     let slugs = c.as_slice.result.now in
     subst (λ ts. IsPlace slug ts c.in-Err.place) c.as_slice.ensures (place_missed slug slugs c.in-Err.place (subst Rise (sym c.as_slice.ensures) c.requires) c.in-Err.ensures.position)
 
-pub returns-in_ok-clone-in-Ok : goal.returns-in_ok-clone-in-Ok
-returns-in_ok-clone-in-Ok c =
+pub returns-in_ok-clone-in-Ok-clause-slugs : goal.returns-in_ok-clone-in-Ok-clause-slugs
+returns-in_ok-clone-in-Ok-clause-slugs c =
     let slug = c.args.slug.now in
     let slugs = c.args.slugs.now in
     let there = subst (λ ts. is_in ts slug ≡ true) c.as_slice.ensures (is_in-searched slug c.as_slice.result.now c.in-Ok.field-0 c.in-Ok.ensures.bound c.in-Ok.ensures.ok) in
