@@ -184,23 +184,15 @@ impl Prefs {
         Prefs::of_preferences(alloc, preferences)
     }
 
-    /// The preferences where the user sets this one, or takes its value away. The one error is want of memory.
-    pub fn user_set(&self, name: &Text, value: Option<&Tree>) -> Result<Prefs, AllocError>
-        requires free { holder_of name.now self.now ≡ None }
+    /// The preferences where the user sets this one, or takes its value away. The one error is want of memory. These are lent to
+    /// that, and stay the same: the next list is made in the place of the one that theirs was made of, and only the rows of this
+    /// preference are counted.
+    pub fn user_set(&mut self, name: &Text, value: Option<&Tree>) -> Result<Prefs, AllocError>
+        requires free { holder_of name.now self.old ≡ None }
         requires name { IsTrue (is_name name.now) }
         requires value { MatchOption value ⊤ (λ v. IsValue v.now) }
-        ensures { IfOk result (λ prefs. prefs ≡ set_by_user name.now (option_map (λ v. v.now) value.entry) self.now) }
-    {
-        self.clone()?.with_users_value(name, value)
-    }
-
-    /// These preferences where the user sets this one, or takes its value away. The one error is want of memory. A list that is
-    /// shared is copied, and one that isn't is changed in place; only the rows of this preference are counted.
-    pub fn with_users_value(self, name: &Text, value: Option<&Tree>) -> Result<Prefs, AllocError>
-        requires free { holder_of name.now self ≡ None }
-        requires name { IsTrue (is_name name.now) }
-        requires value { MatchOption value ⊤ (λ v. IsValue v.now) }
-        ensures { IfOk result (λ prefs. prefs ≡ set_by_user name.now (option_map (λ v. v.now) value.entry) self) }
+        ensures same { self.new ≡ self.old }
+        ensures set { IfOk result (λ prefs. prefs ≡ set_by_user name.now (option_map (λ v. v.now) value.entry) self.old) }
     {
         match value {
             Some(value) => self.with_value(name, value),
@@ -209,35 +201,39 @@ impl Prefs {
     }
 
     // The preferences where the user sets this one.
-    fn with_value(self, name: &Text, value: &Tree) -> Result<Prefs, AllocError>
-        requires free { holder_of name.now self ≡ None }
+    fn with_value(&mut self, name: &Text, value: &Tree) -> Result<Prefs, AllocError>
+        requires free { holder_of name.now self.old ≡ None }
         requires name { IsTrue (is_name name.now) }
         requires value { IsValue value.now }
-        ensures { IfOk result (λ prefs. prefs ≡ set_by_user name.now (Some value.now) self) }
+        ensures same { self.new ≡ self.old }
+        ensures set { IfOk result (λ prefs. prefs ≡ set_by_user name.now (Some value.now) self.old) }
     {
         let preference = users_preference(name, value)?;
         let others = self.size_of_others(name.as_str());
         let Some(size) = size_with(others, &preference, MOST_BYTES) else {
             return Err(AllocError);
         };
-        let preferences = with_preference(self.preferences, preference)?;
+        let held = self.held.clone()?;
+        let preferences = with_preference(&mut self.preferences, preference)?;
         Ok(Prefs {
             preferences,
-            held: self.held,
+            held,
             size,
         })
     }
 
     // The preferences where the user takes the value of this one away.
-    fn without_value(self, name: &Text) -> Result<Prefs, AllocError>
-        requires { holder_of name.now self ≡ None }
-        ensures { IfOk result (λ prefs. prefs ≡ set_by_user name.now None self) }
+    fn without_value(&mut self, name: &Text) -> Result<Prefs, AllocError>
+        requires { holder_of name.now self.old ≡ None }
+        ensures same { self.new ≡ self.old }
+        ensures set { IfOk result (λ prefs. prefs ≡ set_by_user name.now None self.old) }
     {
         let size = self.size_of_others(name.as_str());
-        let preferences = without_name(self.preferences, name)?;
+        let held = self.held.clone()?;
+        let preferences = without_name(&mut self.preferences, name)?;
         Ok(Prefs {
             preferences,
-            held: self.held,
+            held,
             size,
         })
     }

@@ -1,6 +1,5 @@
 // What the user sets, and takes away.
-ghost use Rattle.std.specs.Prelude.{◌≡◌, ◌<◌, ◌≤◌, length, slice_set, IfOk, None};
-ghost use Rattle.std.specs.List.{insert, remove};
+ghost use Rattle.std.specs.Prelude.{◌≡◌, IfOk, None};
 ghost use Rattle.enrol_states.specs.Order.{Rise};
 ghost use Rattle.pref_bindings.specs.Changes.{with_preference, without_name};
 ghost use Rattle.pref_bindings.specs.Preferences.{names_of};
@@ -23,72 +22,36 @@ pub(crate) fn users_preference(name: &Text, value: &Tree) -> Result<Preference, 
 
 /// The preferences with this one, in the place of the one of its name.
 pub(crate) fn with_preference(
-    preferences: SharedList<Preference>,
+    preferences: &mut SharedList<Preference>,
     preference: Preference,
 ) -> Result<SharedList<Preference>, AllocError>
-    requires { Rise (names_of preferences) }
-    ensures { IfOk result (λ ps. ps ≡ with_preference preference preferences) }
+    requires { Rise (names_of preferences.old) }
+    ensures same { preferences.new ≡ preferences.old }
+    ensures preferences { IfOk result (λ ps. ps ≡ with_preference preference preferences.old) }
 {
     match preferences
         .as_slice()
         .binary_search_by(|other| other.name.cmp(&preference.name))
     {
-        Ok(place) => with_preference_at(preferences, place, preference),
-        Err(place) => with_preference_before(preferences, place, preference),
+        Ok(place) => preferences.replaced(place, preference),
+        Err(place) => preferences.inserted(place, preference),
     }
-}
-
-// The preferences with this one in the place of another.
-fn with_preference_at(
-    mut preferences: SharedList<Preference>,
-    place: usize,
-    preference: Preference,
-) -> Result<SharedList<Preference>, AllocError>
-    requires { place < length preferences }
-    ensures { IfOk result (λ ps. ps ≡ slice_set preferences place preference) }
-{
-    preferences.replace(place, preference)?;
-    Ok(preferences)
-}
-
-// The preferences with this one before another.
-fn with_preference_before(
-    mut preferences: SharedList<Preference>,
-    place: usize,
-    preference: Preference,
-) -> Result<SharedList<Preference>, AllocError>
-    requires { place ≤ length preferences }
-    ensures { IfOk result (λ ps. ps ≡ insert preferences place preference) }
-{
-    preferences.insert(place, preference)?;
-    Ok(preferences)
 }
 
 /// The preferences without the one of a name.
 pub(crate) fn without_name(
-    preferences: SharedList<Preference>,
+    preferences: &mut SharedList<Preference>,
     name: &Text,
 ) -> Result<SharedList<Preference>, AllocError>
-    requires { Rise (names_of preferences) }
-    ensures { IfOk result (λ ps. ps ≡ without_name name.now preferences) }
+    requires { Rise (names_of preferences.old) }
+    ensures same { preferences.new ≡ preferences.old }
+    ensures preferences { IfOk result (λ ps. ps ≡ without_name name.now preferences.old) }
 {
     match preferences
         .as_slice()
         .binary_search_by(|other| other.name.cmp(name))
     {
-        Ok(place) => without_place(preferences, place),
-        Err(_) => Ok(preferences),
+        Ok(place) => preferences.removed(place),
+        Err(_) => preferences.clone(),
     }
-}
-
-// The preferences without the one at a place.
-fn without_place(
-    mut preferences: SharedList<Preference>,
-    place: usize,
-) -> Result<SharedList<Preference>, AllocError>
-    requires { place < length preferences }
-    ensures { IfOk result (λ ps. ps ≡ remove preferences place) }
-{
-    preferences.remove(place)?;
-    Ok(preferences)
 }

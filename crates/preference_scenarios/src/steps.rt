@@ -93,7 +93,7 @@ fn do_step(alloc: Global, prefs: &mut Prefs, step: &str) -> Result<(), Fault> {
     Ok(())
 }
 
-fn after_step(alloc: Global, prefs: &Prefs, step: &str) -> Result<Prefs, Fault> {
+fn after_step(alloc: Global, prefs: &mut Prefs, step: &str) -> Result<Prefs, Fault> {
     let (kind, rest) = cut(step);
     let (first, second) = cut(rest);
     match kind {
@@ -105,19 +105,19 @@ fn after_step(alloc: Global, prefs: &Prefs, step: &str) -> Result<Prefs, Fault> 
     }
 }
 
-fn after_set(alloc: Global, prefs: &Prefs, text: &str, spelled: &str) -> Result<Prefs, Fault> {
+fn after_set(alloc: Global, prefs: &mut Prefs, text: &str, spelled: &str) -> Result<Prefs, Fault> {
     let value = value(alloc, spelled)?;
     with_value(alloc, prefs, text, Some(&value))
 }
 
-fn after_clear(alloc: Global, prefs: &Prefs, text: &str) -> Result<Prefs, Fault> {
+fn after_clear(alloc: Global, prefs: &mut Prefs, text: &str) -> Result<Prefs, Fault> {
     with_value(alloc, prefs, text, None)
 }
 
 // The preferences where the user has given a preference this value, or none.
 fn with_value(
     alloc: Global,
-    prefs: &Prefs,
+    prefs: &mut Prefs,
     text: &str,
     value: Option<&Tree>,
 ) -> Result<Prefs, Fault>

@@ -13,17 +13,17 @@ pub invariant_of-result : goal.invariant_of-result
 invariant_of-result c =
     let ps = c.self.inside.preferences in
     let q = c.in_ok-preference.preference in
-    let seen : c.args.self ≡ ps = search rules in
+    let seen : c.args.self.now ≡ ps = search rules in
     let key : q.name ≡ c.args.name.now = ap (λ (p : Preference). p.name) c.in_ok-preference.ensures in
     let others : c.size_of_others-others.result ≡ length (puts_text (rows_of (without_name q.name ps))) =
-    c.size_of_others-others.ensures.size ∙ ap (λ t. length (puts_text (rows_of (without_name t c.args.self)))) (c.as_str.ensures.text ∙ sym key) ∙ ap (λ qs. length (puts_text (rows_of (without_name q.name qs)))) seen in
+    c.size_of_others-others.ensures.size ∙ ap (λ t. length (puts_text (rows_of (without_name t c.args.self.now)))) (c.as_str.ensures.text ∙ sym key) ∙ ap (λ qs. length (puts_text (rows_of (without_name q.name qs)))) seen in
     record {
       sized = record {
-        sound = with_given c.args.name.now c.args.value.now q ps c.in_ok-preferences.preferences c.in_ok-preference.ensures c.requires.name c.requires.value c.self.invariant.sized.sound c.in_ok-preferences.ensures;
-        size = omega (arith, c.in-Some.ensures.some, others, with_rows q ps, ap (λ qs. length (puts_text (rows_of qs))) c.in_ok-preferences.ensures);
+        sound = with_given c.args.name.now c.args.value.now q ps c.in_ok-preferences.preferences c.in_ok-preference.ensures c.requires.name c.requires.value c.self.invariant.sized.sound c.in_ok-preferences.ensures.preferences;
+        size = omega (arith, c.in-Some.ensures.some, others, with_rows q ps, ap (λ qs. length (puts_text (rows_of qs))) c.in_ok-preferences.ensures.preferences);
         bound = c.in-Some.ensures.within;
       };
       same =
-          held_with_given c.args.name.now c.args.value.now q ps c.self.inside.held c.in_ok-preferences.preferences c.in_ok-preference.ensures (sym (ap (holder_of c.args.name.now) seen) ∙ c.requires.free) c.self.invariant.same
-          c.in_ok-preferences.ensures;
+          c.in_ok-held.ensures.cases ∙ held_with_given c.args.name.now c.args.value.now q ps c.self.inside.held c.in_ok-preferences.preferences c.in_ok-preference.ensures (sym (ap (holder_of c.args.name.now) seen) ∙ c.requires.free) c.self.invariant.same
+          c.in_ok-preferences.ensures.preferences;
     }

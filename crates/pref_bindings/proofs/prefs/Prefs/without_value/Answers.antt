@@ -10,14 +10,14 @@ use Rattle.pref_bindings.proofs.prefs.Prefs.without_value.Goals as goal
 pub invariant_of-result : goal.invariant_of-result
 invariant_of-result c =
     let ps = c.self.inside.preferences in
-    let seen : c.args.self ≡ ps = search rules in
+    let seen : c.args.self.now ≡ ps = search rules in
     record {
       sized = record {
-        sound = without_given c.args.name.now ps c.in_ok-preferences.preferences c.self.invariant.sized.sound c.in_ok-preferences.ensures;
+        sound = without_given c.args.name.now ps c.in_ok-preferences.preferences c.self.invariant.sized.sound c.in_ok-preferences.ensures.preferences;
         size =
-            c.size_of_others-size.ensures.size ∙ ap (λ t. length (puts_text (rows_of (without_name t c.args.self)))) c.as_str.ensures.text ∙ ap (λ qs. length (puts_text (rows_of (without_name c.args.name.now qs)))) seen
-            ∙ sym (ap (λ qs. length (puts_text (rows_of qs))) c.in_ok-preferences.ensures);
+            c.size_of_others-size.ensures.size ∙ ap (λ t. length (puts_text (rows_of (without_name t c.args.self.now)))) c.as_str.ensures.text ∙ ap (λ qs. length (puts_text (rows_of (without_name c.args.name.now qs)))) seen
+            ∙ sym (ap (λ qs. length (puts_text (rows_of qs))) c.in_ok-preferences.ensures.preferences);
         bound = c.size_of_others-size.ensures.bound;
       };
-      same = held_without_given c.args.name.now ps c.self.inside.held c.in_ok-preferences.preferences (sym (ap (holder_of c.args.name.now) seen) ∙ c.requires) c.self.invariant.same c.in_ok-preferences.ensures;
+      same = c.in_ok-held.ensures.cases ∙ held_without_given c.args.name.now ps c.self.inside.held c.in_ok-preferences.preferences (sym (ap (holder_of c.args.name.now) seen) ∙ c.requires) c.self.invariant.same c.in_ok-preferences.ensures.preferences;
     }
