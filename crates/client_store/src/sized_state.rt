@@ -1,7 +1,10 @@
 // A state that may be stored, with the size of its encoding.
-ghost use Rattle.std.specs.Prelude.{◌≡◌, ◌≤◌, ◌+◌, false, IfOk, IsErrOf, IsTrue, length, option_map};
+ghost use Rattle.std.specs.Prelude.{◌≡◌, ◌≤◌, ◌+◌, false, IfOk, IsErrOf, IsTrue, length, option_map, ⊤, MatchOption, None};
+ghost use Rattle.std.specs.Fn.{FnOnceReturnsAtMut, FnOnceTakesAtMut};
+ghost use Rattle.plain_text.specs.Names.{is_name};
+ghost use Rattle.pref_bindings.specs.Preferences.{IsValue, holder_of};
 ghost use Rattle.row_batches.specs.Batch.{applied, batch_text, whole_of};
-ghost use Rattle.client_state.specs.Changes.{state_after, HasHoldersOfBefore, IsChangeOf, IsWholeChangeOf};
+ghost use Rattle.client_state.specs.Changes.{state_after, with_users_value, HasHoldersOfBefore, IsChangeOf, IsWholeChangeOf};
 ghost use Rattle.client_state.specs.Following.{followed, spends};
 ghost use Rattle.client_state.specs.Sound.{IsSound};
 ghost use Rattle.client_state.specs.Encoding.{rows_of, encoding};
@@ -9,11 +12,14 @@ ghost use Rattle.client_store.specs.Places.{row_changes};
 
 use change_outbox::AppendChangesFault;
 use client_state::{
-    ClientSizes, ClientState, StateChange, changes_to, follow, sizes_after, sizes_of,
+    ClientSizes, ClientState, StateChange, changes_to, follow, set_preference, sizes_after,
+    sizes_of,
 };
 use fml_types::Manifest;
+use json_tree::Tree;
 use pref_bindings::Bindings;
 use row_batches::Batch;
+use sequences::Text;
 use state_codec::MAX_STATE_BYTES;
 use std::alloc::{AllocError, Global};
 use std::marker::Model;
@@ -64,6 +70,16 @@ impl SizedState {
         &self.state
     }
 
+    /// What a function makes of the state. The state is lent to it, and stays the same.
+    pub(crate) fn lend<T, F: FnOnce(&mut ClientState) -> T>(&mut self, function: F) -> T
+        requires callable { FnOnceTakesAtMut F.FnOnce function self.old }
+        requires same { (made : T) (left : _) → FnOnceReturnsAtMut F.FnOnce function self.old made left → left ≡ self.old }
+        ensures same { self.new ≡ self.old }
+        ensures made { FnOnceReturnsAtMut F.FnOnce function self.old result self.old }
+    {
+        function(&mut self.state)
+    }
+
     /// The change with what follows it. The state is lent to that, and stays the same.
     pub(crate) fn follow(
         &mut self,
@@ -81,6 +97,25 @@ impl SizedState {
         ensures spent { IsErrOf result AppendChangesFault.ChangesSpent → IsTrue (spends change self.old) }
     {
         follow(alloc, &mut self.state, change, manifest, bindings)
+    }
+
+    /// The change after which the user has set the value of a preference too, or taken it away. The state is lent to that, and stays
+    /// the same.
+    pub(crate) fn set_preference(
+        &mut self,
+        change: StateChange,
+        name: &Text,
+        value: Option<&Tree>,
+    ) -> Result<StateChange, AllocError>
+        requires change { IsWholeChangeOf self.old change }
+        requires free { holder_of name.now (state_after change self.old).preferences ≡ None }
+        requires name { IsTrue (is_name name.now) }
+        requires value { MatchOption value ⊤ (λ v. IsValue v.now) }
+        ensures same { self.new ≡ self.old }
+        ensures set { IfOk result (λ next. state_after next self.old ≡ with_users_value name.now (option_map (λ v. v.now) value.entry) (state_after change self.old)) }
+        ensures change { IfOk result (IsWholeChangeOf self.old) }
+    {
+        set_preference(&mut self.state, change, name, value)
     }
 
     /// The state after a change, or else how many bytes its encoding has, which are too many.

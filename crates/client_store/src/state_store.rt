@@ -1,5 +1,8 @@
 // A state and the store that holds it.
-ghost use Rattle.std.specs.Prelude.{◌≡◌, false, IfOk, IsErrOf, IsTrue, OnOk, OnErr, option_map};
+ghost use Rattle.std.specs.Prelude.{◌≡◌, false, IfOk, IsErrOf, IsTrue, OnOk, OnErr, option_map, ⊤, MatchOption, None};
+ghost use Rattle.std.specs.Fn.{FnOnceReturnsAtMut, FnOnceTakesAtMut};
+ghost use Rattle.plain_text.specs.Names.{is_name};
+ghost use Rattle.pref_bindings.specs.Preferences.{IsValue, holder_of};
 ghost use Rattle.gate_journal.specs.Costs.{HasCost};
 ghost use Rattle.host_model.specs.Causes.{HasCause};
 ghost use Rattle.host_model.specs.Hosts.{MeetsAll};
@@ -8,7 +11,7 @@ ghost use Rattle.row_store.specs.Moments.{KeepsEitherRows};
 ghost use Rattle.row_store.specs.Ready.{commit_cost, place_after};
 ghost use Rattle.row_store.specs.Store.{RowsStand, RowsStandWithGate, place};
 ghost use Rattle.client_state.specs.Changes as changes;
-ghost use Rattle.client_state.specs.Changes.{state_after, HasHoldersOfBefore, IsWholeChangeOf};
+ghost use Rattle.client_state.specs.Changes.{state_after, with_users_value, HasHoldersOfBefore, IsWholeChangeOf};
 ghost use Rattle.client_state.specs.Following.{followed, spends};
 ghost use Rattle.client_state.specs.Encoding.{rows_of};
 ghost use Rattle.client_store.specs.Sized.{IsSized};
@@ -19,8 +22,10 @@ use change_outbox::AppendChangesFault;
 use client_state::{ClientState, StateChange};
 use fml_types::Manifest;
 use host_model::{DiskFailed, Host};
+use json_tree::Tree;
 use pref_bindings::Bindings;
 use row_store::RowStore;
+use sequences::Text;
 use std::alloc::{AllocError, Global};
 use std::marker::Model;
 
@@ -68,6 +73,16 @@ impl StateStore {
         self.state.state()
     }
 
+    /// What a function makes of the state. The state is lent to it, and stays the same.
+    pub fn lend<T, F: FnOnce(&mut ClientState) -> T>(&mut self, function: F) -> T
+        requires callable { FnOnceTakesAtMut F.FnOnce function self.old.state }
+        requires same { (made : T) (left : _) → FnOnceReturnsAtMut F.FnOnce function self.old.state made left → left ≡ self.old.state }
+        ensures same { self.new ≡ self.old }
+        ensures made { FnOnceReturnsAtMut F.FnOnce function self.old.state result self.old.state }
+    {
+        self.state.lend(function)
+    }
+
     /// The change with what follows it. The state is lent to that, and stays the same.
     pub fn follow(
         &mut self,
@@ -85,6 +100,25 @@ impl StateStore {
         ensures spent { IsErrOf result AppendChangesFault.ChangesSpent → IsTrue (spends change self.old.state) }
     {
         self.state.follow(alloc, change, manifest, bindings)
+    }
+
+    /// The change after which the user has set the value of a preference too, or taken it away. The state is lent to that, and stays
+    /// the same.
+    pub fn set_preference(
+        &mut self,
+        change: StateChange,
+        name: &Text,
+        value: Option<&Tree>,
+    ) -> Result<StateChange, AllocError>
+        requires change { IsWholeChangeOf self.old.state change }
+        requires free { holder_of name.now (state_after change self.old.state).preferences ≡ None }
+        requires name { IsTrue (is_name name.now) }
+        requires value { MatchOption value ⊤ (λ v. IsValue v.now) }
+        ensures same { self.new ≡ self.old }
+        ensures set { IfOk result (λ next. state_after next self.old.state ≡ with_users_value name.now (option_map (λ v. v.now) value.entry) (state_after change self.old.state)) }
+        ensures change { IfOk result (IsWholeChangeOf self.old.state) }
+    {
+        self.state.set_preference(change, name, value)
     }
 
     /// The state after a change, or else how many bytes its encoding has, which are too many.
