@@ -2,6 +2,7 @@
 //! answered. The store holds the rows of the state, and a command writes the rows that it changes.
 #![tactic(auto)]
 
+mod choosing;
 mod client;
 mod making;
 mod opening;

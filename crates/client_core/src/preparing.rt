@@ -21,8 +21,8 @@ use change_outbox::AppendChangesFault;
 use client_state::StateChange;
 use client_steps::{
     Asked, SessionChange, StepFault, applying, confirming, counting, fetching, listing_changes,
-    listing_preferences, opting_in, opting_out, participating, reading_bindings, reading_context,
-    resetting, serving, setting_manifest, showing, writing_manifest,
+    listing_preferences, participating, reading_bindings, reading_context, resetting, serving,
+    setting_manifest, showing, writing_manifest,
 };
 use client_words::{Answer, Command};
 use host_model::Shelf;
@@ -128,8 +128,8 @@ impl Client {
         match command {
             Command::Apply => applying(alloc, self.state(), &self.session, table, now),
             Command::Participate { kinds, on } => participating(alloc, self.state(), *kinds, *on),
-            Command::OptOut { slug } => opting_out(alloc, self.state(), slug),
-            Command::OptIn { slug, branch } => opting_in(alloc, self.state(), slug, branch),
+            Command::OptOut { slug } => self.opting_out(alloc, slug),
+            Command::OptIn { slug, branch } => self.opting_in(alloc, slug, branch),
             Command::Reset { id } => resetting(alloc, self.state(), *id),
             Command::Show => showing(self.state()),
             Command::Feature { name } => serving(alloc, self.state(), &self.session, name),

@@ -9,7 +9,7 @@ ghost use Rattle.client_steps.specs.Steps.{Accepted, Refused, preferring, releas
 
 use crate::client::Client;
 use change_outbox::AppendChangesFault;
-use client_state::{StateChange, end_enrolment, set_preference};
+use client_state::{StateChange, end_enrolment};
 use client_steps::Asked;
 use client_words::Answer;
 use json_tree::Tree;
@@ -36,7 +36,7 @@ impl Client {
     {
         match self.released(alloc, name) {
             Ok(change) => {
-                let change = set_preference(self.state(), change, name, value)?;
+                let change = self.store.set_preference(change, name, value)?;
                 Ok(Asked::Followed {
                     change,
                     answer: Answer::Okay,

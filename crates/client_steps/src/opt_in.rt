@@ -13,23 +13,22 @@ use enrol_states::{OptInFault, opt_in};
 use plain_text::Slug;
 use std::alloc::{AllocError, Global};
 
-/// What `opt-in` asks for.
+/// What `opt-in` asks for. The state is lent to that, and stays the same.
 pub fn opting_in(
     alloc: Global,
-    state: &ClientState,
+    state: &mut ClientState,
     slug: &Slug,
     branch: &Slug,
 ) -> Result<Asked, AllocError>
-    requires { IsConsistent state.now }
-    ensures asks { IfOk result (λ asked. (session : Session) → asked_outcome state.now session asked
-        ≡ enrolling state.now session (opting_in state.now.enrolment session slug.now branch.now)) }
-    ensures follows { IfOk result (λ asked. FollowsFrom state.now asked) }
+    requires { IsConsistent state.old }
+    ensures same { state.new ≡ state.old }
+    ensures asks { IfOk result (λ asked. (session : Session) → asked_outcome state.old session asked
+        ≡ enrolling state.old session (opting_in state.old.enrolment session slug.now branch.now)) }
+    ensures follows { IfOk result (λ asked. FollowsFrom state.old asked) }
 {
-    match opt_in(alloc, &state.enrolment, slug, branch) {
-        Ok(next) => {
-            let lists = opted_in_lists(&state.enrolment, slug);
-            Ok(Asked::enrolled(next, lists, Answer::Okay))
-        }
+    let lists = opted_in_lists(&state.enrolment, slug);
+    match opt_in(alloc, &mut state.enrolment, slug, branch) {
+        Ok(next) => Ok(Asked::enrolled(next, lists, Answer::Okay)),
         Err(OptInFault::NoSuchExperiment) => Ok(Asked::Refused(Answer::NoSuchExperiment)),
         Err(OptInFault::NotParticipating) => Ok(Asked::Refused(Answer::NotParticipating)),
         Err(OptInFault::NoSuchBranch) => Ok(Asked::Refused(Answer::NoSuchBranch)),

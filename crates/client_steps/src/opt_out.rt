@@ -13,18 +13,17 @@ use enrol_states::{OptOutFault, opt_out};
 use plain_text::Slug;
 use std::alloc::{AllocError, Global};
 
-/// What `opt-out` asks for.
-pub fn opting_out(alloc: Global, state: &ClientState, slug: &Slug) -> Result<Asked, AllocError>
-    requires { IsConsistent state.now }
-    ensures asks { IfOk result (λ asked. (session : Session) → asked_outcome state.now session asked
-        ≡ enrolling state.now session (opting_out state.now.enrolment session slug.now)) }
-    ensures follows { IfOk result (λ asked. FollowsFrom state.now asked) }
+/// What `opt-out` asks for. The state is lent to that, and stays the same.
+pub fn opting_out(alloc: Global, state: &mut ClientState, slug: &Slug) -> Result<Asked, AllocError>
+    requires { IsConsistent state.old }
+    ensures same { state.new ≡ state.old }
+    ensures asks { IfOk result (λ asked. (session : Session) → asked_outcome state.old session asked
+        ≡ enrolling state.old session (opting_out state.old.enrolment session slug.now)) }
+    ensures follows { IfOk result (λ asked. FollowsFrom state.old asked) }
 {
-    match opt_out(alloc, &state.enrolment, slug) {
-        Ok(next) => {
-            let lists = opted_out_lists(&state.enrolment, slug);
-            Ok(Asked::enrolled(next, lists, Answer::Okay))
-        }
+    let lists = opted_out_lists(&state.enrolment, slug);
+    match opt_out(alloc, &mut state.enrolment, slug) {
+        Ok(next) => Ok(Asked::enrolled(next, lists, Answer::Okay)),
         Err(OptOutFault::OptedOutLimit) => Ok(Asked::Refused(Answer::OptedOutLimit)),
         Err(OptOutFault::OutOfMemory) => Err(AllocError),
     }

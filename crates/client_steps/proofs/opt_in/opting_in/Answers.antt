@@ -23,8 +23,8 @@ returns-in-Err-FeatureTaken-clause-asks c session =
     let slug = c.args.slug.now in
     let branch = c.args.branch.now in
     let found = subst (λ (fault : OptInFault). OptsIn s.enrolment slug branch (Err fault)) c.in-Err-FeatureTaken.field-0-is c.in-Err-FeatureTaken.ensures.answer in
-    ap (enrolling s session) (refused_for s.enrolment session slug branch found.0 found.1 c.in-Err-FeatureTaken.holder c.in-Err-FeatureTaken.feature
-    c.requires.enrolment.row_order found.2)
+    rw c.in-Err-FeatureTaken.field-0-is (ap (enrolling s session) (refused_for s.enrolment session slug branch found.0 found.1 c.in-Err-FeatureTaken.holder c.in-Err-FeatureTaken.feature
+    c.requires.enrolment.row_order found.2))
 
 pub returns-in-Ok-clause-follows : goal.returns-in-Ok-clause-follows
 returns-in-Ok-clause-follows c =
