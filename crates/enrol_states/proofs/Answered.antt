@@ -1,14 +1,22 @@
 -- What a call answered, said in other words.
-use Rattle.std.proofs.Common.{◌≡◌, ℕ, true, List, get_or, Result, Ok, Err, sym, ap, ◌∙◌}
+use Rattle.std.proofs.Common.{◌≡◌, ℕ, true, List, get_or, Result, Ok, Err, sym, ap, ◌∙◌, subst}
 use Rattle.std.specs.Prelude.{IfOk, MatchResult, slice_set}
 use Rattle.std.proofs.lemmas.List.{set-get_or}
+use Rattle.enrol_states.specs.Consistent.{IsConsistent}
 use Rattle.enrol_states.specs.Equal.{row_eq}
 use Rattle.enrol_states.specs.Equals.{row_Decides}
+use Rattle.enrol_states.specs.declared.next_list.NextList.{NextList}
+use Rattle.enrol_states.specs.declared.next_state.NextState.{NextState}
 use Rattle.enrol_states.specs.declared.state.Row.{Row}
+use Rattle.enrol_states.specs.declared.state.State.{State}
 
-pub if_ok : {T E : Type 0} (r : Result T E) (a b : T) → a ≡ b → IfOk r (λ t. t ≡ a) → IfOk r (λ t. t ≡ b)
-if_ok (Ok t) a b e h = h ∙ e
-if_ok (Err x) a b e h = tt
+pub if_listed : {A E : Type 0} (r : Result (NextList A) E) (xs ys : List A) → xs ≡ ys → IfOk r (λ next. next.list ≡ xs) → IfOk r (λ next. next.list ≡ ys)
+if_listed (Ok next) xs ys e h = h ∙ e
+if_listed (Err x) xs ys e h = tt
+
+pub if_consistent : {E : Type 0} (r : Result NextState E) (s t : State) → s ≡ t → IsConsistent t → IfOk r (λ next. next.state ≡ s) → IfOk r (λ next. IsConsistent next.state)
+if_consistent (Ok next) s t e c h = subst IsConsistent (sym (h ∙ e)) c
+if_consistent (Err x) s t e c h = tt
 
 pub if_matched : {T E : Type 0} (r : Result T E) (a b : T) (Q : E → Type 0) → a ≡ b → MatchResult r (λ t. t ≡ a) Q → IfOk r (λ t. t ≡ b)
 if_matched (Ok t) a b Q e h = h ∙ e

@@ -1,4 +1,5 @@
 pub mod Fresh
+pub mod ListParts
 pub mod Ordered
 pub mod Lookups
 pub mod OptingOut

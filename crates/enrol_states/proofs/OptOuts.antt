@@ -10,7 +10,7 @@ use Rattle.recipe_reader.specs.Payloads.{slug_cmp, has_slug}
 use Rattle.enrol_states.specs.Order.{Rise, AreAbove, is_in}
 use Rattle.enrol_states.specs.Statuses.{IsSlug, IsStatus}
 use Rattle.enrol_states.specs.Consistent.{HasRecipe, HasBranch, IsNotOptedOut, IsParticipating, IsConsistent}
-use Rattle.enrol_states.specs.Commands.{opted_out_of, after_opt_out}
+use Rattle.enrol_states.specs.Commands.{opted_out_of, enrolment_ended, after_opt_out}
 use Rattle.enrol_states.specs.Choices.{has_no_room}
 use Rattle.enrol_states.specs.declared.state.State.{State}
 use Rattle.enrol_states.proofs.Ordered.{above_trans, is_in-above, lesser_texts, turned_down, bytes_turned}
@@ -96,8 +96,33 @@ full s ts other most = ap (λ b. not b && nat_le 4096 (length ts)) other ∙ le-
 
 -- ---- the state
 
+-- the enrolment of a slug ends
+pub ended_is_consistent : (s : State) (slug : List ℕ) → IsConsistent s → IsConsistent (enrolment_ended slug s)
+ended_is_consistent s slug c = let t = enrolment_ended slug s in record {
+  id = c.id;
+  installed = c.installed;
+  updated = c.updated;
+  version = c.version;
+  opted_out_slugs = c.opted_out_slugs;
+  opted_out_order = c.opted_out_order;
+  opted_out_limit = c.opted_out_limit;
+  coenrolling_names = c.coenrolling_names;
+  coenrolling_order = c.coenrolling_order;
+  live = c.live;
+  pending = c.pending;
+  row_slugs = All-image (λ row. IsSlug row.slug) (λ row. IsSlug row.slug) (opted_out_of slug) s.rows (λ row h. either (λ r. IsSlug r.slug) slug row h (λ other. h)) c.row_slugs;
+  row_order = subst Rise (sym (slugs-image (opted_out_of slug) s.rows (λ row. either (λ r. r.slug ≡ row.slug) slug row refl (λ other. refl)))) c.row_order;
+  row_statuses = All-image (λ row. IsStatus row.status) (λ row. IsStatus row.status) (opted_out_of slug) s.rows (λ row h. either (λ r. IsStatus r.status) slug row (IsStatus-opted_out row.status h) (λ other. h)) c.row_statuses;
+  row_recipes = All-image (HasRecipe s) (HasRecipe t) (opted_out_of slug) s.rows (λ row h. either (HasRecipe t) slug row (ap (λ b. b || has_slug row.slug s.live) (was_enrolled-opted_out row.status) ∙ h) (λ other. h)) c.row_recipes;
+  row_branches = All-image (HasBranch s) (HasBranch t) (opted_out_of slug) s.rows (λ row h. either (HasBranch t) slug row (λ branch there. no_branch row branch there) (λ other. h)) c.row_branches;
+  row_choices = All-image (IsNotOptedOut s) (IsNotOptedOut t) (opted_out_of slug) s.rows (λ row h. either (IsNotOptedOut t) slug row (λ enrolled. not_enrolled row enrolled) (λ other. h)) c.row_choices;
+  row_participation = All-image (IsParticipating s) (IsParticipating t) (opted_out_of slug) s.rows (λ row h. either (IsParticipating t) slug row (λ enrolled. not_enrolled row enrolled) (λ other. h)) c.row_participation;
+  exclusive = exclusion.opt_out s slug c.exclusive;
+}
+
+-- and the slug is opted out
 pub consistent : (s : State) (slug : List ℕ) → IsSlug slug → has_no_room s.opted_out slug ≡ false → IsConsistent s → IsConsistent (after_opt_out s slug)
-consistent s slug is_slug free c = let t = after_opt_out s slug in record {
+consistent s slug is_slug free c = let t = after_opt_out s slug in let ended = ended_is_consistent s slug c in record {
   id = c.id;
   installed = c.installed;
   updated = c.updated;
@@ -109,13 +134,13 @@ consistent s slug is_slug free c = let t = after_opt_out s slug in record {
   coenrolling_order = c.coenrolling_order;
   live = c.live;
   pending = c.pending;
-  row_slugs = All-image (λ row. IsSlug row.slug) (λ row. IsSlug row.slug) (opted_out_of slug) s.rows (λ row h. either (λ r. IsSlug r.slug) slug row h (λ other. h)) c.row_slugs;
-  row_order = subst Rise (sym (slugs-image (opted_out_of slug) s.rows (λ row. either (λ r. r.slug ≡ row.slug) slug row refl (λ other. refl)))) c.row_order;
-  row_statuses = All-image (λ row. IsStatus row.status) (λ row. IsStatus row.status) (opted_out_of slug) s.rows (λ row h. either (λ r. IsStatus r.status) slug row (IsStatus-opted_out row.status h) (λ other. h)) c.row_statuses;
-  row_recipes = All-image (HasRecipe s) (HasRecipe t) (opted_out_of slug) s.rows (λ row h. either (HasRecipe t) slug row (ap (λ b. b || has_slug row.slug s.live) (was_enrolled-opted_out row.status) ∙ h) (λ other. h)) c.row_recipes;
-  row_branches = All-image (HasBranch s) (HasBranch t) (opted_out_of slug) s.rows (λ row h. either (HasBranch t) slug row (λ branch there. no_branch row branch there) (λ other. h)) c.row_branches;
+  row_slugs = ended.row_slugs;
+  row_order = ended.row_order;
+  row_statuses = ended.row_statuses;
+  row_recipes = ended.row_recipes;
+  row_branches = ended.row_branches;
   row_choices = All-image (IsNotOptedOut s) (IsNotOptedOut t) (opted_out_of slug) s.rows
       (λ row h. either (IsNotOptedOut t) slug row (λ enrolled. not_enrolled row enrolled) (λ other enrolled. is_in-insert slug row.slug s.opted_out (bytes_turned slug row.slug ∙ other) ∙ h enrolled)) c.row_choices;
-  row_participation = All-image (IsParticipating s) (IsParticipating t) (opted_out_of slug) s.rows (λ row h. either (IsParticipating t) slug row (λ enrolled. not_enrolled row enrolled) (λ other. h)) c.row_participation;
-  exclusive = exclusion.opt_out s slug c.exclusive;
+  row_participation = ended.row_participation;
+  exclusive = ended.exclusive;
 }

@@ -15,6 +15,7 @@ use Rattle.enrol_states.specs.declared.choices.OptOutFault.{OptOutFault}
 use Rattle.enrol_states.specs.declared.choices.OptOutFault.TheVariants as out_faults
 use Rattle.enrol_states.specs.declared.choices.OptInFault.{OptInFault}
 use Rattle.enrol_states.specs.declared.choices.OptInFault.TheVariants as in_faults
+use Rattle.enrol_states.specs.declared.next_state.NextState.{NextState}
 
 -- ---- opt-outs
 
@@ -23,8 +24,8 @@ abbrev pub has_no_room : List (List ℕ) → List ℕ → Bool
 has_no_room slugs slug = not (is_in slugs slug) && nat_le 4096 (length slugs)
 
 -- what an opt-out answers; want of memory is the one free answer
-abbrev pub OptsOut : State → List ℕ → Result State OptOutFault → Type 0
-OptsOut s slug (Ok t) = (has_no_room s.opted_out slug ≡ false) × (t ≡ after_opt_out s slug)
+abbrev pub OptsOut : State → List ℕ → Result NextState OptOutFault → Type 0
+OptsOut s slug (Ok next) = (has_no_room s.opted_out slug ≡ false) × (next.state ≡ after_opt_out s slug)
 OptsOut s slug (Err out_faults.OptedOutLimit) = IsTrue (has_no_room s.opted_out slug)
 OptsOut s slug (Err out_faults.OutOfMemory) = ⊤
 
@@ -46,8 +47,8 @@ pub record IsTaken (s : State) (r : Recipe) (holder feature : List ℕ) : Type 0
   pub least_feature : (f : List ℕ) → IsTrue (takes s r row f) → IsTrue (is_le (slug_cmp feature f))
 
 -- what an opt-in answers; want of memory is the one free answer
-abbrev pub OptsIn : State → List ℕ → List ℕ → Result State OptInFault → Type 0
-OptsIn s slug branch (Ok t) = (r : Recipe) × MayChoose s slug branch r × IsFree s r × (t ≡ after_opt_in s slug branch)
+abbrev pub OptsIn : State → List ℕ → List ℕ → Result NextState OptInFault → Type 0
+OptsIn s slug branch (Ok next) = (r : Recipe) × MayChoose s slug branch r × IsFree s r × (next.state ≡ after_opt_in s slug branch)
 OptsIn s slug branch (Err in_faults.NoSuchExperiment) = recipe_with slug s.live ≡ None
 OptsIn s slug branch (Err in_faults.NotParticipating) = (r : Recipe) × (recipe_with slug s.live ≡ Some r) × (takes_part s (kind_of r) ≡ false)
 OptsIn s slug branch (Err in_faults.NoSuchBranch) = (r : Recipe) × (recipe_with slug s.live ≡ Some r) × IsTrue (takes_part s (kind_of r)) × (has_branch r branch ≡ false)

@@ -60,6 +60,10 @@ after_participate s kinds on =
 abbrev pub opted_out_of : List ℕ → Row → Row
 opted_out_of slug row = if bytes_eq row.slug slug then row_opted_out row else row
 
+-- the client takes part in the slug's recipe no more: its enrolment ends as an opt-out. The slug isn't opted out
+abbrev pub enrolment_ended : List ℕ → State → State
+enrolment_ended slug s = record s { rows = map (opted_out_of slug) s.rows }
+
 -- the slug is opted out, and the client is enrolled in its recipe no more
 abbrev pub after_opt_out : State → List ℕ → State
 after_opt_out s slug = record s { opted_out = insert_key slug_cmp s.opted_out slug; rows = map (opted_out_of slug) s.rows }

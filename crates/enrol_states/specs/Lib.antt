@@ -11,6 +11,7 @@ pub mod Holding
 pub mod Equal
 pub mod Equals
 pub mod Commands
+pub mod NextStates
 pub mod Choices
 pub mod Joining
 pub mod Least

@@ -4,12 +4,14 @@ ghost use Rattle.std.specs.Prelude.{◌≡◌, IfOk};
 ghost use Rattle.enrol_states.specs.Consistent.{IsConsistent};
 ghost use Rattle.enrol_states.specs.Commands.{after_reset};
 ghost use Rattle.enrol_states.specs.Choices.{OptsOut, OptsIn};
+ghost use Rattle.enrol_states.specs.NextStates.{HasParts};
 ghost use Rattle.enrol_states.specs.declared.choices.OptOutFault.TheVariants as out_faults;
 ghost use Rattle.enrol_states.specs.declared.choices.OptInFault.TheVariants as in_faults;
 
 use crate::enrolling::enrolled;
 use crate::features::taken;
 use crate::joining::{rows_opted_out_of, with_slug};
+use crate::next_state::NextState;
 use crate::state::{State, id_fits, slug_fits};
 use plain_text::Slug;
 use sequences::{SharedList, Text};
@@ -56,19 +58,20 @@ impl From<AllocError> for OptInFault {
 }
 
 /// The state in which the slug is opted out, whether or not it has a recipe. An enrolment of it
-/// ends, and where the client never took part, the opt-out is the reason. Lists that stay as they
-/// are are shared, and the others are made in the place of those that these were made of. The state is lent to that, and stays the
-/// same.
-pub fn opt_out(alloc: Global, state: &mut State, slug: &Slug) -> Result<State, OptOutFault>
+/// ends, and where the client never took part, the opt-out is the reason. The parts of the opt-outs and of the rows are the place of
+/// the slug. Lists that stay as they are are shared, and the others are made in the place of those that these were made of. The
+/// state is lent to that, and stays the same.
+pub fn opt_out(alloc: Global, state: &mut State, slug: &Slug) -> Result<NextState, OptOutFault>
     requires { IsConsistent state.old }
     ensures same { state.new ≡ state.old }
     ensures answer { OptsOut state.old slug.now result }
-    ensures consistent { IfOk result IsConsistent }
+    ensures parts { IfOk result (HasParts state.old) }
+    ensures consistent { IfOk result (λ next. IsConsistent next.state) }
 {
     slug_fits(slug);
     let opted_out = with_slug(&mut state.opted_out, slug)?;
     let rows = rows_opted_out_of(&mut state.rows, slug)?;
-    Ok(state.with_rows(opted_out, rows)?)
+    Ok(state.with_next(opted_out, rows)?)
 }
 
 /// The state in which the client is enrolled in the branch that its user chose. The state is lent as to `opt_out`.
@@ -77,11 +80,12 @@ pub fn opt_in(
     state: &mut State,
     slug: &Slug,
     branch: &Slug,
-) -> Result<State, OptInFault>
+) -> Result<NextState, OptInFault>
     requires { IsConsistent state.old }
     ensures same { state.new ≡ state.old }
     ensures answer { OptsIn state.old slug.now branch.now result }
-    ensures consistent { IfOk result IsConsistent }
+    ensures parts { IfOk result (HasParts state.old) }
+    ensures consistent { IfOk result (λ next. IsConsistent next.state) }
 {
     slug_fits(slug);
     slug_fits(branch);

@@ -2,7 +2,7 @@ use Rattle.std.proofs.Common.{◌≡◌, sym, subst}
 use Rattle.std.specs.List.{remove}
 use Rattle.enrol_states.specs.Order.{Rise}
 use Rattle.enrol_states.specs.Commands.{without_text}
-use Rattle.enrol_states.proofs.Answered.{if_ok, if_matched}
+use Rattle.enrol_states.proofs.Answered.{if_listed}
 use Rattle.enrol_states.proofs.Ordered.{place_missed}
 use Rattle.enrol_states.proofs.Enrolments.{without-at, without-place}
 use Rattle.enrol_states.proofs.enrolling.without_slug.Goals as goal
@@ -13,7 +13,7 @@ returns-in-Ok-clause-others c =
     let slugs = c.as_slice.result.now in
     let rise = subst Rise (sym c.as_slice.ensures) c.requires in
     let left = without-at slug slugs c.in-Ok.place slug c.in-Ok.ensures.bound rise (c.in-Ok.ensures.ok slug) in
-    if_ok c.removed.result _ _ (subst (λ ts. remove ts c.in-Ok.place ≡ without_text slug ts) c.as_slice.ensures left) c.removed.ensures.list
+    if_listed c.removal.result _ _ (subst (λ ts. remove ts c.in-Ok.place ≡ without_text slug ts) c.as_slice.ensures left) c.removal.ensures.list
 
 pub returns-in-Err-clause-others : goal.returns-in-Err-clause-others
 returns-in-Err-clause-others c =
@@ -21,4 +21,4 @@ returns-in-Err-clause-others c =
     let slugs = c.as_slice.result.now in
     let missed = place_missed slug slugs c.in-Err.field-0 (subst Rise (sym c.as_slice.ensures) c.requires) c.in-Err.ensures.position in
     let left = without-place slug slugs c.in-Err.field-0 missed in
-    if_matched c.clone.result _ _ _ (sym (subst (λ ts. without_text slug ts ≡ ts) c.as_slice.ensures left)) c.clone.ensures.cases
+    if_listed c.same.result _ _ (sym (subst (λ ts. without_text slug ts ≡ ts) c.as_slice.ensures left)) c.same.ensures.list

@@ -10,9 +10,9 @@ with_slug_at-requires-clause-place c =
     let slugs = c.as_slice.result.now in
     subst (λ ts. IsPlace slug ts c.in-Err.place) c.as_slice.ensures (place_missed slug slugs c.in-Err.place (subst Rise (sym c.as_slice.ensures) c.requires) c.in-Err.ensures.position)
 
-pub returns-in_ok-clone-in-Ok-clause-slugs : goal.returns-in_ok-clone-in-Ok-clause-slugs
-returns-in_ok-clone-in-Ok-clause-slugs c =
+pub returns-in_ok-same-in-Ok-clause-slugs : goal.returns-in_ok-same-in-Ok-clause-slugs
+returns-in_ok-same-in-Ok-clause-slugs c =
     let slug = c.args.slug.now in
     let slugs = c.args.slugs.now in
     let there = subst (λ ts. is_in ts slug ≡ true) c.as_slice.ensures (is_in-searched slug c.as_slice.result.now c.in-Ok.field-0 c.in-Ok.ensures.bound c.in-Ok.ensures.ok) in
-    (free_there slug slugs there, c.in_ok-clone-in-Ok.ensures.cases ∙ sym (insert-again slug slugs c.requires there))
+    (free_there slug slugs there, c.in_ok-same-in-Ok.ensures.list ∙ sym (insert-again slug slugs c.requires there))
