@@ -3,11 +3,11 @@ ghost use Rattle.std.specs.Prelude.{◌≡◌, ◌≤◌, IfOk};
 ghost use Rattle.enrol_states.specs.Consistent.{IsConsistent};
 
 use crate::inputs::{recipes, slug};
-use crate::shown::{parts_text, state_text, status_text};
+use crate::shown::{list_parts_text, parts_text, state_text, status_text};
 use anyhow::{Context, Result, bail, ensure};
 use enrol_states::{
-    Kinds, MAX_RECIPES, OptInFault, OptOutFault, State, is_exclusive, opt_in, opt_out, participate,
-    reset,
+    Kinds, MAX_RECIPES, NextState, OptInFault, OptOutFault, State, end_enrolment, is_exclusive,
+    opt_in, opt_out, participate, reset,
 };
 use plain_text::{Slug, read_number};
 use recipe_reader::Recipes;
@@ -73,9 +73,9 @@ fn rivals(alloc: Global) -> Result<State>
     with_recipes(alloc, records.as_str())
 }
 
-fn chosen(alloc: Global, state: &mut State, name: &str, branch: &str) -> Result<State>
+fn chosen(alloc: Global, state: &mut State, name: &str, branch: &str) -> Result<NextState>
     requires { IsConsistent state.old }
-    ensures { IfOk result IsConsistent }
+    ensures { IfOk result (λ next. IsConsistent next.state) }
 {
     let (name, branch) = (slug(alloc, name)?, slug(alloc, branch)?);
     match opt_in(alloc, state, &name, &branch) {
@@ -84,16 +84,24 @@ fn chosen(alloc: Global, state: &mut State, name: &str, branch: &str) -> Result<
     }
 }
 
-fn without(alloc: Global, state: &mut State, name: &str) -> Result<State>
+fn without(alloc: Global, state: &mut State, name: &str) -> Result<NextState>
     requires { IsConsistent state.old }
     ensures same { state.new ≡ state.old }
-    ensures consistent { IfOk result IsConsistent }
+    ensures consistent { IfOk result (λ next. IsConsistent next.state) }
 {
     let name = slug(alloc, name)?;
     match opt_out(alloc, state, &name) {
         Ok(next) => Ok(next),
         Err(_) => bail!("the opt-out is refused"),
     }
+}
+
+fn ended(alloc: Global, state: &mut State, name: &str) -> Result<NextState>
+    requires { IsConsistent state.old }
+    ensures { IfOk result (λ next. IsConsistent next.state) }
+{
+    let name = slug(alloc, name)?;
+    Ok(end_enrolment(state, &name)?)
 }
 
 // Participation in a part is off or on: of one kind where the line names it, as in `rollouts off`.
@@ -109,7 +117,20 @@ fn switch(line: &str) -> Option<(Kinds, bool)> {
     }
 }
 
-// The state after a line: a switch, `reset`, `out` and a slug, or a slug and a branch.
+// The state after a line of one slug: `out` or `end` and the slug, or the slug and a branch.
+fn of_slug(alloc: Global, state: &mut State, line: &str) -> Result<NextState>
+    requires { IsConsistent state.old }
+    ensures { IfOk result (λ next. IsConsistent next.state) }
+{
+    match line.split_once(' ') {
+        Some(("out", name)) => without(alloc, state, name),
+        Some(("end", name)) => ended(alloc, state, name),
+        Some((name, branch)) => chosen(alloc, state, name, branch),
+        None => bail!("no such line: {line}"),
+    }
+}
+
+// The state after a line: a switch, `reset`, or a line of one slug.
 pub(crate) fn step(alloc: Global, state: &mut State, line: &str) -> Result<State>
     requires { IsConsistent state.old }
     ensures { IfOk result IsConsistent }
@@ -120,11 +141,7 @@ pub(crate) fn step(alloc: Global, state: &mut State, line: &str) -> Result<State
     if line == "reset" {
         return Ok(reset(alloc, state, OTHER_ID)?);
     }
-    match line.split_once(' ') {
-        Some(("out", name)) => without(alloc, state, name),
-        Some((name, branch)) => chosen(alloc, state, name, branch),
-        None => bail!("no such line: {line}"),
-    }
+    Ok(of_slug(alloc, state, line)?.state)
 }
 
 // The state after lines, between which there is a comma.
@@ -168,6 +185,15 @@ fn rivals_after(alloc: Global, lines: &str) -> Result<State>
 pub(crate) fn parts_after(alloc: Global, input: &str) -> Result<String> {
     let state = rivals_after(alloc, input)?;
     parts_text(alloc, &state)
+}
+
+/// The parts of the opt-outs and of the rows that a line of one slug changes after lines over four recipes. Row: the lines, and
+/// the line.
+pub(crate) fn changed_parts(alloc: Global, input: &str) -> Result<String> {
+    let (lines, line) = halves(input)?;
+    let mut state = rivals_after(alloc, lines)?;
+    let next = of_slug(alloc, &mut state, line)?;
+    list_parts_text(alloc, next.opted_out, next.rows)
 }
 
 /// The answer to an opt-in after lines over four recipes. Row: the lines, a slug and a branch.
@@ -272,7 +298,7 @@ fn stays_opted_out(alloc: Global, state: &mut State, name: &str) -> Result<bool>
     requires { IsConsistent state.old }
     ensures { state.new ≡ state.old }
 {
-    let next = without(alloc, state, name)?;
+    let next = without(alloc, state, name)?.state;
     Ok(next.is_opted_out(name) && next == *state)
 }
 
@@ -283,7 +309,7 @@ fn opted_out_of(alloc: Global, count: u64) -> Result<State>
     let mut state = State::new(alloc, ID, NOW);
     for number in 0..count {
         let name = format!(in alloc; "slug-{number}")?;
-        state = without(alloc, &mut state, name.as_str())?;
+        state = without(alloc, &mut state, name.as_str())?.state;
     }
     Ok(state)
 }

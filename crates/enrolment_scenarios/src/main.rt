@@ -36,6 +36,7 @@ fn found_of_states(alloc: Global, kind: &str, input: &str) -> Result<String> {
     match kind {
         "choices" => choices::shown_after(alloc, input),
         "parts" => choices::parts_after(alloc, input),
+        "changed" => choices::changed_parts(alloc, input),
         "opt-in" => choices::opt_in_after(alloc, input),
         "status" => choices::status_after(alloc, input),
         "reset" => choices::reset_after(alloc, input),

@@ -1,6 +1,7 @@
 //! Statuses and rows in words.
 use anyhow::Result;
 use enrol_states::{State, Status};
+use sequences::ListPart;
 use std::alloc::{AllocError, Global};
 
 pub(crate) fn status_text(alloc: Global, status: &Status) -> Result<String> {
@@ -55,6 +56,18 @@ pub(crate) fn parts_text(alloc: Global, state: &State) -> Result<String> {
     };
     let rest = state_text(alloc, state)?;
     Ok(format!(in alloc; "{part}, {rest}")?)
+}
+
+/// The parts of the opt-outs and of the rows: of each its place, and how many items it has of the old and of the new list.
+pub(crate) fn list_parts_text(
+    alloc: Global,
+    opted_out: ListPart,
+    rows: ListPart,
+) -> Result<String> {
+    Ok(format!(in alloc;
+        "{} {} {}, {} {} {}",
+        opted_out.start, opted_out.removed, opted_out.added, rows.start, rows.removed, rows.added
+    )?)
 }
 
 /// The lines of a text in one, with a bar between them.
