@@ -1,10 +1,7 @@
 // `event`: what the user did is counted.
-ghost use Rattle.std.specs.Prelude.{◌≡◌, ◌≤◌, List, IfOk, IsTrue};
+ghost use Rattle.std.specs.Prelude.{◌≡◌, ◌≤◌, IfOk, IsTrue};
 ghost use Rattle.plain_text.specs.Names.{is_name};
 ghost use Rattle.enrol_states.specs.State.{last_moment};
-ghost use Rattle.event_counts.specs.Places.{DifferAt};
-ghost use Rattle.event_counts.specs.declared.name_counts.NameCounts.{NameCounts};
-ghost use Rattle.sequences.specs.ListParts.{IsPart};
 ghost use Rattle.client_steps.specs.declared.session.Session.{Session};
 ghost use Rattle.client_steps.specs.Asked.{asked_outcome, FollowsFrom};
 ghost use Rattle.client_steps.specs.Steps.{counting};
@@ -12,8 +9,8 @@ ghost use Rattle.client_steps.specs.Steps.{counting};
 use crate::asked::Asked;
 use client_state::{ClientState, StateChange};
 use client_words::Answer;
-use event_counts::{CountFault, NamePlace};
-use sequences::{ListPart, Text};
+use event_counts::CountFault;
+use sequences::Text;
 use std::alloc::{AllocError, Global};
 
 /// What `event` asks for at a moment, in whole seconds since 1970.
@@ -32,20 +29,10 @@ pub fn counting(
 {
     match state.events.count_in(alloc, name.as_str(), count, now) {
         Ok(counted) => Ok(Asked::NewState {
-            change: StateChange::of_events(counted.counts, counted_part(counted.place)),
+            change: StateChange::of_events(counted.counts, counted.part),
             answer: Answer::Okay,
         }),
         Err(CountFault::EventLimit) => Ok(Asked::Refused(Answer::EventLimit)),
         Err(CountFault::OutOfMemory) => Err(AllocError),
-    }
-}
-
-// The part of the names in which counts may differ that differ at a place.
-fn counted_part(place: NamePlace) -> ListPart
-    ensures { (old : List NameCounts) (new : List NameCounts) → DifferAt place old new → IsPart result old new }
-{
-    match place {
-        NamePlace::Known(place) => ListPart::replacement(place),
-        NamePlace::New(place) => ListPart::insertion(place),
     }
 }

@@ -3,22 +3,22 @@ ghost use Rattle.std.specs.Prelude.{◌≡◌, ◌≤◌, ◌<◌, ◌↔◌, le
 ghost use Rattle.std.specs.List.{insert};
 ghost use Rattle.plain_text.specs.Names.{is_name};
 ghost use Rattle.event_counts.specs.Kept.{at_moment, counted_in, found, moment_at, with_more, no_counts};
-ghost use Rattle.event_counts.specs.Places.{DifferAt};
 ghost use Rattle.event_counts.specs.Sound.{IsSound};
+ghost use Rattle.sequences.specs.ListParts.{IsPart};
 
-use crate::counted_event::{CountedEvent, NamePlace};
+use crate::counted_event::CountedEvent;
 use crate::counts::{Counts, MAX_NAMES};
 use crate::fault::CountFault;
 use crate::name_counts::NameCounts;
 use crate::searching::place_of;
 use crate::shared_counts::SharedCounts;
-use sequences::SharedList;
+use sequences::{ListPart, SharedList};
 use std::alloc::{AllocError, Global};
 
 impl Counts {
-    /// The counts after an event of this name, which came so many times, and where they differ from these ones. Its moment is the
-    /// greatest of `now` and the latest moments, so time never goes back; moments are in seconds since 1970, up to the end of the
-    /// year 9999. Each count stops at 4,294,967,295. `EventLimit` comes exactly where the name is new and 64 names are there.
+    /// The counts after an event of this name, which came so many times, and the part of the names that has this one alone. Its moment
+    /// is the greatest of `now` and the latest moments, so time never goes back; moments are in seconds since 1970, up to the end of
+    /// the year 9999. Each count stops at 4,294,967,295. `EventLimit` comes exactly where the name is new and 64 names are there.
     pub fn count_in(
         &self,
         alloc: Global,
@@ -30,7 +30,7 @@ impl Counts {
         requires moment { now ≤ 253402300799 }
         ensures counts { IfOk result (λ c. c.counts ≡ counted_in name.now count now self.now) }
         ensures sound { IfOk result (λ c. IsSound c.counts) }
-        ensures place { IfOk result (λ c. DifferAt c.place self.now c.counts) }
+        ensures part { IfOk result (λ c. IsPart c.part self.now c.counts) }
         ensures limit { IsErrOf result CountFault.EventLimit ↔ ((found name.now self.now ≡ None) × (64 ≤ length self.now)) }
     {
         let names = self.names();
@@ -42,7 +42,7 @@ impl Counts {
                     counts: Counts {
                         names: self.with_replaced(place, more)?,
                     },
-                    place: NamePlace::Known(place),
+                    part: ListPart::replacement(place),
                 })
             }
             Err(_) if names.len() >= MAX_NAMES => Err(CountFault::EventLimit),
@@ -52,7 +52,7 @@ impl Counts {
                     counts: Counts {
                         names: self.with_inserted(place, first)?,
                     },
-                    place: NamePlace::New(place),
+                    part: ListPart::insertion(place),
                 })
             }
         }

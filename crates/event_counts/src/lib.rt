@@ -18,7 +18,7 @@ mod shared_counts;
 mod size;
 mod viewing;
 
-pub use counted_event::{CountedEvent, NamePlace};
+pub use counted_event::CountedEvent;
 pub use counts::Counts;
 pub use fault::{CountFault, CountsFault};
 pub use interval::Interval;

@@ -1,12 +1,14 @@
 // How many bytes the rows of counts take.
-ghost use Rattle.std.specs.Prelude.{◌≡◌, ◌≤◌, ◌+◌, ◌*◌, length, slice_range};
+ghost use Rattle.std.specs.Prelude.{◌≡◌, ◌≤◌, ◌+◌, ◌*◌, length};
 ghost use Rattle.std.specs.List.{AllByRecursion};
 ghost use Rattle.row_batches.specs.Batch.{puts_text};
 ghost use Rattle.event_counts.specs.Rows.{rows_of};
 ghost use Rattle.event_counts.specs.Sound.{IsSoundName};
+ghost use Rattle.sequences.specs.ListParts.{part_of_new, part_of_old};
 
 use crate::counts::Counts;
 use crate::shared_counts::SharedCounts;
+use sequences::ListPart;
 
 // The bytes of a put of a name's row beside the name: those that each put has, the tag, and the value.
 const ROW: u128 = 736;
@@ -20,13 +22,22 @@ impl Counts {
         names_size(self.names())
     }
 
-    /// How many bytes the puts of the rows of so many names have, from a place on.
-    pub fn size_in(&self, start: usize, count: usize) -> u128
-        requires { start + count ≤ length self.now }
-        ensures size { result ≡ length (puts_text (rows_of (slice_range self.now start (start + count)))) }
+    /// How many bytes the puts of the rows of the part's names have, where these are the old counts.
+    pub fn size_of_old(&self, part: ListPart) -> u128
+        requires { part.start + part.removed ≤ length self.now }
+        ensures size { result ≡ length (puts_text (rows_of (part_of_old part self.now))) }
         ensures bound { result ≤ 52224 }
     {
-        names_size(self.part(start, count))
+        names_size(self.part(part.start, part.removed))
+    }
+
+    /// How many bytes the puts of the rows of the part's names have, where these are the new counts.
+    pub fn size_of_new(&self, part: ListPart) -> u128
+        requires { part.start + part.added ≤ length self.now }
+        ensures size { result ≡ length (puts_text (rows_of (part_of_new part self.now))) }
+        ensures bound { result ≤ 52224 }
+    {
+        names_size(self.part(part.start, part.added))
     }
 }
 

@@ -5,6 +5,7 @@ use crate::kept::add_row;
 use event_counts::Counts;
 use row_batches::{RowChange, StoreRow};
 use row_tables::{Fault, add_between, add_none, parts};
+use sequences::ListPart;
 use std::alloc::{AllocError, Global};
 
 /// The rows that are put and the keys of those that are deleted, or `none`, and how many bytes the puts of the new rows have. Row:
@@ -53,7 +54,8 @@ fn add_changes_between(
     new: &Counts,
     found: &mut String,
 ) -> Result<(), AllocError> {
-    let changes = old.changes_in(alloc, new, 0, old.len(), new.len())?;
+    let part = ListPart::whole(old.len(), new.len());
+    let changes = old.changes_in(alloc, new, part)?;
     let outcome = add_changes(changes.as_slice(), new.size(), found);
     drop(changes);
     outcome

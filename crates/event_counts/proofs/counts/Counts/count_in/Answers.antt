@@ -8,6 +8,7 @@ use Rattle.event_counts.specs.Places.{BelongsAt, HasNameAt}
 use Rattle.event_counts.specs.Sound.{IsSound}
 use Rattle.event_counts.proofs.Events.{counted-there, sound-there, counted-new, sound-new, no_limit, no_memory}
 use Rattle.event_counts.proofs.Found.{found_there, found_nowhere}
+use Rattle.event_counts.proofs.ListParts.{one_comes}
 use Rattle.event_counts.proofs.counts.Counts.count_in.Goals as goal
 
 is_there : (name : List ℕ) (self names : List NameCounts) (place : ℕ) (there : NameCounts) → names ≡ self → IsSound self → HasNameAt name names place → found name self ≡ Some (get_or self place there)
@@ -63,18 +64,12 @@ returns-in_ok-with_inserted-in-Err-2-clause-counts c =
     (counted-new c.args.name.now c.args.count c.args.now c.moment_at-moment.result c.names-names.result.now c.in_ok-with_inserted-in-Err-2.field-0 c.in-Err.field-0 c.in_ok-first-in-Err-2.first
     c.moment_at-moment.ensures c.in-Err.ensures.missed c.in_ok-first-in-Err-2.ensures (c.in_ok-with_inserted-in-Err-2.ensures ∙ ap (λ ns. insert ns c.in-Err.field-0 c.in_ok-first-in-Err-2.first) (sym c.names-names.ensures.names)))
 
--- ---- the place
-
-within_there : (name : List ℕ) (self names : List NameCounts) (place : ℕ) → names ≡ self → HasNameAt name names place → place < length self
-within_there name self names place same at = let within = at.within in subst (λ (ns : List NameCounts). place < length ns) same within
+-- ---- the part
 
 within_new : (name : List ℕ) (self names : List NameCounts) (place : ℕ) → names ≡ self → BelongsAt name names place → place ≤ length self
 within_new name self names place same at = let within = at.within in subst (λ (ns : List NameCounts). place ≤ length ns) same within
 
-pub returns-in_ok-with_replaced-in-Ok-clause-place : goal.returns-in_ok-with_replaced-in-Ok-clause-place
-returns-in_ok-with_replaced-in-Ok-clause-place c =
-    (within_there c.args.name.now c.args.self.now c.names-names.result.now c.in-Ok.place c.names-names.ensures.names c.in-Ok.ensures.found, (c.in_ok-more-in-Ok.more, c.in_ok-with_replaced-in-Ok.ensures))
-
-pub returns-in_ok-with_inserted-in-Err-2-clause-place : goal.returns-in_ok-with_inserted-in-Err-2-clause-place
-returns-in_ok-with_inserted-in-Err-2-clause-place c =
-    (within_new c.args.name.now c.args.self.now c.names-names.result.now c.in-Err.field-0 c.names-names.ensures.names c.in-Err.ensures.missed, (c.in_ok-first-in-Err-2.first, c.in_ok-with_inserted-in-Err-2.ensures))
+pub returns-in_ok-with_inserted-in-Err-2-clause-part : goal.returns-in_ok-with_inserted-in-Err-2-clause-part
+returns-in_ok-with_inserted-in-Err-2-clause-part c =
+    one_comes c.in_ok-first-in-Err-2.first c.insertion.result c.args.self.now c.in_ok-with_inserted-in-Err-2.field-0 c.in-Err.field-0
+    c.insertion.ensures c.in_ok-with_inserted-in-Err-2.ensures (within_new c.args.name.now c.args.self.now c.names-names.result.now c.in-Err.field-0 c.names-names.ensures.names c.in-Err.ensures.missed)
