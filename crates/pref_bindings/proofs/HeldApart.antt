@@ -1,7 +1,6 @@
 -- The preferences that somebody holds, by themselves: their rows, what a leave makes of them, and that the user doesn't change them.
 use Rattle.std.proofs.Common.{Ordering, Less, Equal, Greater, ◌≡◌, ℕ, Bool, true, false, cond, List, [], ◌∷◌, ◌++◌, Option, None, Some, refl, sym, ap, ◌∙◌}
 use Rattle.std.specs.Option.{is_some}
-use Rattle.std.specs.List.{AllByRecursion}
 use Rattle.json_tree.specs.declared.tree.Tree.{Tree}
 use Rattle.recipe_reader.specs.Payloads.{slug_cmp}
 use Rattle.row_batches.specs.declared.store_row.StoreRow.{StoreRow}
@@ -30,15 +29,6 @@ rows_at (Some h) p ps is rest = ap hold_rows (held_first p ps (Some h) is) ∙ a
 pub rows_of_held : (ps : List Preference) → hold_rows (held_preferences ps) ≡ hold_rows ps
 rows_of_held [] = refl
 rows_of_held (p ∷ ps) = rows_at p.hold p ps refl (rows_of_held ps)
-
--- what holds of each preference holds of each that is held
-pub each_held : (P : Preference → Type 0) (ps : List Preference) → AllByRecursion P ps → AllByRecursion P (held_preferences ps)
-each_held P [] each = tt
-each_held P (p ∷ ps) each =
-    elim (is_some p.hold) as (λ b. AllByRecursion P (cond b (p ∷ held_preferences ps) (held_preferences ps))) [
-      | true ↦ (each.0, each_held P ps each.1)
-      | false ↦ each_held P ps each.1
-    ]
 
 -- ---- leaves
 

@@ -21,3 +21,5 @@ pub mod FeatureRanges
 pub mod SameSettings
 pub mod HeldAll
 pub mod HeldApart
+mod Ranges
+mod ListParts

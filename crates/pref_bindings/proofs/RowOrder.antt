@@ -2,6 +2,7 @@
 use Rattle.std.proofs.Common.{Less, ◌≡◌, ℕ, List, [], ◌∷◌, ◌++◌, map, Option, Some, None, refl, sym, subst, append_assoc}
 use Rattle.std.specs.List.{AllByRecursion}
 use Rattle.std.specs.List.Sorted.{IsStrictlySortedBy}
+use Rattle.std.proofs.lemmas.List.{append-nil}
 use Rattle.recipe_reader.specs.Payloads.{slug_cmp}
 use Rattle.enrol_states.specs.Order.{Rise, AreAbove}
 use Rattle.row_batches.specs.Rows.{AreRows, key_cmp, key_of}
@@ -20,7 +21,7 @@ below_values : (name : List ℕ) (ps : List Preference) → AreAbove name (names
 below_values name [] above = tt
 below_values name (p ∷ ps) above = (above.0, below_values name ps above.1)
 
-values_rise : (ps : List Preference) → Rise (names_of ps) → AreRows (value_rows ps)
+pub values_rise : (ps : List Preference) → Rise (names_of ps) → AreRows (value_rows ps)
 unfolding IsStrictlySortedBy
 values_rise [] rise = tt
 values_rise (p ∷ ps) rise = (below_values p.name ps rise.0, values_rise ps rise.1)
@@ -51,6 +52,10 @@ holds_rise [] qs rise values = values
 holds_rise (p ∷ ps) qs rise values =
     subst AreRows (sym (append_assoc (hold_row p.name p.hold) (hold_rows ps) (value_rows qs)))
     (rise_at p.hold p (hold_rows ps ++ value_rows qs) (below_holds p.name ps (value_rows qs) rise.0 (holds_first p.name qs)) (holds_rise ps qs rise.1 values))
+
+pub hold_rows_rise : (ps : List Preference) → Rise (names_of ps) → AreRows (hold_rows ps)
+unfolding IsStrictlySortedBy
+hold_rows_rise ps rise = subst AreRows (append-nil (hold_rows ps)) (holds_rise ps [] rise tt)
 
 pub rows_rise : (ps : List Preference) → Rise (names_of ps) → AreRows (rows_of ps)
 rows_rise ps rise = holds_rise ps ps rise (values_rise ps rise)

@@ -10,6 +10,7 @@ mod held;
 mod joining;
 mod laws;
 mod leaving;
+mod next_preferences;
 mod preference;
 mod prefs;
 mod reading;
@@ -25,6 +26,7 @@ pub use fault::{BindingFault, PrefsFault};
 pub use laws::{
     held_is_kept, leave_undoes_join, one_list_of_rows, user_map_is_kept, user_sets_own,
 };
+pub use next_preferences::NextPreferences;
 pub use preference::{Hold, Preference, is_value};
 pub use prefs::Prefs;
 pub use reading::{prefs_of, prefs_of_parts};

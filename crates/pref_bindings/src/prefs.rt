@@ -1,5 +1,6 @@
 // The preferences that have a value.
-ghost use Rattle.std.specs.Prelude.{◌≡◌, ◌≤◌, ◌^◌, [], ⊤, length, IfOk, IsTrue, MatchOption, None, Some, option_map};
+ghost use Rattle.std.specs.Prelude.{◌≡◌, ◌≤◌, ◌+◌, ◌^◌, [], ⊤, length, slice_range, IfOk, IsTrue, MatchOption, None, Some, option_map};
+ghost use Rattle.std.specs.Option.{unwrap_or};
 ghost use Rattle.std.specs.List.{AllByRecursion};
 ghost use Rattle.plain_text.specs.Names.{is_name};
 ghost use Rattle.row_batches.specs.Batch.{puts_text};
@@ -7,10 +8,12 @@ ghost use Rattle.pref_bindings.specs.Changes.{AreSettings, joined, left, set_by_
 ghost use Rattle.pref_bindings.specs.Held.{held_preferences};
 ghost use Rattle.pref_bindings.specs.Preferences.{AreHeld, IsPreference, IsSound, IsValue, found, holder_of, value_of};
 ghost use Rattle.pref_bindings.specs.Rows.{rows_of};
+ghost use Rattle.sequences.specs.ListParts.{IsPart};
 
 use crate::held::held_preferences;
 use crate::joining::joined;
 use crate::leaving::{holds_none, left};
+use crate::next_preferences::NextPreferences;
 use crate::preference::Preference;
 use crate::setting::{users_preference, with_preference, without_name};
 use crate::size::{preferences_size, size_with, size_without};
@@ -91,11 +94,19 @@ impl Prefs {
         self.preferences.as_slice()
     }
 
-    /// Those that somebody holds, in order by name. It takes no memory.
-    #[tactic(auto, using(crate::proofs::HeldApart::each_held))]
-    pub(crate) fn held(&self) -> &[Preference]
-        ensures held { result.now ≡ held_preferences self.now }
+    /// So many of them from a place on. It takes no memory.
+    #[tactic(auto, using(crate::proofs::Ranges::range_each))]
+    pub(crate) fn part(&self, start: usize, count: usize) -> &[Preference]
+        requires { start + count ≤ length self.now }
+        ensures preferences { result.now ≡ slice_range self.now start (start + count) }
         ensures each { AllByRecursion IsPreference result.now }
+    {
+        &self.as_slice()[start..start + count]
+    }
+
+    /// Those that somebody holds, in order by name. It takes no memory.
+    pub(crate) fn held(&self) -> &[Preference]
+        ensures { result.now ≡ held_preferences self.now }
     {
         self.held.as_slice()
     }
@@ -140,22 +151,23 @@ impl Prefs {
     }
 
     /// The preferences where a slug sets each of these that nobody holds, and holds it: its value of before, or that there was
-    /// none, is kept. One that is held stays. The one error is want of memory. Both lists are walked once; where each is held, it
-    /// takes no memory.
+    /// none, is kept. One that is held stays. Where each is held there are no next preferences, since these stay, and it takes no
+    /// memory; else both lists are walked once. The one error is want of memory.
     pub fn join(
         &self,
         alloc: Global,
         slug: &Slug,
         values: &[(Text, Tree)],
-    ) -> Result<Prefs, AllocError>
+    ) -> Result<Option<Prefs>, AllocError>
         requires { AreSettings values.now }
-        ensures { IfOk result (λ prefs. prefs ≡ joined slug.now values.now self.now) }
+        ensures { IfOk result (λ next. unwrap_or next self.now ≡ joined slug.now values.now self.now) }
     {
         let preferences = self.as_slice();
         if self.are_held(values) {
-            return self.clone();
+            return Ok(None);
         }
-        Prefs::of_preferences(alloc, joined(alloc, slug, preferences, values)?)
+        let joined = joined(alloc, slug, preferences, values)?;
+        Ok(Some(Prefs::of_preferences(alloc, joined)?))
     }
 
     // Whether somebody holds each of these. It takes no memory.
@@ -170,29 +182,34 @@ impl Prefs {
         true
     }
 
-    /// The preferences where each that the slug holds has its value of before again, or none where there was none. The one error
-    /// is want of memory. Where the slug holds none, only those that somebody holds are walked, which takes no memory; else all are
-    /// walked.
+    /// The preferences where each that the slug holds has its value of before again, or none where there was none. Where the slug
+    /// holds none there are no next preferences, since these stay: only those that somebody holds are walked, which takes no
+    /// memory; else all are walked. The one error is want of memory.
     #[tactic(auto, using(crate::proofs::HeldApart::left_held))]
-    pub fn leave(&self, alloc: Global, slug: &Slug) -> Result<Prefs, AllocError>
-        ensures { IfOk result (λ prefs. prefs ≡ left slug.now self.now) }
+    pub fn leave(&self, alloc: Global, slug: &Slug) -> Result<Option<Prefs>, AllocError>
+        ensures { IfOk result (λ next. unwrap_or next self.now ≡ left slug.now self.now) }
     {
         if holds_none(slug, self.held()) {
-            return self.clone();
+            return Ok(None);
         }
         let preferences = left(alloc, slug, self.as_slice())?;
-        Prefs::of_preferences(alloc, preferences)
+        Ok(Some(Prefs::of_preferences(alloc, preferences)?))
     }
 
-    /// The preferences where the user sets this one, or takes its value away. The one error is want of memory. These are lent to
-    /// that, and stay the same: the next list is made in the place of the one that theirs was made of, and only the rows of this
-    /// preference are counted.
-    pub fn user_set(&mut self, name: &Text, value: Option<&Tree>) -> Result<Prefs, AllocError>
+    /// The preferences where the user sets this one, or takes its value away, and the part that has this one alone. The one error
+    /// is want of memory. These are lent to that, and stay the same: the next list is made in the place of the one that theirs was
+    /// made of, and only the rows of this preference are counted.
+    pub fn user_set(
+        &mut self,
+        name: &Text,
+        value: Option<&Tree>,
+    ) -> Result<NextPreferences, AllocError>
         requires free { holder_of name.now self.old ≡ None }
         requires name { IsTrue (is_name name.now) }
         requires value { MatchOption value ⊤ (λ v. IsValue v.now) }
         ensures same { self.new ≡ self.old }
-        ensures set { IfOk result (λ prefs. prefs ≡ set_by_user name.now (option_map (λ v. v.now) value.entry) self.old) }
+        ensures set { IfOk result (λ next. next.preferences ≡ set_by_user name.now (option_map (λ v. v.now) value.entry) self.old) }
+        ensures part { IfOk result (λ next. IsPart next.part self.old next.preferences) }
     {
         match value {
             Some(value) => self.with_value(name, value),
@@ -201,12 +218,13 @@ impl Prefs {
     }
 
     // The preferences where the user sets this one.
-    fn with_value(&mut self, name: &Text, value: &Tree) -> Result<Prefs, AllocError>
+    fn with_value(&mut self, name: &Text, value: &Tree) -> Result<NextPreferences, AllocError>
         requires free { holder_of name.now self.old ≡ None }
         requires name { IsTrue (is_name name.now) }
         requires value { IsValue value.now }
         ensures same { self.new ≡ self.old }
-        ensures set { IfOk result (λ prefs. prefs ≡ set_by_user name.now (Some value.now) self.old) }
+        ensures set { IfOk result (λ next. next.preferences ≡ set_by_user name.now (Some value.now) self.old) }
+        ensures part { IfOk result (λ next. IsPart next.part self.old next.preferences) }
     {
         let preference = users_preference(name, value)?;
         let others = self.size_of_others(name.as_str());
@@ -214,27 +232,34 @@ impl Prefs {
             return Err(AllocError);
         };
         let held = self.held.clone()?;
-        let preferences = with_preference(&mut self.preferences, preference)?;
-        Ok(Prefs {
-            preferences,
-            held,
-            size,
+        let (preferences, part) = with_preference(&mut self.preferences, preference)?;
+        Ok(NextPreferences {
+            preferences: Prefs {
+                preferences,
+                held,
+                size,
+            },
+            part,
         })
     }
 
     // The preferences where the user takes the value of this one away.
-    fn without_value(&mut self, name: &Text) -> Result<Prefs, AllocError>
+    fn without_value(&mut self, name: &Text) -> Result<NextPreferences, AllocError>
         requires { holder_of name.now self.old ≡ None }
         ensures same { self.new ≡ self.old }
-        ensures set { IfOk result (λ prefs. prefs ≡ set_by_user name.now None self.old) }
+        ensures set { IfOk result (λ next. next.preferences ≡ set_by_user name.now None self.old) }
+        ensures part { IfOk result (λ next. IsPart next.part self.old next.preferences) }
     {
         let size = self.size_of_others(name.as_str());
         let held = self.held.clone()?;
-        let preferences = without_name(&mut self.preferences, name)?;
-        Ok(Prefs {
-            preferences,
-            held,
-            size,
+        let (preferences, part) = without_name(&mut self.preferences, name)?;
+        Ok(NextPreferences {
+            preferences: Prefs {
+                preferences,
+                held,
+                size,
+            },
+            part,
         })
     }
 

@@ -3,10 +3,11 @@ ghost use Rattle.std.specs.Prelude.{◌≡◌, IfOk, None};
 ghost use Rattle.enrol_states.specs.Order.{Rise};
 ghost use Rattle.pref_bindings.specs.Changes.{with_preference, without_name};
 ghost use Rattle.pref_bindings.specs.Preferences.{names_of};
+ghost use Rattle.sequences.specs.ListParts.{IsPart};
 
 use crate::preference::Preference;
 use json_tree::Tree;
-use sequences::{SharedList, Text};
+use sequences::{ListPart, SharedList, Text};
 use std::alloc::AllocError;
 
 /// A preference that its user set.
@@ -20,38 +21,46 @@ pub(crate) fn users_preference(name: &Text, value: &Tree) -> Result<Preference, 
     })
 }
 
-/// The preferences with this one, in the place of the one of its name.
+/// The preferences with this one, in the place of the one of its name, and the part in which they may differ from these.
 pub(crate) fn with_preference(
     preferences: &mut SharedList<Preference>,
     preference: Preference,
-) -> Result<SharedList<Preference>, AllocError>
+) -> Result<(SharedList<Preference>, ListPart), AllocError>
     requires { Rise (names_of preferences.old) }
     ensures same { preferences.new ≡ preferences.old }
-    ensures preferences { IfOk result (λ ps. ps ≡ with_preference preference preferences.old) }
+    ensures preferences { IfOk result (λ next. next.0 ≡ with_preference preference preferences.old) }
+    ensures part { IfOk result (λ next. IsPart next.1 preferences.old next.0) }
 {
     match preferences
         .as_slice()
         .binary_search_by(|other| other.name.cmp(&preference.name))
     {
-        Ok(place) => preferences.replaced(place, preference),
-        Err(place) => preferences.inserted(place, preference),
+        Ok(place) => Ok((
+            preferences.replaced(place, preference)?,
+            ListPart::replacement(place),
+        )),
+        Err(place) => Ok((
+            preferences.inserted(place, preference)?,
+            ListPart::insertion(place),
+        )),
     }
 }
 
-/// The preferences without the one of a name.
+/// The preferences without the one of a name, and the part in which they may differ from these.
 pub(crate) fn without_name(
     preferences: &mut SharedList<Preference>,
     name: &Text,
-) -> Result<SharedList<Preference>, AllocError>
+) -> Result<(SharedList<Preference>, ListPart), AllocError>
     requires { Rise (names_of preferences.old) }
     ensures same { preferences.new ≡ preferences.old }
-    ensures preferences { IfOk result (λ ps. ps ≡ without_name name.now preferences.old) }
+    ensures preferences { IfOk result (λ next. next.0 ≡ without_name name.now preferences.old) }
+    ensures part { IfOk result (λ next. IsPart next.1 preferences.old next.0) }
 {
     match preferences
         .as_slice()
         .binary_search_by(|other| other.name.cmp(name))
     {
-        Ok(place) => preferences.removed(place),
-        Err(_) => preferences.clone(),
+        Ok(place) => Ok((preferences.removed(place)?, ListPart::removal(place))),
+        Err(_) => Ok((preferences.clone()?, ListPart::none())),
     }
 }

@@ -1,12 +1,14 @@
 //! Rows on the rows that keep preferences. A row's text is its key and its value; a number and a colon at the front of the value
 //! are a byte, and a comma stands between two rows.
 
+ghost use Rattle.std.specs.Prelude.{◌≡◌, length};
+
 use crate::steps::prefs_after;
 use plain_text::read_number;
 use pref_bindings::{Prefs, PrefsFault, prefs_of};
 use row_batches::{RowChange, StoreRow};
 use row_tables::{Fault, add_between, add_none, byte, cut, parts};
-use sequences::Sequence;
+use sequences::{ListPart, Sequence};
 use std::alloc::{AllocError, Global};
 
 /// The rows of the preferences after steps, or `none`. Row: the steps.
@@ -90,7 +92,7 @@ fn add_hold_changes(
     new: &Prefs,
     found: &mut String,
 ) -> Result<(), AllocError> {
-    let changes = old.hold_changes_to(alloc, new)?;
+    let changes = old.hold_changes_in(alloc, new, whole(old, new))?;
     add_changes(changes.as_slice(), found)
 }
 
@@ -100,10 +102,17 @@ fn add_value_changes(
     new: &Prefs,
     found: &mut String,
 ) -> Result<(), Fault> {
-    let changes = old.value_changes_to(alloc, new)?;
+    let changes = old.value_changes_in(alloc, new, whole(old, new))?;
     add_changes(changes.as_slice(), found)?;
     add_none(found)?;
     Ok(write!(found, "; {} bytes", new.size())?)
+}
+
+// All preferences of both.
+fn whole(old: &Prefs, new: &Prefs) -> ListPart
+    ensures { result ≡ record { start = 0; removed = length old.now; added = length new.now } }
+{
+    ListPart::whole(old.as_slice().len(), new.as_slice().len())
 }
 
 fn add_changes(changes: &[RowChange], found: &mut String) -> Result<(), AllocError> {

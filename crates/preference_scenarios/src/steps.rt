@@ -127,7 +127,7 @@ fn with_value(
     if prefs.holder(name.as_str()).is_some() {
         return Err(Fault::NoRow);
     }
-    Ok(prefs.user_set(&name, value)?)
+    Ok(prefs.user_set(&name, value)?.preferences)
 }
 
 fn after_join(alloc: Global, prefs: &Prefs, text: &str, spelled: &str) -> Result<Prefs, Fault> {
@@ -137,10 +137,18 @@ fn after_join(alloc: Global, prefs: &Prefs, text: &str, spelled: &str) -> Result
 
 fn with_settings(alloc: Global, prefs: &Prefs, slug: &Slug, spelled: &str) -> Result<Prefs, Fault> {
     let settings: Vec<(Text, Tree)> = settings(alloc, spelled)?;
-    Ok(prefs.join(alloc, slug, &settings)?)
+    next_or(prefs, prefs.join(alloc, slug, &settings)?)
 }
 
 fn after_leave(alloc: Global, prefs: &Prefs, text: &str) -> Result<Prefs, Fault> {
     let slug = slug(alloc, text)?;
-    Ok(prefs.leave(alloc, &slug)?)
+    next_or(prefs, prefs.leave(alloc, &slug)?)
+}
+
+// The next preferences, or those of before.
+fn next_or(before: &Prefs, next: Option<Prefs>) -> Result<Prefs, Fault> {
+    match next {
+        Some(next) => Ok(next),
+        None => Ok(before.clone()?),
+    }
 }
