@@ -8,13 +8,14 @@ use Rattle.event_counts.specs.declared.name_counts.NameCounts.{NameCounts}
 use Rattle.change_outbox.specs.Contents as contents
 use Rattle.change_outbox.specs.Contents.{Contents}
 use Rattle.pref_bindings.specs.Preferences as preferences
+use Rattle.pref_bindings.specs.declared.next_preferences.NextPreferences.{NextPreferences}
 use Rattle.pref_bindings.specs.declared.preference.Preference.{Preference}
 use Rattle.row_batches.specs.Batch.{ChangeList, IsBatch, applied, batch_text, whole_of}
 use Rattle.row_batches.specs.Between.{changes_between, between}
 use Rattle.row_batches.specs.declared.change.RowChange.{RowChange}
 use Rattle.row_batches.proofs.Sizes.{between_short}
 use Rattle.row_batches.proofs.Walks.{between_rule, applied_between}
-use Rattle.client_state.specs.Changes.{ArePreferencesIf, IsNextEventsIf, IsNextOutboxIf, IsNextIf, IsWholeChangeOf, enrolment_after, events_after, state_after}
+use Rattle.client_state.specs.Changes.{IsNextEventsIf, IsNextOutboxIf, IsNextIf, IsNextPreferencesIf, IsWholeChangeOf, enrolment_after, events_after, preferences_or, state_after}
 use Rattle.client_state.specs.Sound.{IsConsistent}
 use Rattle.client_state.specs.Encoding.{rows_of, encoding}
 use Rattle.client_state.specs.declared.client_state.ClientState.{ClientState}
@@ -38,9 +39,9 @@ pub outbox_sound : (next : Option Contents) (o : Contents) → contents.IsSound 
 outbox_sound None o is can = is
 outbox_sound (Some next) o is can = can.sound
 
-pub preferences_sound : (next : Option (List Preference)) (ps : List Preference) → preferences.IsSound ps → ArePreferencesIf next → preferences.IsSound (unwrap_or next ps)
+pub preferences_sound : (next : Option NextPreferences) (ps : List Preference) → preferences.IsSound ps → IsNextPreferencesIf ps next → preferences.IsSound (preferences_or next ps)
 preferences_sound None ps is can = is
-preferences_sound (Some next) ps is can = can
+preferences_sound (Some next) ps is can = can.sound
 
 -- the state after one of its changes is one that a client can have
 pub change_consistent : (s : ClientState) (change : StateChange) → IsConsistent s → IsWholeChangeOf s change → IsConsistent (state_after change s)

@@ -10,10 +10,10 @@ use Rattle.change_outbox.specs.Contents as contents
 use Rattle.change_outbox.specs.Contents.{Contents, appended, last_number, numbered}
 use Rattle.change_outbox.specs.declared.change.Change.{Change}
 use Rattle.change_outbox.proofs.Numbers.{appended-again, length-numbered}
-use Rattle.pref_bindings.specs.Preferences as preference_lists
 use Rattle.pref_bindings.specs.declared.bindings.Binding.{Binding}
+use Rattle.pref_bindings.specs.declared.next_preferences.NextPreferences.{NextPreferences}
 use Rattle.pref_bindings.specs.declared.preference.Preference.{Preference}
-use Rattle.client_state.specs.Changes.{HasHoldersOfBefore, IsChangeOf, IsNextOutbox, IsWholeChangeOf, enrolment_after, state_after}
+use Rattle.client_state.specs.Changes.{HasHoldersOfBefore, IsChangeOf, IsNextOutbox, IsNextPreferencesIf, IsWholeChangeOf, enrolment_after, preferences_or, state_after}
 use Rattle.client_state.specs.Following.{changes_done, changes_from, followed, is_spent_after, join_done, join_values, joins_done, leave_done, leaves_done, outbox_after, preferences_after, spends}
 use Rattle.client_state.specs.Sound.{HaveEnrolledHolders, IsConsistent}
 use Rattle.client_state.specs.declared.client_state.ClientState.{ClientState}
@@ -48,7 +48,7 @@ module _ (s : ClientState) (change : StateChange) where
   outbox_before = unwrap_or change.outbox s.outbox
 
   abbrev preferences_before : List Preference
-  preferences_before = unwrap_or change.preferences s.preferences
+  preferences_before = preferences_or change.preferences s.preferences
 
   -- what follows, where this is the next enrolment
   abbrev with_next : Option Manifest → Option (List Binding) → Option NextEnrolment → ClientState
@@ -102,28 +102,29 @@ module _ (s : ClientState) (change : StateChange) where
 
     -- these are the changes of enrolments
     module _ (cs : List Change) (are : cs ≡ numbered 0 told) where
-      pub all_followed : (m : Option Manifest) (bs : Option (List Binding)) (o : Contents) (ps : List Preference) → o ≡ appended cs outbox_before → ps ≡ changes_done (join_values m bs next.state) cs preferences_before
-          → state_after (record { enrolment = change.enrolment; events = change.events; outbox = Some o; preferences = Some ps }) s ≡ followed m bs change s
-      all_followed m bs o ps is_outbox are_preferences =
+      pub all_followed : (m : Option Manifest) (bs : Option (List Binding)) (o : Contents) (after : Option NextPreferences) → o ≡ appended cs outbox_before
+          → preferences_or after s.preferences ≡ changes_done (join_values m bs next.state) cs preferences_before
+          → state_after (record { enrolment = change.enrolment; events = change.events; outbox = Some o; preferences = after }) s ≡ followed m bs change s
+      all_followed m bs o after is_outbox are_preferences =
           let outbox : o ≡ outbox_after s.enrolment change.enrolment outbox_before =
           is_outbox ∙ ap (λ (l : List Change). appended l outbox_before) are ∙ appended-again 0 told outbox_before ∙ sym (ap (λ (n : Option NextEnrolment). outbox_after s.enrolment n outbox_before) some)
           in
-          let preferences : ps ≡ preferences_after m bs s.enrolment change.enrolment preferences_before =
+          let preferences : preferences_or after s.preferences ≡ preferences_after m bs s.enrolment change.enrolment preferences_before =
           are_preferences ∙ ap (λ (l : List Change). changes_done (join_values m bs next.state) l preferences_before) are ∙ done-again m bs next.state 0 told preferences_before
           ∙ sym (ap (λ (n : Option NextEnrolment). preferences_after m bs s.enrolment n preferences_before) some)
           in
           (λ i. record (state_after change s) { outbox = outbox i; preferences = preferences i })
 
-      pub all_whole : (m : Option Manifest) (bs : Option (List Binding)) (o : Contents) (ps : List Preference) → IsChangeOf s change → HasHoldersOfBefore s change → IsNextOutbox s.outbox o → preference_lists.IsSound ps
-          → ps ≡ changes_done (join_values m bs next.state) cs preferences_before → IsWholeChangeOf s (record { enrolment = change.enrolment; events = change.events; outbox = Some o; preferences = Some ps })
-      all_whole m bs o ps is have outbox_is preferences_are are_preferences =
+      pub all_whole : (m : Option Manifest) (bs : Option (List Binding)) (o : Contents) (after : Option NextPreferences) → IsChangeOf s change → HasHoldersOfBefore s change → IsNextOutbox s.outbox o → IsNextPreferencesIf s.preferences after
+          → preferences_or after s.preferences ≡ changes_done (join_values m bs next.state) cs preferences_before → IsWholeChangeOf s (record { enrolment = change.enrolment; events = change.events; outbox = Some o; preferences = after })
+      all_whole m bs o after is have outbox_is preferences_are are_preferences =
           let values = join_values m bs next.state in
-          let same : ps ≡ changes_done values told preferences_before =
+          let same : preferences_or after s.preferences ≡ changes_done values told preferences_before =
           are_preferences ∙ ap (λ (l : List Change). changes_done values l preferences_before) are ∙ done-again m bs next.state 0 told preferences_before
           in
           record {
             parts = record { enrolment = is.enrolment; events = is.events; outbox = outbox_is; preferences = preferences_are };
-            holders = subst (HaveHolders ps) (sym some) (subst (HaveEnrolledHolders next.state) (sym same) (holders_after s.enrolment next.state values preferences_before have));
+            holders = subst (HaveHolders (preferences_or after s.preferences)) (sym some) (subst (HaveEnrolledHolders next.state) (sym same) (holders_after s.enrolment next.state values preferences_before have));
           }
 
       -- whether their numbers are spent

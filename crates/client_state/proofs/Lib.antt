@@ -14,5 +14,6 @@ pub mod Ended
 pub mod HoldersAfter
 pub mod PartChanges
 pub mod EventParts
+mod PreferenceParts
 pub mod Followed
 pub mod EnrolledHolders

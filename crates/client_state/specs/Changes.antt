@@ -10,6 +10,7 @@ use Rattle.change_outbox.specs.Contents as contents
 use Rattle.change_outbox.specs.Contents.{Contents, IsMadeOf}
 use Rattle.pref_bindings.specs.Changes.{set_by_user}
 use Rattle.pref_bindings.specs.Preferences as preference_lists
+use Rattle.pref_bindings.specs.declared.next_preferences.NextPreferences.{NextPreferences}
 use Rattle.pref_bindings.specs.declared.preference.Preference.{Preference}
 use Rattle.sequences.specs.ListParts.{IsPart}
 use Rattle.state_codec.specs.RecipeLists.{HasLists}
@@ -56,13 +57,18 @@ abbrev pub events_after : Option NextEvents → List NameCounts → List NameCou
 events_after None ns = ns
 events_after (Some next) ns = next.counts
 
+-- the next preferences, or those of before
+abbrev pub preferences_or : Option NextPreferences → List Preference → List Preference
+preferences_or None ps = ps
+preferences_or (Some next) ps = next.preferences
+
 -- the state with the parts that the change has
 abbrev pub state_after : StateChange → ClientState → ClientState
 state_after change s = record {
   enrolment = enrolment_after change.enrolment s.enrolment;
   events = events_after change.events s.events;
   outbox = unwrap_or change.outbox s.outbox;
-  preferences = unwrap_or change.preferences s.preferences;
+  preferences = preferences_or change.preferences s.preferences;
 }
 
 -- the state where the user sets the value of a preference, or takes it away
@@ -98,20 +104,25 @@ abbrev pub IsNextOutboxIf : Contents → Option Contents → Type 0
 IsNextOutboxIf o None = ⊤
 IsNextOutboxIf o (Some next) = IsNextOutbox o next
 
-abbrev pub ArePreferencesIf : Option (List Preference) → Type 0
-ArePreferencesIf None = ⊤
-ArePreferencesIf (Some ps) = preference_lists.IsSound ps
+-- a client can have the next preferences, and they are those of before but for the part
+pub record IsNextPreferences (ps : List Preference) (next : NextPreferences) : Type 0 where
+  pub sound : preference_lists.IsSound next.preferences
+  pub part : IsPart next.part ps next.preferences
+
+abbrev pub IsNextPreferencesIf : List Preference → Option NextPreferences → Type 0
+IsNextPreferencesIf ps None = ⊤
+IsNextPreferencesIf ps (Some next) = IsNextPreferences ps next
 
 -- the change is one of the state: each part that it has can be a client's
 pub record IsChangeOf (s : ClientState) (change : StateChange) : Type 0 where
   pub enrolment : IsNextIf s.enrolment change.enrolment
   pub events : IsNextEventsIf s.events change.events
   pub outbox : IsNextOutboxIf s.outbox change.outbox
-  pub preferences : ArePreferencesIf change.preferences
+  pub preferences : IsNextPreferencesIf s.preferences change.preferences
 
 -- before the enrolment changes, the client takes part in the recipes that hold preferences after the change
 abbrev pub HasHoldersOfBefore : ClientState → StateChange → Type 0
-HasHoldersOfBefore s change = HaveEnrolledHolders s.enrolment (unwrap_or change.preferences s.preferences)
+HasHoldersOfBefore s change = HaveEnrolledHolders s.enrolment (preferences_or change.preferences s.preferences)
 
 -- the change is one of the state, with all that follows it: the client takes part in the recipes that hold preferences
 pub record IsWholeChangeOf (s : ClientState) (change : StateChange) : Type 0 where

@@ -10,8 +10,9 @@ ghost use Rattle.state_codec.specs.Encoding.{first_rows, later_rows};
 ghost use Rattle.event_counts.specs.Rows as count_rows;
 ghost use Rattle.event_counts.specs.Sound as counts;
 ghost use Rattle.change_outbox.specs.Rows as change_rows;
+ghost use Rattle.pref_bindings.specs.Preferences as preferences;
 ghost use Rattle.pref_bindings.specs.Rows.{hold_rows, value_rows};
-ghost use Rattle.client_state.specs.Changes.{IsNextEvents, IsNextEventsIf, IsNextIf, IsNextOutboxIf, IsWholeChangeOf, enrolment_after, events_after, state_after};
+ghost use Rattle.client_state.specs.Changes.{IsNextEvents, IsNextEventsIf, IsNextIf, IsNextOutboxIf, IsNextPreferences, IsNextPreferencesIf, IsWholeChangeOf, enrolment_after, events_after, preferences_or, state_after};
 ghost use Rattle.client_state.specs.Sound.{IsConsistent};
 ghost use Rattle.client_state.specs.Encoding.{rows_of, encoding};
 
@@ -21,7 +22,7 @@ use crate::state_change::{NextEnrolment, NextEvents, StateChange};
 use change_outbox::Outbox;
 use enrol_states::State;
 use event_counts::Counts;
-use pref_bindings::Prefs;
+use pref_bindings::{NextPreferences, Prefs};
 use row_batches::{Batch, RowChange};
 use sequences::Sequence;
 use state_codec::{first_changes, later_changes};
@@ -42,7 +43,7 @@ pub fn whole_batch(alloc: Global, state: &ClientState) -> Result<Batch, AllocErr
 
 /// The batch from the rows of a state to those that it has after a change: a put for each row that is new or differs, a delete for
 /// each that is gone, and nothing else. A row is made only where it changes. Parts that the change doesn't have aren't looked at,
-/// and of the enrolment and the events no list, or part of one, that is said to be as before.
+/// and of the enrolment, the events and the preferences no list, or part of one, that is said to be as before.
 #[tactic(auto, using(crate::proofs::Changed::change_consistent, crate::proofs::Changed::gives_rows, crate::proofs::Changed::gives_whole, crate::proofs::Changed::is_short))]
 pub fn changes_to(
     alloc: Global,
@@ -130,8 +131,7 @@ fn next_event_changes(
     requires next { IsNextEvents old.now next.now }
     ensures { IfOk result (λ changes. changes ≡ changes_between (count_rows.rows_of old.now) (count_rows.rows_of next.now.counts)) }
 {
-    let part = next.part;
-    old.changes_in(alloc, &next.counts, part.start, part.removed, part.added)
+    old.changes_in(alloc, &next.counts, next.part)
 }
 
 // The changes of the outbox's rows.
@@ -155,16 +155,44 @@ fn outbox_changes(
 fn preference_changes(
     alloc: Global,
     old: &Prefs,
-    next: &Option<Prefs>,
+    next: &Option<NextPreferences>,
 ) -> Result<(Sequence<RowChange>, Sequence<RowChange>), AllocError>
-    ensures holds { IfOk result (λ changes. changes.0 ≡ changes_between (hold_rows old.now) (hold_rows (unwrap_or next.now old.now))) }
-    ensures values { IfOk result (λ changes. changes.1 ≡ changes_between (value_rows old.now) (value_rows (unwrap_or next.now old.now))) }
+    requires old_preferences { preferences.IsSound old.now }
+    requires next { IsNextPreferencesIf old.now next.now }
+    ensures holds { IfOk result (λ changes. changes.0 ≡ changes_between (hold_rows old.now) (hold_rows (preferences_or next.now old.now))) }
+    ensures values { IfOk result (λ changes. changes.1 ≡ changes_between (value_rows old.now) (value_rows (preferences_or next.now old.now))) }
 {
     match next {
         Some(next) => Ok((
-            old.hold_changes_to(alloc, next)?,
-            old.value_changes_to(alloc, next)?,
+            hold_changes(alloc, old, next)?,
+            value_changes(alloc, old, next)?,
         )),
         None => Ok((Sequence::new(alloc), Sequence::new(alloc))),
     }
+}
+
+// The changes to the next rows of holds. Of the preferences the part alone is looked at that may differ.
+fn hold_changes(
+    alloc: Global,
+    old: &Prefs,
+    next: &NextPreferences,
+) -> Result<Sequence<RowChange>, AllocError>
+    requires old_preferences { preferences.IsSound old.now }
+    requires next { IsNextPreferences old.now next.now }
+    ensures { IfOk result (λ changes. changes ≡ changes_between (hold_rows old.now) (hold_rows next.now.preferences)) }
+{
+    old.hold_changes_in(alloc, &next.preferences, next.part)
+}
+
+// The changes to the next rows of values. Of the preferences the part alone is looked at that may differ.
+fn value_changes(
+    alloc: Global,
+    old: &Prefs,
+    next: &NextPreferences,
+) -> Result<Sequence<RowChange>, AllocError>
+    requires old_preferences { preferences.IsSound old.now }
+    requires next { IsNextPreferences old.now next.now }
+    ensures { IfOk result (λ changes. changes ≡ changes_between (value_rows old.now) (value_rows next.now.preferences)) }
+{
+    old.value_changes_in(alloc, &next.preferences, next.part)
 }

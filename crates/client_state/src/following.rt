@@ -4,7 +4,7 @@ ghost use Rattle.std.specs.Option.{unwrap_or};
 ghost use Rattle.enrol_states.specs.Consistent as states;
 ghost use Rattle.change_outbox.specs.Contents as contents;
 ghost use Rattle.change_outbox.specs.Contents.{Contents, IsMadeOf, appended, last_number, numbered};
-ghost use Rattle.client_state.specs.Changes.{HasHoldersOfBefore, IsChangeOf, IsNext, IsNextOutbox, IsNextOutboxIf, IsWholeChangeOf, state_after};
+ghost use Rattle.client_state.specs.Changes.{HasHoldersOfBefore, IsChangeOf, IsNext, IsNextOutbox, IsNextOutboxIf, IsNextPreferencesIf, IsWholeChangeOf, preferences_or, state_after};
 ghost use Rattle.client_state.specs.Following.{changes_from, followed, spends};
 ghost use Rattle.client_state.specs.Sound.{IsConsistent};
 
@@ -14,7 +14,7 @@ use crate::state_change::{NextEnrolment, StateChange};
 use change_outbox::{AppendChangesFault, Change, Outbox, changes_of};
 use enrol_states::State;
 use fml_types::Manifest;
-use pref_bindings::Bindings;
+use pref_bindings::{Bindings, NextPreferences, Prefs};
 use sequences::Sequence;
 use std::alloc::{AllocError, Global};
 
@@ -52,16 +52,17 @@ pub fn follow(
         manifest,
         bindings,
     };
-    let preferences = changes_done(
+    let done = changes_done(
         alloc,
         &sources,
         changes.as_slice(),
         change.preferences_or(&state.preferences),
     )?;
+    let preferences = next_preferences(&state.preferences, change.preferences, done);
     let outbox = next_outbox(&mut state.outbox, change.outbox, changes)?;
     Ok(StateChange {
         outbox: Some(outbox),
-        preferences: Some(preferences),
+        preferences,
         ..change
     })
 }
@@ -82,6 +83,22 @@ fn enrolment_changes(
         part.of_old(old.rows.as_slice()),
         part.of_new(next.state.rows.as_slice()),
     )
+}
+
+// The preferences that the changes left, which may differ in the whole list, or else the next ones of before the changes.
+fn next_preferences(
+    before: &Prefs,
+    next: Option<NextPreferences>,
+    done: Option<Prefs>,
+) -> Option<NextPreferences>
+    requires { IsNextPreferencesIf before.now next }
+    ensures preferences { preferences_or result before.now ≡ unwrap_or done (preferences_or next before.now) }
+    ensures next { IsNextPreferencesIf before.now result }
+{
+    match done {
+        Some(done) => Some(NextPreferences::whole(before, done)),
+        None => next,
+    }
 }
 
 // The next outbox, or else that of before, with the changes. That of before is lent, and stays the same.

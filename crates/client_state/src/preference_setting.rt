@@ -1,15 +1,14 @@
 // What the user sets of the preferences.
 ghost use Rattle.std.specs.Prelude.{◌≡◌, ⊤, IfOk, IsTrue, MatchOption, None, option_map};
-ghost use Rattle.std.specs.Option.{unwrap_or};
 ghost use Rattle.plain_text.specs.Names.{is_name};
 ghost use Rattle.pref_bindings.specs.Changes.{set_by_user};
 ghost use Rattle.pref_bindings.specs.Preferences.{IsValue, holder_of};
-ghost use Rattle.client_state.specs.Changes.{IsWholeChangeOf, state_after, with_users_value};
+ghost use Rattle.client_state.specs.Changes.{IsNextPreferences, IsNextPreferencesIf, IsWholeChangeOf, preferences_or, state_after, with_users_value};
 
 use crate::client_state::ClientState;
 use crate::state_change::StateChange;
 use json_tree::Tree;
-use pref_bindings::Prefs;
+use pref_bindings::{NextPreferences, Prefs};
 use sequences::Text;
 use std::alloc::AllocError;
 
@@ -31,7 +30,6 @@ pub fn set_preference(
     ensures change { IfOk result (IsWholeChangeOf state.old) }
 {
     let preferences = preferences_set(&mut state.preferences, change.preferences, name, value)?;
-    preferences.as_slice();
     Ok(StateChange {
         preferences: Some(preferences),
         ..change
@@ -39,21 +37,25 @@ pub fn set_preference(
 }
 
 // The next preferences, or else those of before, where the user has set this one or taken its value away. Those of before are lent,
-// and stay the same.
+// and stay the same. They differ in this one alone, or else where there are next ones already the whole list is the part.
 fn preferences_set(
     before: &mut Prefs,
-    next: Option<Prefs>,
+    next: Option<NextPreferences>,
     name: &Text,
     value: Option<&Tree>,
-) -> Result<Prefs, AllocError>
-    requires free { holder_of name.now (unwrap_or next before.old) ≡ None }
+) -> Result<NextPreferences, AllocError>
+    requires free { holder_of name.now (preferences_or next before.old) ≡ None }
     requires name { IsTrue (is_name name.now) }
     requires value { MatchOption value ⊤ (λ v. IsValue v.now) }
     ensures same { before.new ≡ before.old }
-    ensures set { IfOk result (λ preferences. preferences ≡ set_by_user name.now (option_map (λ v. v.now) value.entry) (unwrap_or next before.old)) }
+    ensures set { IfOk result (λ set. set.preferences ≡ set_by_user name.now (option_map (λ v. v.now) value.entry) (preferences_or next before.old)) }
+    ensures next { IfOk result (IsNextPreferences before.old) }
 {
     match next {
-        Some(mut next) => next.user_set(name, value),
+        Some(mut next) => {
+            let set = next.preferences.user_set(name, value)?;
+            Ok(NextPreferences::whole(before, set.preferences))
+        }
         None => before.user_set(name, value),
     }
 }

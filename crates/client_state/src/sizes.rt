@@ -9,7 +9,7 @@ ghost use Rattle.change_outbox.specs.Contents.{Contents};
 ghost use Rattle.change_outbox.specs.Rows as change_rows;
 ghost use Rattle.pref_bindings.specs.Rows as preference_rows;
 ghost use Rattle.pref_bindings.specs.declared.preference.Preference.{Preference};
-ghost use Rattle.client_state.specs.Changes.{IsNextEvents, IsNextEventsIf, IsNextIf, IsWholeChangeOf, enrolment_after, events_after, state_after};
+ghost use Rattle.client_state.specs.Changes.{IsNextEvents, IsNextEventsIf, IsNextIf, IsWholeChangeOf, enrolment_after, events_after, preferences_or, state_after};
 ghost use Rattle.client_state.specs.Sizes.{IsSizeOf};
 ghost use Rattle.client_state.specs.Sound.{IsConsistent, IsSound, HaveRecords};
 
@@ -18,7 +18,7 @@ use crate::state_change::{NextEnrolment, NextEvents, StateChange};
 use change_outbox::Outbox;
 use enrol_states::State;
 use event_counts::Counts;
-use pref_bindings::Prefs;
+use pref_bindings::NextPreferences;
 use state_codec::StateSizes;
 
 /// How many bytes a client's state is encoded in, and how many of them its parts take.
@@ -120,9 +120,8 @@ fn next_events_size(before: u128, old: &Counts, next: &NextEvents) -> u128
     ensures size { result ≡ length (puts_text (count_rows.rows_of next.now.counts)) }
     ensures bound { result ≤ 2 ^ 100 }
 {
-    let part = next.part;
-    let removed = old.size_in(part.start, part.removed);
-    let added = next.counts.size_in(part.start, part.added);
+    let removed = old.size_of_old(next.part);
+    let added = next.counts.size_of_new(next.part);
     before - removed + added
 }
 
@@ -139,13 +138,13 @@ fn outbox_after(before: u128, next: &Option<Outbox>) -> u128
 }
 
 // The size of the next preferences' rows, or that of before.
-fn preferences_after(before: u128, next: &Option<Prefs>) -> u128
+fn preferences_after(before: u128, next: &Option<NextPreferences>) -> u128
     requires { before ≤ 2 ^ 100 }
-    ensures size { (old : List Preference) → before ≡ length (puts_text (preference_rows.rows_of old)) → result ≡ length (puts_text (preference_rows.rows_of (unwrap_or next.now old))) }
+    ensures size { (old : List Preference) → before ≡ length (puts_text (preference_rows.rows_of old)) → result ≡ length (puts_text (preference_rows.rows_of (preferences_or next.now old))) }
     ensures bound { result ≤ 2 ^ 100 }
 {
     match next {
-        Some(next) => next.size(),
+        Some(next) => next.preferences.size(),
         None => before,
     }
 }

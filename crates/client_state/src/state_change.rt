@@ -1,12 +1,11 @@
 // What a command makes of a client's state.
 ghost use Rattle.std.specs.Prelude.{◌≡◌};
-ghost use Rattle.std.specs.Option.{unwrap_or};
-ghost use Rattle.client_state.specs.Changes.{enrolment_after, events_after, no_change, of_both, of_enrolment, of_events, of_outbox};
+ghost use Rattle.client_state.specs.Changes.{enrolment_after, events_after, no_change, of_both, of_enrolment, of_events, of_outbox, preferences_or};
 
 use change_outbox::Outbox;
 use enrol_states::State;
 use event_counts::Counts;
-use pref_bindings::Prefs;
+use pref_bindings::{NextPreferences, Prefs};
 use sequences::ListPart;
 use state_codec::RecipeLists;
 
@@ -16,7 +15,7 @@ pub struct StateChange {
     pub enrolment: Option<NextEnrolment>,
     pub events: Option<NextEvents>,
     pub outbox: Option<Outbox>,
-    pub preferences: Option<Prefs>,
+    pub preferences: Option<NextPreferences>,
 }
 
 /// The next enrolment, and which of its lists are those of before.
@@ -113,10 +112,10 @@ impl StateChange {
 
     /// The next preferences, or those of before.
     pub(crate) fn preferences_or<'a>(&'a self, before: &'a Prefs) -> &'a Prefs
-        ensures { result.now ≡ unwrap_or self.now.preferences before.now }
+        ensures { result.now ≡ preferences_or self.now.preferences before.now }
     {
         match &self.preferences {
-            Some(preferences) => preferences,
+            Some(next) => &next.preferences,
             None => before,
         }
     }

@@ -1,8 +1,10 @@
 -- The changes of enrolments are numbered, and both the outbox and the preferences follow them.
-use Rattle.std.proofs.Common.{List, ap₂, ◌∙◌}
+use Rattle.std.proofs.Common.{◌≡◌, List, ap, ◌∙◌, subst}
 use Rattle.std.specs.Prelude.{option_map}
+use Rattle.std.specs.Option.{unwrap_or}
 use Rattle.change_outbox.specs.declared.change.Change.{Change}
 use Rattle.pref_bindings.specs.declared.preference.Preference.{Preference}
+use Rattle.client_state.specs.Changes.{preferences_or}
 use Rattle.client_state.specs.Following.{changes_done, join_values}
 use Rattle.client_state.proofs.Followed.{all_followed}
 use Rattle.client_state.proofs.following.follow.Goals as goal
@@ -13,7 +15,8 @@ returns-clause-followed c =
     let next = c.in-Some.next in
     let manifest = option_map (λ m. m.now) c.args.manifest in
     let bindings = option_map (λ b. b.now) c.args.bindings in
-    let preferences =
-    c.in_ok-preferences.ensures.preferences ∙ ap₂ (λ (cs : List Change) (ps : List Preference). changes_done (join_values manifest bindings next.state) cs ps) c.as_slice.ensures c.preferences_or.ensures
-    in
-    all_followed s c.args.change next c.in-Some.is c.in_ok-changes.changes c.in_ok-changes.ensures manifest bindings c.in_ok-outbox.outbox c.in_ok-preferences.preferences c.in_ok-outbox.ensures.outbox preferences
+    let values = join_values manifest bindings next.state in
+    let before : List Preference = preferences_or c.args.change.preferences s.preferences in
+    let done = subst (λ (ps : List Preference). unwrap_or c.in_ok-done.done ps ≡ changes_done values c.as_slice.result.now ps) c.preferences_or.ensures c.in_ok-done.ensures in
+    let preferences = c.next_preferences-preferences.ensures.preferences ∙ done ∙ ap (λ (cs : List Change). changes_done values cs before) c.as_slice.ensures in
+    all_followed s c.args.change next c.in-Some.is c.in_ok-changes.changes c.in_ok-changes.ensures manifest bindings c.in_ok-outbox.outbox c.next_preferences-preferences.result c.in_ok-outbox.ensures.outbox preferences
