@@ -1,11 +1,12 @@
 -- Nobody holds a preference whose holder's enrolment ends.
 use Rattle.std.proofs.Common.{◌≡◌, ℕ, List, Some, None, Result, Ok, Err, ap, ◌∙◌}
 use Rattle.std.specs.Prelude.{IfOk}
+use Rattle.enrol_states.specs.Commands.{enrolment_ended}
 use Rattle.enrol_states.specs.declared.state.State.{State}
 use Rattle.pref_bindings.specs.Preferences.{holder_of}
 use Rattle.state_codec.specs.declared.recipe_lists.RecipeLists.{RecipeLists}
 use Rattle.client_state.specs.Changes.{of_enrolment, state_after}
-use Rattle.client_state.specs.Following.{enrolment_ended, followed, join_values}
+use Rattle.client_state.specs.Following.{followed, join_values}
 use Rattle.client_state.specs.Sound.{IsConsistent}
 use Rattle.client_state.specs.declared.client_state.ClientState.{ClientState}
 use Rattle.client_state.specs.declared.state_change.StateChange.{StateChange}

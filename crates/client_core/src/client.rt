@@ -19,7 +19,6 @@ use change_outbox::Outbox;
 use client_state::ClientState;
 use client_steps::{Session, SessionChange};
 use client_store::{Change, StateStore};
-use enrol_states::State;
 use event_counts::Counts;
 use host_model::{DiskFailed, Host};
 use pref_bindings::Prefs;
@@ -69,14 +68,6 @@ impl Client {
         ensures consistent { IsConsistent (state_of self.now) }
     {
         &self.state().preferences
-    }
-
-    /// The enrolment. It takes no memory.
-    pub(crate) fn enrolment(&self) -> &State
-        ensures enrolment { result.now ≡ (state_of self.now).enrolment }
-        ensures consistent { IsConsistent (state_of self.now) }
-    {
-        &self.state().enrolment
     }
 
     /// Takes a prepared step over: the changed rows are written, where there are some. It takes no memory, and makes no call

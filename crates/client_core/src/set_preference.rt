@@ -1,6 +1,9 @@
 // `set-pref` and `clear-pref`: the user sets the value of a preference, or takes it away.
 ghost use Rattle.std.specs.Prelude.{◌≡◌, ⊤, IfOk, IsErrOf, IsTrue, MatchOption, None, option_map};
 ghost use Rattle.plain_text.specs.Names.{is_name};
+ghost use Rattle.enrol_states.specs.Commands.{enrolment_ended};
+ghost use Rattle.enrol_states.specs.Consistent as states;
+ghost use Rattle.enrol_states.specs.NextStates.{HasParts};
 ghost use Rattle.pref_bindings.specs.Preferences.{IsValue, holder_of};
 ghost use Rattle.client_state.specs.Changes.{IsWholeChangeOf, state_after};
 ghost use Rattle.client_words.specs.declared.answer.Answer.TheVariants.{Okay, ChangesSpent};
@@ -9,12 +12,13 @@ ghost use Rattle.client_steps.specs.Steps.{Accepted, Refused, preferring, releas
 
 use crate::client::Client;
 use change_outbox::AppendChangesFault;
-use client_state::{StateChange, end_enrolment};
+use client_state::StateChange;
 use client_steps::Asked;
 use client_words::Answer;
+use enrol_states::{NextState, end_enrolment};
 use json_tree::Tree;
+use plain_text::Slug;
 use sequences::Text;
-use state_codec::RecipeLists;
 use std::alloc::{AllocError, Global};
 
 impl Client {
@@ -60,8 +64,21 @@ impl Client {
         let Some(holder) = self.prefs().holder(name.as_str()) else {
             return Ok(StateChange::none());
         };
-        let enrolment = end_enrolment(alloc, self.enrolment(), holder)?;
-        let change = StateChange::of_enrolment(enrolment, RecipeLists::AsBefore);
+        let slug = holder.clone()?;
+        let ended = self.ended(&slug)?;
+        let change = StateChange::of_next_state(ended);
         self.followed(alloc, change)
+    }
+
+    // The enrolment in which that of the slug has ended. The state is lent to that, and stays the same.
+    fn ended(&mut self, slug: &Slug) -> Result<NextState, AllocError>
+        ensures same { self.new ≡ self.old }
+        ensures state { IfOk result (λ next. next.state ≡ enrolment_ended slug.now (state_of self.old).enrolment) }
+        ensures parts { IfOk result (HasParts (state_of self.old).enrolment) }
+        ensures consistent { IfOk result (λ next. states.IsConsistent next.state) }
+    {
+        self.state();
+        self.store
+            .lend(|state| end_enrolment(&mut state.enrolment, slug))
     }
 }

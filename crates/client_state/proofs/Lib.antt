@@ -10,7 +10,7 @@ pub mod OneState
 pub mod Empty
 pub mod Changed
 pub mod Migrating
-pub mod Ended
+pub mod NextStates
 pub mod HoldersAfter
 pub mod PartChanges
 pub mod EventParts

@@ -3,6 +3,7 @@ use Rattle.std.specs.Prelude.{ℕ, List, Option, Some, None, ⊤}
 use Rattle.std.specs.Option.{unwrap_or}
 use Rattle.json_tree.specs.declared.tree.Tree.{Tree}
 use Rattle.enrol_states.specs.Consistent as states
+use Rattle.enrol_states.specs.declared.next_state.NextState.{NextState}
 use Rattle.enrol_states.specs.declared.state.State.{State}
 use Rattle.event_counts.specs.Sound as counts
 use Rattle.event_counts.specs.declared.name_counts.NameCounts.{NameCounts}
@@ -16,6 +17,7 @@ use Rattle.sequences.specs.ListParts.{IsPart}
 use Rattle.state_codec.specs.RecipeLists.{HasLists}
 use Rattle.sequences.specs.declared.list_part.ListPart.{ListPart}
 use Rattle.state_codec.specs.declared.recipe_lists.RecipeLists.{RecipeLists}
+use Rattle.state_codec.specs.declared.recipe_lists.RecipeLists.TheVariants.{AllBut}
 use Rattle.client_state.specs.Sound.{HaveEnrolledHolders}
 use Rattle.client_state.specs.declared.client_state.ClientState.{ClientState}
 use Rattle.client_state.specs.declared.state_change.NextEnrolment.{NextEnrolment}
@@ -35,6 +37,10 @@ no_change = record { enrolment = None; events = None; outbox = None; preferences
 
 abbrev pub of_enrolment : State → RecipeLists → StateChange
 of_enrolment e recipes = record { enrolment = Some (next_of e recipes); events = None; outbox = None; preferences = None }
+
+-- the lists of the enrolment are those of before but for its parts
+abbrev pub of_next_state : NextState → StateChange
+of_next_state next = of_enrolment next.state (AllBut next.opted_out next.rows)
 
 abbrev pub of_events : List NameCounts → ListPart → StateChange
 of_events ns part = record { enrolment = None; events = Some (next_events ns part); outbox = None; preferences = None }

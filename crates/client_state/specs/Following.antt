@@ -1,10 +1,9 @@
 -- What follows a change of the enrolment: the outbox gets the changes of enrolments, and the preferences do their leaves and then their
 -- joins.
-use Rattle.std.specs.Prelude.{◌+◌, ℕ, Bool, false, nat_lt, List, [], ◌∷◌, length, map, Option, None, Some}
+use Rattle.std.specs.Prelude.{◌+◌, ℕ, Bool, false, nat_lt, List, [], ◌∷◌, length, Option, None, Some}
 use Rattle.std.specs.Option.{unwrap_or}
 use Rattle.recipe_reader.specs.Payloads.{recipe_with}
 use Rattle.recipe_reader.specs.declared.recipe.Recipe.{Recipe}
-use Rattle.enrol_states.specs.Commands.{opted_out_of}
 use Rattle.enrol_states.specs.declared.state.State.{State}
 use Rattle.fml_types.specs.declared.manifest.Manifest.{Manifest}
 use Rattle.change_outbox.specs.Changes.{changes_between}
@@ -20,12 +19,6 @@ use Rattle.client_state.specs.Changes.{state_after}
 use Rattle.client_state.specs.declared.client_state.ClientState.{ClientState}
 use Rattle.client_state.specs.declared.state_change.NextEnrolment.{NextEnrolment}
 use Rattle.client_state.specs.declared.state_change.StateChange.{StateChange}
-
--- ---- the end of an enrolment
-
--- the client takes part in the slug's recipe no more: its enrolment ends as an opt-out. The slug isn't opted out
-abbrev pub enrolment_ended : List ℕ → State → State
-enrolment_ended slug e = record e { rows = map (opted_out_of slug) e.rows }
 
 -- ---- the outbox
 

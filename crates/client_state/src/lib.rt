@@ -5,7 +5,6 @@
 
 mod changes;
 mod client_state;
-mod ending;
 mod following;
 mod holders;
 mod laws;
@@ -20,7 +19,6 @@ mod state_change;
 
 pub use changes::{changes_to, whole_batch};
 pub use client_state::ClientState;
-pub use ending::end_enrolment;
 pub use following::follow;
 pub use laws::{empty_parts, one_encoding, one_state};
 pub use old_form::{migration, needs_migration};

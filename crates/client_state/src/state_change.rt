@@ -1,9 +1,9 @@
 // What a command makes of a client's state.
 ghost use Rattle.std.specs.Prelude.{◌≡◌};
-ghost use Rattle.client_state.specs.Changes.{enrolment_after, events_after, no_change, of_both, of_enrolment, of_events, of_outbox, preferences_or};
+ghost use Rattle.client_state.specs.Changes.{enrolment_after, events_after, no_change, of_both, of_enrolment, of_events, of_next_state, of_outbox, preferences_or};
 
 use change_outbox::Outbox;
-use enrol_states::State;
+use enrol_states::{NextState, State};
 use event_counts::Counts;
 use pref_bindings::{NextPreferences, Prefs};
 use sequences::ListPart;
@@ -53,6 +53,18 @@ impl StateChange {
             enrolment: Some(NextEnrolment { state, recipes }),
             ..StateChange::none()
         }
+    }
+
+    /// A change to this enrolment, of which the lists are as before but for its parts. It takes no memory.
+    pub fn of_next_state(next: NextState) -> StateChange
+        ensures { result ≡ of_next_state next }
+    {
+        let NextState {
+            state,
+            opted_out,
+            rows,
+        } = next;
+        StateChange::of_enrolment(state, RecipeLists::AllBut { opted_out, rows })
     }
 
     /// A change to these counts, of which the names are as before but for the part. It takes no memory.

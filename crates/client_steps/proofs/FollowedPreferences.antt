@@ -6,7 +6,7 @@ use Rattle.std.specs.List.{AllByRecursion, flat_map}
 use Rattle.std.specs.List.Sorted.{IsStrictlySortedBy}
 use Rattle.json_tree.specs.declared.tree.Tree.{Tree}
 use Rattle.plain_text.specs.Names.{is_name}
-use Rattle.enrol_states.specs.Commands.{opted_out, opted_out_of}
+use Rattle.enrol_states.specs.Commands.{opted_out, opted_out_of, enrolment_ended}
 use Rattle.enrol_states.specs.Order.{Rise, AreAbove}
 use Rattle.enrol_states.specs.State.{status_of}
 use Rattle.enrol_states.specs.Statuses.{IsSlug, enrolled_branch}
@@ -26,7 +26,7 @@ use Rattle.pref_bindings.specs.declared.preference.Preference.{Preference}
 use Rattle.pref_bindings.proofs.Parts.{restored_most, rise_parts}
 use Rattle.pref_bindings.proofs.Sound.{rise_one, rise_with, rise_without, sound_joined, sound_left, sound_with, sound_without}
 use Rattle.pref_bindings.proofs.UserMaps.{join_keeps, leave_keeps}
-use Rattle.client_state.specs.Following.{changes_done, changes_from, enrolment_ended, join_done, join_values, joins_done, leave_done, leaves_done}
+use Rattle.client_state.specs.Following.{changes_done, changes_from, join_done, join_values, joins_done, leave_done, leaves_done}
 use Rattle.client_state.specs.Sound.{HasEnrolledHolder, HaveEnrolledHolders, IsEnrolled}
 use Rattle.client_steps.specs.declared.session.Session.{Session}
 use Rattle.client_steps.specs.Steps.{preferences_with}

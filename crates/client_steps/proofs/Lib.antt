@@ -25,4 +25,3 @@ mod Trees
 mod SoundValues
 pub mod WrittenManifests
 pub mod AskedFiles
-mod SlugLists

@@ -2,6 +2,7 @@
 use Rattle.std.proofs.Common.{◌≡◌, ℕ, Bool, true, false, List, [], length, Option, Some, None, refl, sym, ap, ◌∙◌, subst}
 use Rattle.std.specs.Prelude.{nat_lt, if◌then◌else◌}
 use Rattle.json_tree.specs.declared.tree.Tree.{Tree}
+use Rattle.enrol_states.specs.Commands.{enrolment_ended}
 use Rattle.enrol_states.specs.Order.{Rise}
 use Rattle.enrol_states.specs.declared.state.State.{State}
 use Rattle.pref_bindings.specs.Changes.{set_by_user, user_map}
@@ -9,7 +10,7 @@ use Rattle.pref_bindings.specs.Preferences.{holder_of, names_of}
 use Rattle.pref_bindings.specs.declared.preference.Preference.{Preference}
 use Rattle.pref_bindings.proofs.UserMaps.{sets_own}
 use Rattle.client_state.specs.Changes.{with_users_value}
-use Rattle.client_state.specs.Following.{changes_from, enrolment_ended, join_values}
+use Rattle.client_state.specs.Following.{changes_from, join_values}
 use Rattle.client_state.specs.Sound.{max_size, HaveEnrolledHolders}
 use Rattle.client_state.specs.Encoding.{encoding}
 use Rattle.client_state.specs.declared.client_state.ClientState.{ClientState}

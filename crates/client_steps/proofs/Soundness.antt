@@ -19,7 +19,7 @@ use Rattle.event_counts.specs.Sound as counts
 use Rattle.event_counts.specs.declared.name_counts.NameCounts.{NameCounts}
 use Rattle.event_counts.proofs.Soundness.{sound_none}
 use Rattle.client_state.specs.declared.client_state.ClientState.{ClientState}
-use Rattle.enrol_states.specs.Commands.{after_opt_out}
+use Rattle.enrol_states.specs.Commands.{after_opt_out, enrolment_ended}
 use Rattle.enrol_states.specs.Consistent as states
 use Rattle.enrol_states.specs.Participation.{takes_part}
 use Rattle.enrol_states.specs.Recipes.{has_branch}
@@ -28,10 +28,9 @@ use Rattle.enrol_states.proofs.Enrolments as enrolments
 use Rattle.enrol_states.proofs.Fresh.{reset-consistent}
 use Rattle.enrol_states.proofs.OptOuts as opt_outs
 use Rattle.enrol_states.proofs.Participations as participations
-use Rattle.client_state.specs.Following.{changes_from, enrolment_ended, join_values}
+use Rattle.client_state.specs.Following.{changes_from, join_values}
 use Rattle.client_state.specs.Sound.{max_size, HaveEnrolledHolders, HaveRecords, IsConsistent, IsSound}
 use Rattle.client_state.specs.Encoding.{encoding}
-use Rattle.client_state.proofs.Ended.{ended_is_consistent}
 use Rattle.client_state.proofs.HoldersAfter.{holders_after, holders_set}
 use Rattle.fml_types.specs.Coenrolling.{coenrolling}
 use Rattle.fml_types.specs.declared.manifest.Manifest.{Manifest}
@@ -123,7 +122,7 @@ module _ (at : Setting) (s : ClientState) (session : Session) (c : HasConsistent
   preferring-keeps name value =
       preferring_either Keeps s session name value tt (λ free. record { enrolment = c.enrolment; events = c.events; outbox = c.outbox })
       (λ holder held fits.
-      let ended = ended_is_consistent s.enrolment holder c.enrolment in
+      let ended = opt_outs.ended_is_consistent s.enrolment holder c.enrolment in
       record { enrolment = ended; events = c.events; outbox = appended_is_sound s.enrolment (enrolment_ended holder s.enrolment) s.outbox c.enrolment ended c.outbox fits })
 
   enrolment-keeps : (asked : EnrolmentOutcome) → KeepsEnrolment asked → HasConsistentParts (done s session (enrolling s session asked)).state

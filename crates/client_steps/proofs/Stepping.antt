@@ -2,13 +2,14 @@
 use Rattle.std.proofs.Common.{◌≡◌, ℕ, Bool, true, false, List, Option, None, Some, ap, refl}
 use Rattle.std.specs.Prelude.{if◌then◌else◌}
 use Rattle.recipe_reader.specs.declared.recipe.Recipe.{Recipe}
+use Rattle.enrol_states.specs.Commands.{enrolment_ended}
 use Rattle.enrol_states.specs.declared.state.State.{State}
 use Rattle.enrol_states.specs.Consistent.{IsConsistent, AreKept}
 use Rattle.event_counts.specs.declared.name_counts.NameCounts.{NameCounts}
 use Rattle.json_tree.specs.declared.tree.Tree.{Tree}
 use Rattle.pref_bindings.specs.Preferences.{holder_of}
 use Rattle.client_state.specs.Changes.{with_users_value}
-use Rattle.client_state.specs.Following.{enrolment_ended, is_spent}
+use Rattle.client_state.specs.Following.{is_spent}
 use Rattle.client_state.specs.declared.client_state.ClientState.{ClientState}
 use Rattle.client_words.specs.declared.answer.Answer.{Answer}
 use Rattle.client_words.specs.declared.answer.Answer.TheVariants.{ChangesSpent, Okay}

@@ -30,12 +30,12 @@ use Rattle.fml_imports.specs.Single.{single}
 use Rattle.fml_value.specs.Trees.{tree_of}
 use Rattle.fml_value.specs.Typed.{TypedValue}
 use Rattle.feature_serving.specs.Serving.{served}
-use Rattle.enrol_states.specs.Commands.{after_participate, after_opt_out, after_opt_in, after_reset}
+use Rattle.enrol_states.specs.Commands.{after_participate, after_opt_out, after_opt_in, after_reset, enrolment_ended}
 use Rattle.enrol_states.specs.Participation.{takes_part}
 use Rattle.enrol_states.specs.Recipes.{has_branch}
 use Rattle.enrol_states.specs.Statuses.{is_enrolled}
 use Rattle.client_state.specs.Changes.{with_users_value}
-use Rattle.client_state.specs.Following.{appended_changes, changes_done, changes_from, enrolment_ended, is_spent, join_values}
+use Rattle.client_state.specs.Following.{appended_changes, changes_done, changes_from, is_spent, join_values}
 use Rattle.client_state.specs.Encoding.{encoding}
 use Rattle.client_state.specs.Sound.{max_size}
 use Rattle.client_state.specs.declared.client_state.ClientState.{ClientState}

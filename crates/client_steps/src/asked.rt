@@ -1,11 +1,11 @@
 // What a command asks for.
 ghost use Rattle.std.specs.Prelude.{◌≡◌};
-ghost use Rattle.client_state.specs.Changes.{of_enrolment};
+ghost use Rattle.client_state.specs.Changes.{of_enrolment, of_next_state};
 
 use crate::session::SessionChange;
 use client_state::StateChange;
 use client_words::Answer;
-use enrol_states::State;
+use enrol_states::{NextState, State};
 use state_codec::RecipeLists;
 
 /// What a command asks for. What it leaves is known once the new state's size is.
@@ -38,6 +38,16 @@ impl Asked {
         Asked::NewState {
             change: StateChange::of_enrolment(enrolment, recipes),
             answer,
+        }
+    }
+
+    /// What a user chose: a new enrolment of which the lists are as before but for its parts, in the same session.
+    pub(crate) fn chosen(next: NextState) -> Asked
+        ensures { result ≡ Asked.NewState (of_next_state next) Answer.Okay }
+    {
+        Asked::NewState {
+            change: StateChange::of_next_state(next),
+            answer: Answer::Okay,
         }
     }
 

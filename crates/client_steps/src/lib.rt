@@ -23,7 +23,6 @@ mod preferences;
 mod reset;
 mod session;
 mod show;
-mod slug_lists;
 mod write_manifest;
 
 pub use apply::applying;

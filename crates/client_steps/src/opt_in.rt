@@ -6,7 +6,6 @@ ghost use Rattle.client_steps.specs.Asked.{asked_outcome, FollowsFrom};
 ghost use Rattle.client_steps.specs.Steps.{opting_in, enrolling};
 
 use crate::asked::Asked;
-use crate::slug_lists::opted_in_lists;
 use client_state::ClientState;
 use client_words::Answer;
 use enrol_states::{OptInFault, opt_in};
@@ -26,9 +25,8 @@ pub fn opting_in(
         ≡ enrolling state.old session (opting_in state.old.enrolment session slug.now branch.now)) }
     ensures follows { IfOk result (λ asked. FollowsFrom state.old asked) }
 {
-    let lists = opted_in_lists(&state.enrolment, slug);
     match opt_in(alloc, &mut state.enrolment, slug, branch) {
-        Ok(next) => Ok(Asked::enrolled(next, lists, Answer::Okay)),
+        Ok(next) => Ok(Asked::chosen(next)),
         Err(OptInFault::NoSuchExperiment) => Ok(Asked::Refused(Answer::NoSuchExperiment)),
         Err(OptInFault::NotParticipating) => Ok(Asked::Refused(Answer::NotParticipating)),
         Err(OptInFault::NoSuchBranch) => Ok(Asked::Refused(Answer::NoSuchBranch)),

@@ -6,7 +6,6 @@ ghost use Rattle.client_steps.specs.Asked.{asked_outcome, FollowsFrom};
 ghost use Rattle.client_steps.specs.Steps.{opting_out, enrolling};
 
 use crate::asked::Asked;
-use crate::slug_lists::opted_out_lists;
 use client_state::ClientState;
 use client_words::Answer;
 use enrol_states::{OptOutFault, opt_out};
@@ -21,9 +20,8 @@ pub fn opting_out(alloc: Global, state: &mut ClientState, slug: &Slug) -> Result
         ≡ enrolling state.old session (opting_out state.old.enrolment session slug.now)) }
     ensures follows { IfOk result (λ asked. FollowsFrom state.old asked) }
 {
-    let lists = opted_out_lists(&state.enrolment, slug);
     match opt_out(alloc, &mut state.enrolment, slug) {
-        Ok(next) => Ok(Asked::enrolled(next, lists, Answer::Okay)),
+        Ok(next) => Ok(Asked::chosen(next)),
         Err(OptOutFault::OptedOutLimit) => Ok(Asked::Refused(Answer::OptedOutLimit)),
         Err(OptOutFault::OutOfMemory) => Err(AllocError),
     }

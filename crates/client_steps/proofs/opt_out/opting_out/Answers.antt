@@ -1,14 +1,15 @@
 -- The slug is opted out.
-use Rattle.std.proofs.Common.{subst, sym}
+use Rattle.std.proofs.Common.{refl, subst, sym}
 use Rattle.enrol_states.specs.Commands.{after_opt_out}
-use Rattle.client_words.specs.declared.answer.Answer.TheVariants.{Okay}
+use Rattle.client_state.specs.Changes.{of_next_state}
+use Rattle.client_state.proofs.NextStates.{is_change}
 use Rattle.client_steps.specs.Asked.{FollowsFrom}
-use Rattle.client_steps.proofs.SlugLists.{enrolment_follows}
 use Rattle.client_steps.proofs.opt_out.opting_out.Goals as goal
 
 pub returns-in-Ok-clause-follows : goal.returns-in-Ok-clause-follows
 returns-in-Ok-clause-follows c =
     let s = c.args.state.now in
+    let next = c.in-Ok.next in
     let answered = c.in-Ok.ensures in
-    subst (FollowsFrom s) (sym c.enrolled.ensures)
-    (enrolment_follows s c.in-Ok.next (after_opt_out s.enrolment c.args.slug.now) c.opted_out_lists-lists.result Okay answered.consistent answered.answer.1 c.opted_out_lists-lists.ensures)
+    subst (FollowsFrom s) (sym c.chosen.ensures)
+    (is_change s next (after_opt_out s.enrolment c.args.slug.now) (of_next_state next) refl answered.answer.1 (record { live = refl; pending = refl }) answered.parts answered.consistent, refl)
