@@ -1,5 +1,5 @@
 -- What it takes to add a name to names in order, between those that are below it and those that are left.
-use Rattle.std.proofs.Common.{Ordering, ◌≡◌, ℕ, zero, suc, ◌-◌, ◌<◌, ◌≤◌, Bool, true, false, List, [], ◌∷◌, ◌++◌, length, get_or, take, drop, Less, Equal, Greater, Ok, Err, refl, sym, ap, ◌∙◌, subst, append_assoc, arith}
+use Rattle.std.proofs.Common.{Ordering, ◌≡◌, ℕ, zero, suc, ◌+◌, ◌-◌, ◌<◌, ◌≤◌, Bool, true, false, List, [], ◌∷◌, ◌++◌, length, get_or, take, drop, Less, Equal, Greater, Result, Ok, Err, refl, sym, ap, ◌∙◌, subst, append_assoc, arith}
 use Rattle.std.specs.Prelude.{◌||◌, bytes_eq, if◌then◌else◌}
 use Rattle.std.specs.Cmp.Lexicographic.{slice_cmp}
 use Rattle.std.specs.Ordering.{nat_cmp, is_eq, is_lt}
@@ -8,8 +8,12 @@ use Rattle.std.proofs.lemmas.Map.Text.{is_eq-slice_cmp}
 use Rattle.fml_types.specs.Named.{IsAbove, IsBelow, AreRising, has_name, with_name}
 use Rattle.fml_types.proofs.Places.{below_at}
 use Rattle.fml_imports.specs.Merging.{with_new, count_below, is_first, IsFirstAbove}
+use Rattle.fml_imports.specs.Outcome.{◌>>=◌, each, Fails}
+use Rattle.fml_imports.specs.declared.fault.JoinFault.{JoinFault}
+use Rattle.fml_imports.specs.declared.fault.JoinRefusal.{JoinRefusal}
 use Rattle.fml_imports.specs.declared.fault.JoinRefusal.TheVariants.{DuplicateName}
 use Rattle.fml_imports.proofs.Rising.{less_trans, turned_down, below_lower, above_upper, above_join, rising_right, absent_below, named_past, with_between, rises_with}
+use Rattle.fml_imports.proofs.Steps.{each_turn, each_fails}
 
 -- ---- how many names are below one
 
@@ -176,9 +180,12 @@ moved done left more rest n some takes drops =
 
 -- ---- the names that follow
 
+first_above : {T U : Type 0} (done : List (List ℕ × T)) (p : List ℕ × U) (ps : List (List ℕ × U)) → AreRising (p ∷ ps) → ((next : List ℕ) → slice_cmp nat_cmp p.0 next ≡ Less → IsAbove next done) → IsFirstAbove done ps
+first_above done p [] rising next = tt
+first_above done p (q ∷ qs) rising next = next q.0 rising.0.0
+
 pub first_next : {T U : Type 0} (done : List (List ℕ × T)) (ps qs : List (List ℕ × U)) (p : List ℕ × U) → ps ≡ p ∷ qs → AreRising ps → ((next : List ℕ) → slice_cmp nat_cmp p.0 next ≡ Less → IsAbove next done) → IsFirstAbove done qs
-first_next done ps [] p is rising next = tt
-first_next done ps (q ∷ qs) p is rising next = next q.0 (subst AreRising is rising).0.0
+first_next done ps qs p is rising next = first_above done p qs (subst AreRising is rising) next
 
 pub first_named : {T U : Type 0} (done : List (List ℕ × T)) (ps qs : List (List ℕ × U)) (p : List ℕ × U) → ps ≡ p ∷ qs → IsFirstAbove done ps → IsAbove p.0 done
 first_named done ps qs p is above = subst (IsFirstAbove done) is above
@@ -198,3 +205,84 @@ above_at a (p ∷ ps) (suc i) d rising most within less = (
 
 pub above_last : {T : Type 0} (a : List ℕ) (ps : List (List ℕ × T)) (q : List ℕ × T) → AreRising ps → 0 < length ps → q ≡ get_or ps (length ps - 1) q → is_lt (slice_cmp nat_cmp q.0 a) ≡ true → IsAbove a ps
 above_last {T = T} a ps q rising some is less = above_at a ps (length ps - 1) q rising (omega arith) (omega (arith, some)) (subst (λ (r : List ℕ × T). is_lt (slice_cmp nat_cmp r.0 a) ≡ true) is less)
+
+-- ---- the others, of which those below the names that follow are left out
+
+below_front : {T : Type 0} (a : List ℕ) (ps qs : List (List ℕ × T)) → IsBelow a (ps ++ qs) → IsBelow a ps
+below_front a [] qs below = tt
+below_front a (p ∷ ps) qs below = (below.0, below_front a ps qs below.1)
+
+rising_left : {T : Type 0} (ps qs : List (List ℕ × T)) → AreRising (ps ++ qs) → AreRising ps
+rising_left [] qs rising = tt
+rising_left (p ∷ ps) qs rising = (below_front p.0 ps qs rising.0, rising_left ps qs rising.1)
+
+pub front_rises : {T : Type 0} (ps qs all : List (List ℕ × T)) → ps ++ qs ≡ all → AreRising all → AreRising ps
+front_rises ps qs all is rising = rising_left ps qs (subst AreRising (sym is) rising)
+
+pub back_rises : {T : Type 0} (ps qs all : List (List ℕ × T)) → ps ++ qs ≡ all → AreRising all → AreRising qs
+back_rises ps qs all is rising = rising_right ps qs (subst AreRising (sym is) rising)
+
+-- the names of two lists in a row
+count_both : {T : Type 0} (a : List ℕ) (ps qs : List (List ℕ × T)) → count_below a ps ≡ length ps → count_below a (ps ++ qs) ≡ length ps + count_below a qs
+count_both a [] qs all = omega arith
+count_both a (p ∷ ps) qs all = here (is_lt (slice_cmp nat_cmp p.0 a)) all (count_both a ps qs)
+  where
+    here : (b : Bool) → (if b then suc (count_below a ps) else 0) ≡ suc (length ps) → (count_below a ps ≡ length ps → count_below a (ps ++ qs) ≡ length ps + count_below a qs) → (if b then suc (count_below a (ps ++ qs)) else 0) ≡ suc (length ps) + count_below a qs
+    here true h later = let rest = later (omega (arith, h)) in omega (arith, rest)
+    here false h later = absurd (omega (arith, h))
+
+count_first : {T : Type 0} (a : List ℕ) (ps qs : List (List ℕ × T)) → count_below a ps < length ps → count_below a (ps ++ qs) ≡ count_below a ps
+count_first a [] qs less = absurd (omega (arith, less))
+count_first a (p ∷ ps) qs less = here (is_lt (slice_cmp nat_cmp p.0 a)) less (count_first a ps qs)
+  where
+    here : (b : Bool) → (if b then suc (count_below a ps) else 0) < suc (length ps) → (count_below a ps < length ps → count_below a (ps ++ qs) ≡ count_below a ps) → (if b then suc (count_below a (ps ++ qs)) else 0) ≡ (if b then suc (count_below a ps) else 0)
+    here true h later = ap suc (later (omega (arith, h)))
+    here false h later = refl
+
+pub count_front : {T : Type 0} (a : List ℕ) (ps qs all : List (List ℕ × T)) (n : ℕ) → ps ++ qs ≡ all → n ≡ count_below a ps → n < length ps → n ≡ count_below a all
+count_front a ps qs all n is counts less = counts ∙ sym (count_first a ps qs (omega (arith, counts, less))) ∙ ap (count_below a) is
+
+pub count_all : {T : Type 0} (a : List ℕ) (ps qs all : List (List ℕ × T)) (n m : ℕ) → ps ++ qs ≡ all → n ≡ count_below a ps → m ≡ count_below a qs → length ps ≤ n → n ≤ length ps → n + m ≡ count_below a all
+count_all a ps qs all n m is counts more least most =
+    let whole : count_below a ps ≡ length ps = omega (arith, counts, least, most) in
+    let both : count_below a (ps ++ qs) ≡ length ps + count_below a qs = count_both a ps qs whole in
+    let same : n + m ≡ count_below a (ps ++ qs) = omega (arith, both, more, least, most) in
+    same ∙ ap (count_below a) is
+
+pub drop_rises : {U : Type 0} (os qs : List (List ℕ × U)) (n : ℕ) → qs ≡ drop n os → AreRising os → AreRising qs
+drop_rises os qs n is rising = subst AreRising (sym is) (rising_right (take n os) (drop n os) (subst AreRising (sym (take-append-drop n os)) rising))
+
+pub is_first_other : {U : Type 0} (a : List ℕ) (os qs : List (List ℕ × U)) → qs ≡ drop (count_below a os) os → AreRising os → is_first a qs ≡ has_name a qs
+is_first_other a os qs is rising =
+    let whole : has_name a os ≡ is_first a qs = (is_split a os rising).0 ∙ ap (is_first a) (sym is) in
+    let named : has_name a os ≡ has_name a qs = ap (has_name a) (sym (take-append-drop (count_below a os) os)) ∙ named_past a (take (count_below a os) os) (drop (count_below a os) os) (above_front a os) ∙ ap (has_name a) (sym is) in
+    sym whole ∙ named
+
+module _ {T U : Type 0} (low high : List (List ℕ × U)) where
+  either_way : (met : Bool) (name : List ℕ) (next : List (List ℕ × T)) (ps : List (List ℕ × T)) → each (with_new (low ++ high)) next ps ≡ each (with_new high) next ps
+      → ((if met then Err (DuplicateName name) else Ok next) >>= λ l. each (with_new (low ++ high)) l ps) ≡ ((if met then Err (DuplicateName name) else Ok next) >>= λ l. each (with_new high) l ps)
+  either_way true name next ps later = refl
+  either_way false name next ps later = later
+
+  without_low : (there ps : List (List ℕ × T)) → AreRising ps → IsFirstAbove low ps → each (with_new (low ++ high)) there ps ≡ each (with_new high) there ps
+  without_low there [] rising above = refl
+  without_low there (p ∷ ps) rising above =
+      ap (λ (b : Bool). (if (has_name p.0 there || b) then Err (DuplicateName p.0) else Ok (with_name p there)) >>= λ l. each (with_new (low ++ high)) l ps) (named_past p.0 low high above)
+      ∙ either_way (has_name p.0 there || has_name p.0 high) p.0 (with_name p there) ps (without_low (with_name p there) ps rising.1 (first_above low p ps rising (λ next less. above_upper p.0 next low less above)))
+
+others_turn : {T U : Type 0} (os qs : List (List ℕ × U)) (there ps rest : List (List ℕ × T)) (p : List ℕ × T) (all : Result (List (List ℕ × T)) JoinRefusal) → qs ≡ drop (count_below p.0 os) os → ps ≡ p ∷ rest → AreRising ps
+    → each (with_new os) there ps ≡ all → each (with_new qs) there (p ∷ rest) ≡ all
+others_turn os qs there ps rest p all is split rising so_far =
+    let low = take (count_below p.0 os) os in
+    let high = drop (count_below p.0 os) os in
+    ap (λ l. each (with_new l) there (p ∷ rest)) is ∙ sym (without_low low high there (p ∷ rest) (subst AreRising split rising) (above_front p.0 os))
+    ∙ ap (λ l. each (with_new l) there (p ∷ rest)) (take-append-drop (count_below p.0 os) os) ∙ ap (each (with_new os) there) (sym split) ∙ so_far
+
+-- a turn over the others that aren't below its name
+pub added_turn : {T U : Type 0} (os qs : List (List ℕ × U)) (there next ps rest : List (List ℕ × T)) (p : List ℕ × T) (all : Result (List (List ℕ × T)) JoinRefusal) → qs ≡ drop (count_below p.0 os) os → ps ≡ p ∷ rest → AreRising ps
+    → each (with_new os) there ps ≡ all → with_new qs there p ≡ Ok next → each (with_new qs) next rest ≡ all
+added_turn os qs there next ps rest p all is split rising so_far one = each_turn (with_new qs) there next p rest all one (others_turn os qs there ps rest p all is split rising so_far)
+
+pub added_fails : {T U : Type 0} (e : JoinFault) (os qs : List (List ℕ × U)) (there ps rest : List (List ℕ × T)) (p : List ℕ × T) (all : Result (List (List ℕ × T)) JoinRefusal) → qs ≡ drop (count_below p.0 os) os → ps ≡ p ∷ rest → AreRising ps
+    → each (with_new os) there ps ≡ all → Fails e (with_new qs there p) → Fails e all
+added_fails e os qs there ps rest p all is split rising so_far one = each_fails e (with_new qs) there p rest all one (others_turn os qs there ps rest p all is split rising so_far)

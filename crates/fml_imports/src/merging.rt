@@ -1,9 +1,8 @@
 // Names in order, to which others are added.
-ghost use Rattle.std.specs.Prelude.{◌≡◌, ◌<◌, ◌≤◌, ◌||◌, ℕ, List, ◌++◌, true, false, take, drop, IfOk, OnOk};
+ghost use Rattle.std.specs.Prelude.{◌≡◌, ◌<◌, ◌≤◌, ◌||◌, ℕ, List, ◌++◌, true, false, length, take, drop, IfOk, OnOk};
 ghost use Rattle.std.specs.Cmp.Lexicographic.{slice_cmp};
 ghost use Rattle.std.specs.Ordering.{nat_cmp, is_lt};
 ghost use Rattle.std.specs.declared.cmp.Ordering.TheVariants.{Less};
-ghost use Rattle.std.specs.VecDeque.{deque_len};
 ghost use Rattle.fml_types.specs.Named.{IsAbove, AreRising, has_name};
 ghost use Rattle.fml_imports.specs.Merging.{with_new, count_below, is_first, IsFirstAbove};
 ghost use Rattle.fml_imports.specs.Outcome.{Gives, Leaves, each};
@@ -16,7 +15,7 @@ use std::collections::VecDeque;
 use std::mem;
 
 /// Adds names to those that are there, each at its place, unless it is met among them or among the
-/// others. A place is looked for from the one of the name before on.
+/// others. Each is looked for from the place of the name before on.
 pub(crate) fn merge<T: Drop, U>(
     alloc: Global,
     names: &mut ByName<T>,
@@ -37,7 +36,7 @@ pub(crate) fn taken<T: Drop>(alloc: Global, names: &mut ByName<T>) -> ByName<T>
     mem::replace(names, ByName::new(alloc))
 }
 
-#[tactic(auto, using(crate::proofs::Steps::each_fails, crate::proofs::Steps::each_turn, crate::proofs::Adding::first_next, crate::proofs::Adding::first_named, crate::proofs::Adding::rest_rises))]
+#[tactic(auto, using(crate::proofs::Adding::added_turn, crate::proofs::Adding::added_fails, crate::proofs::Adding::first_next, crate::proofs::Adding::first_named, crate::proofs::Adding::rest_rises, crate::proofs::Adding::drop_rises, crate::proofs::Adding::is_first_other))]
 fn merged<T: Drop, U>(
     alloc: Global,
     there: ByName<T>,
@@ -47,7 +46,9 @@ fn merged<T: Drop, U>(
     ensures { Gives result (each (with_new others.now) there added) }
 {
     let (mut done, mut left) = parted(alloc, there, &added)?;
+    let mut others = others.as_slice();
     for (name, value) in risen(added) {
+        others = from_name(others, &name);
         add(&mut done, &mut left, name, value, others)?;
     }
     let names = joined(done, left)?;
@@ -107,21 +108,22 @@ fn is_lower(name: &Text, other: &Text) -> bool
     name.as_str() < other.as_str()
 }
 
-/// Adds a name that is above those that are done.
+/// Adds a name that is above those that are done, where the others start with it if they have it.
 fn add<T: Drop, U>(
     done: &mut Vec<(Text, T)>,
     left: &mut VecDeque<(Text, T)>,
     name: Text,
     value: T,
-    others: &ByName<U>,
+    others: &[(Text, U)],
 ) -> Result<(), JoinFault>
     requires rising { AreRising (done.old.items ++ left.old.items) }
     requires above { IsAbove name done.old.items }
+    requires first { is_first name others.now ≡ has_name name others.now }
     ensures leaves { Leaves (done.new.items ++ left.new.items) result (with_new others.now (done.old.items ++ left.old.items) (name, value)) }
     ensures rising { OnOk result (AreRising (done.new.items ++ left.new.items)) }
     ensures above { OnOk result ((next : List ℕ) → slice_cmp nat_cmp name next ≡ Less → IsAbove next done.new.items) }
 {
-    let count = count_below(left, &name);
+    let count = count_left(left, &name);
     move_front(left, count, done)?;
     if is_met(left, others, &name) {
         return Err(JoinFault::Refused(JoinRefusal::DuplicateName(name)));
@@ -130,11 +132,21 @@ fn add<T: Drop, U>(
     Ok(())
 }
 
-/// Whether the first of those that are left has the name, or one of the others.
-fn is_met<T, U>(left: &VecDeque<(Text, T)>, others: &ByName<U>, name: &Text) -> bool
+/// Whether those that are left or the others start with the name.
+fn is_met<T, U>(left: &VecDeque<(Text, T)>, others: &[(Text, U)], name: &Text) -> bool
+    requires { is_first name.now others.now ≡ has_name name.now others.now }
     ensures { result ≡ (is_first name.now left.now.items || has_name name.now others.now) }
 {
-    is_first(left, name) || has_name(others, name)
+    is_first(left, name) || starts_with(others, name)
+}
+
+fn starts_with<T>(names: &[(Text, T)], name: &Text) -> bool
+    ensures { result ≡ is_first name.now names.now }
+{
+    match names {
+        [pair, ..] => pair.0 == *name,
+        [] => false,
+    }
 }
 
 fn is_first<T>(left: &VecDeque<(Text, T)>, name: &Text) -> bool
@@ -153,22 +165,47 @@ pub(crate) fn has_name<T>(names: &ByName<T>, name: &Text) -> bool
     names.place(name.as_str()).is_some()
 }
 
-/// How many of the names that are left are below this one. Steps that double in length find it, and
-/// then steps that halve.
-fn count_below<T>(left: &VecDeque<(Text, T)>, name: &Text) -> usize
+/// The names from the first on that isn't below this one.
+fn from_name<'a, T>(names: &'a [(Text, T)], name: &Text) -> &'a [(Text, T)]
+    requires { AreRising names.now }
+    ensures { result.now ≡ drop (count_below name.now names.now) names.now }
+{
+    let count = count_below(names, name);
+    &names[count..]
+}
+
+/// How many of the names that are left are below this one.
+#[tactic(auto, using(crate::proofs::Adding::front_rises, crate::proofs::Adding::back_rises, crate::proofs::Adding::count_all, crate::proofs::Adding::count_front))]
+fn count_left<T>(left: &VecDeque<(Text, T)>, name: &Text) -> usize
     requires { AreRising left.now.items }
     ensures { result ≡ count_below name.now left.now.items }
 {
-    let len = left.len();
+    let (front, back) = left.as_slices();
+    let count = count_below(front, name);
+    if count < front.len() {
+        return count;
+    }
+    let more = count_below(back, name);
+    count + more
+}
+
+/// How many of the names are below this one. Steps that double in length find it, and then steps that
+/// halve.
+fn count_below<T>(names: &[(Text, T)], name: &Text) -> usize
+    requires { AreRising names.now }
+    ensures count { result ≡ count_below name.now names.now }
+    ensures within { result ≤ length names.now }
+{
+    let len = names.len();
     let mut least = 0;
     let mut most = 0;
-    while is_below(left, most, name) {
+    while is_below(names, most, name) {
         least = most + 1;
         most = least + least.min(len - least);
     }
     while least < most {
         let middle = least + (most - least) / 2;
-        if is_below(left, middle, name) {
+        if is_below(names, middle, name) {
             least = middle + 1;
         } else {
             most = middle;
@@ -178,13 +215,13 @@ fn count_below<T>(left: &VecDeque<(Text, T)>, name: &Text) -> usize
 }
 
 /// Whether there is a pair at the place, and its name is below this one.
-fn is_below<T>(left: &VecDeque<(Text, T)>, place: usize, name: &Text) -> bool
-    requires { AreRising left.now.items }
-    ensures within { result ≡ true → place < deque_len left.now }
-    ensures below { result ≡ true → place < count_below name.now left.now.items }
-    ensures past { result ≡ false → count_below name.now left.now.items ≤ place }
+fn is_below<T>(names: &[(Text, T)], place: usize, name: &Text) -> bool
+    requires { AreRising names.now }
+    ensures within { result ≡ true → place < length names.now }
+    ensures below { result ≡ true → place < count_below name.now names.now }
+    ensures past { result ≡ false → count_below name.now names.now ≤ place }
 {
-    match left.get(place) {
+    match names.get(place) {
         Some(pair) => is_lower(&pair.0, name),
         None => false,
     }

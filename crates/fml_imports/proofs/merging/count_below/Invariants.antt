@@ -4,7 +4,7 @@ use Rattle.fml_imports.proofs.merging.count_below.Given as goal
 
 abbrev pub invariant-loop-least : goal.invariant-loop-least
 invariant-loop-least g l = record {
-  least : l.least ≤ count_below l.name l.left.items;
+  least : l.least ≤ count_below l.name l.names;
   order : l.least ≤ l.most;
   end : l.most ≤ l.len;
 }
@@ -14,8 +14,8 @@ decreases-loop-least g l = l.len - l.most
 
 abbrev pub invariant-loop-least-2 : goal.invariant-loop-least-2
 invariant-loop-least-2 g l = record {
-  least : l.least ≤ count_below l.name l.left.items;
-  most : count_below l.name l.left.items ≤ l.most;
+  least : l.least ≤ count_below l.name l.names;
+  most : count_below l.name l.names ≤ l.most;
   end : l.most ≤ l.len;
 }
 
