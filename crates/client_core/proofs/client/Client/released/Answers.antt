@@ -11,7 +11,7 @@ pub followed-requires-clause-change : goal.followed-requires-clause-change
 followed-requires-clause-change c =
     let s = c.args.self.now.store.state in
     is_change s c.in_ok-ended.ended (enrolment_ended c.in-Some.holder.now s.enrolment) c.of_next_state-change.result c.of_next_state-change.ensures
-    (c.in_ok-ended.ensures.state ∙ ap (λ (slug : List ℕ). enrolment_ended slug s.enrolment) c.in_ok-slug.ensures) (record { live = refl; pending = refl }) c.in_ok-ended.ensures.parts c.in_ok-ended.ensures.consistent
+    (c.in_ok-ended.ensures.state ∙ ap (λ (slug : List ℕ). enrolment_ended slug s.enrolment) c.in_ok-slug.ensures.cases) (record { live = refl; pending = refl }) c.in_ok-ended.ensures.parts c.in_ok-ended.ensures.consistent
 
 pub returns-clause-free : goal.returns-clause-free
 returns-clause-free c =
@@ -23,4 +23,4 @@ returns-clause-free c =
     (subst (λ (ps : List Preference). holder_of c.as_str.result.now ps ≡ Some holder) c.prefs.ensures.preferences (sym c.in-Some.ensures))
     in
     released_to_none s c.prefs.ensures.consistent client.session c.args.name.now holder held c.in_ok-ended.ended.state
-    (c.in_ok-ended.ensures.state ∙ ap (λ (slug : List ℕ). enrolment_ended slug s.enrolment) c.in_ok-slug.ensures) _ c.of_next_state-change.result c.of_next_state-change.ensures c.followed.result c.followed.ensures.followed
+    (c.in_ok-ended.ensures.state ∙ ap (λ (slug : List ℕ). enrolment_ended slug s.enrolment) c.in_ok-slug.ensures.cases) _ c.of_next_state-change.result c.of_next_state-change.ensures c.followed.result c.followed.ensures.followed
