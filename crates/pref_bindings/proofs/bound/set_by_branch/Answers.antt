@@ -1,11 +1,11 @@
-use Rattle.std.proofs.Common.{◌≡◌, ◌<◌, length, get_or, take, sym, ap, ◌∙◌, subst, fold}
+use Rattle.std.proofs.Common.{◌≡◌, ◌<◌, List, length, get_or, take, sym, ap, ◌∙◌, subst, fold}
 use Rattle.std.specs.List.{AllByRecursion, filter_map, flat_map}
 use Rattle.std.proofs.lemmas.List.{take_all}
-use Rattle.std.specs.Prelude.{IsTrue}
+use Rattle.std.specs.Prelude.{IfOk, IsTrue}
 use Rattle.plain_text.specs.Names.{is_name}
-use Rattle.enrol_states.proofs.Answered.{if_ok}
 use Rattle.pref_bindings.specs.Bindings.{of_feature}
 use Rattle.pref_bindings.specs.Bound.{in_order, setting_of, with_setting}
+use Rattle.pref_bindings.specs.Changes.{Setting}
 use Rattle.pref_bindings.proofs.BoundValues.{feature_next, named_own}
 use Rattle.pref_bindings.proofs.SameSettings.{all_looked_up}
 use Rattle.pref_bindings.proofs.bound.set_by_branch.Goals as goal
@@ -41,6 +41,6 @@ returns-clause-values c =
     let all = c.args.bindings.now in
     let i = c.loop-set.set-index in
     let whole : take i branch.features ≡ branch.features = subst (λ fs. take i fs ≡ fs) c.as_slice-set-items.ensures (take_all i c.as_slice-set-items.result.now c.loop-set-test.false) in
-    if_ok c.in_order.result _ _
+    subst (λ (values : List Setting). IfOk c.in_order.result (λ settings. settings ≡ values))
     (c.loop-set.invariant.values ∙ ap (λ fs. in_order (filter_map (setting_of m branch) (flat_map (λ f. of_feature f.feature all) fs))) whole ∙ all_looked_up m branch all c.as_slice-all.ensures.are.once)
     c.in_order.ensures.values
