@@ -17,6 +17,7 @@ use Rattle.client_store.specs.Moments.{IsLeftAmong}
 use Rattle.client_store.specs.OpenStore.{AllKept}
 use Rattle.client_store.specs.Store.{IsAbsent}
 use Rattle.client_store.proofs.Holding.{kept_said}
+use Rattle.client_store.proofs.Refusing.{among_not_absent}
 use Rattle.session_run.specs.declared.status.RunStatus.{RunStatus}
 use Rattle.session_run.specs.declared.status.RunStatus.TheVariants.{Done, Usage, ScriptTooLong, NoStore, AlreadyStore, BadStore, SourceFault, ShelfFault, DiskFault, SayFault, OutOfMemory}
 use Rattle.session_run.specs.Drills.{drill_bytes, drill_fresh, drill_ready, drill_setting, drill_start, drill_summary, AfterReady, DuringDrill}
@@ -29,7 +30,7 @@ use Rattle.session_run.specs.Runs.{ServesValues}
 use Rattle.session_run.specs.Starts.{Start, last_state}
 use Rattle.session_run.proofs.DrillIds.{drill_id_reads}
 use Rattle.client_words.proofs.Ids.{IsIdIn, id_in_text}
-use Rattle.session_run.proofs.Judging.{among_not_absent, making_judges}
+use Rattle.session_run.proofs.Judging.{making_judges}
 use Rattle.session_run.proofs.Linking.{one_among}
 use Rattle.session_run.specs.Writes.{IsBelowMark}
 use Rattle.session_run.proofs.Values.{serves_values}

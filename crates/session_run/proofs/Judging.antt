@@ -1,10 +1,8 @@
 -- Which status a call has, by what the pair of sides is.
-use Rattle.std.proofs.Common.{◌≡◌, ◌⊎◌, inl, inr, ℕ, List, [], ◌∷◌, refl}
+use Rattle.std.proofs.Common.{◌≡◌, ◌⊎◌, inl, inr, ℕ, List, refl}
 use Rattle.session_run.specs.declared.status.RunStatus.{RunStatus}
 use Rattle.session_run.specs.declared.status.RunStatus.TheVariants.{Done, Usage, ScriptTooLong, NoStore, AlreadyStore, BadStore, SourceFault, ShelfFault, DiskFault, SayFault, OutOfMemory}
-use Rattle.client_store.specs.Store.{KeptAmong, IsStore, IsAbsent, IsBad}
-use Rattle.client_state.specs.declared.client_state.ClientState.{ClientState}
-use Rattle.client_store.proofs.Holding.{stands_of_kept}
+use Rattle.client_store.specs.Store.{IsStore, IsAbsent, IsBad}
 use Rattle.session_run.specs.Finds.{EndedBefore, RunFinds, MakingFinds, RunJudges, MakingJudges}
 use Rattle.client_store.proofs.Refusing.{stands_not_absent}
 
@@ -15,40 +13,25 @@ module _ (l r : List ℕ) where
   store_not_bad : IsStore l r → IsBad l r → ⊥
   store_not_bad (s, stands) bad = bad.no_state s stands
 
-  -- a pair that is kept for one of some states is a store
-  pub among_not_absent : (states : List ClientState) → KeptAmong l r states → IsAbsent l r → ⊥
-  among_not_absent [] among absent = among
-  among_not_absent (s ∷ states) (inl kept) absent = stands_not_absent l r s (stands_of_kept l r s kept) absent
-  among_not_absent (s ∷ states) (inr among) absent = among_not_absent states among absent
+  -- a run, by what it found
+  run_store : (status : RunStatus) → IsStore l r → RunJudges l r status
+  run_store status store = record { no_store = λ absent. absurd (store_not_absent store absent); bad_store = λ bad. absurd (store_not_bad store bad) }
 
-  run_no_store : (status : RunStatus) → RunFinds l r status → IsAbsent l r → (status ≡ NoStore) ⊎ EndedBefore status
-  run_no_store Done finds absent = absurd (store_not_absent finds absent)
-  run_no_store SayFault finds absent = absurd (store_not_absent finds absent)
-  run_no_store ShelfFault finds absent = absurd (store_not_absent finds absent)
-  run_no_store NoStore finds absent = inl refl
-  run_no_store BadStore finds absent = absurd (finds.found absent)
-  run_no_store ScriptTooLong finds absent = inr (inl refl)
-  run_no_store SourceFault finds absent = inr (inr (inl refl))
-  run_no_store DiskFault finds absent = inr (inr (inr (inl refl)))
-  run_no_store OutOfMemory finds absent = inr (inr (inr (inr refl)))
-  run_no_store Usage finds absent = absurd finds
-  run_no_store AlreadyStore finds absent = absurd finds
-
-  run_bad_store : (status : RunStatus) → RunFinds l r status → IsBad l r → (status ≡ BadStore) ⊎ EndedBefore status
-  run_bad_store Done finds bad = absurd (store_not_bad finds bad)
-  run_bad_store SayFault finds bad = absurd (store_not_bad finds bad)
-  run_bad_store ShelfFault finds bad = absurd (store_not_bad finds bad)
-  run_bad_store NoStore finds bad = absurd (bad.found finds)
-  run_bad_store BadStore finds bad = inl refl
-  run_bad_store ScriptTooLong finds bad = inr (inl refl)
-  run_bad_store SourceFault finds bad = inr (inr (inl refl))
-  run_bad_store DiskFault finds bad = inr (inr (inr (inl refl)))
-  run_bad_store OutOfMemory finds bad = inr (inr (inr (inr refl)))
-  run_bad_store Usage finds bad = absurd finds
-  run_bad_store AlreadyStore finds bad = absurd finds
+  run_ended : (status : RunStatus) → EndedBefore status → RunJudges l r status
+  run_ended status ended = record { no_store = λ absent. inr ended; bad_store = λ bad. inr ended }
 
   pub run_judges : (status : RunStatus) → RunFinds l r status → RunJudges l r status
-  run_judges status finds = record { no_store = run_no_store status finds; bad_store = run_bad_store status finds }
+  run_judges Done finds = run_store Done finds
+  run_judges SayFault finds = run_store SayFault finds
+  run_judges ShelfFault finds = run_store ShelfFault finds
+  run_judges NoStore finds = record { no_store = λ absent. inl refl; bad_store = λ bad. absurd (bad.found finds) }
+  run_judges BadStore finds = record { no_store = λ absent. absurd (finds.found absent); bad_store = λ bad. inl refl }
+  run_judges ScriptTooLong finds = run_ended ScriptTooLong (inl refl)
+  run_judges SourceFault finds = run_ended SourceFault (inr (inl refl))
+  run_judges DiskFault finds = run_ended DiskFault (inr (inr (inl refl)))
+  run_judges OutOfMemory finds = run_ended OutOfMemory (inr (inr (inr refl)))
+  run_judges Usage finds = absurd finds
+  run_judges AlreadyStore finds = absurd finds
 
   pub run_complete : (status : RunStatus) → RunFinds l r status → IsStore l r → (status ≡ ScriptTooLong → ⊥) → (status ≡ SourceFault → ⊥) → (status ≡ ShelfFault → ⊥) → (status ≡ DiskFault → ⊥) → (status ≡ SayFault → ⊥)
       → (status ≡ Done) ⊎ (status ≡ OutOfMemory)
@@ -64,34 +47,25 @@ module _ (l r : List ℕ) where
   run_complete Usage finds found long source shelf disk say = absurd finds
   run_complete AlreadyStore finds found long source shelf disk say = absurd finds
 
-  making_already_store : (status : RunStatus) → MakingFinds l r status → IsStore l r → (status ≡ AlreadyStore) ⊎ EndedBefore status
-  making_already_store Done finds found = absurd (store_not_absent found finds)
-  making_already_store SayFault finds found = absurd (store_not_absent found finds)
-  making_already_store AlreadyStore finds found = inl refl
-  making_already_store BadStore finds found = absurd (store_not_bad found finds)
-  making_already_store DiskFault finds found = inr (inr (inr (inl refl)))
-  making_already_store OutOfMemory finds found = inr (inr (inr (inr refl)))
-  making_already_store Usage finds found = absurd finds
-  making_already_store ScriptTooLong finds found = absurd finds
-  making_already_store NoStore finds found = absurd finds
-  making_already_store SourceFault finds found = absurd finds
-  making_already_store ShelfFault finds found = absurd finds
+  -- a making
+  making_absent : (status : RunStatus) → IsAbsent l r → MakingJudges l r status
+  making_absent status absent = record { already_store = λ store. absurd (store_not_absent store absent); bad_store = λ bad. absurd (bad.found absent) }
 
-  making_bad_store : (status : RunStatus) → MakingFinds l r status → IsBad l r → (status ≡ BadStore) ⊎ EndedBefore status
-  making_bad_store Done finds bad = absurd (bad.found finds)
-  making_bad_store SayFault finds bad = absurd (bad.found finds)
-  making_bad_store AlreadyStore finds bad = absurd (store_not_bad finds bad)
-  making_bad_store BadStore finds bad = inl refl
-  making_bad_store DiskFault finds bad = inr (inr (inr (inl refl)))
-  making_bad_store OutOfMemory finds bad = inr (inr (inr (inr refl)))
-  making_bad_store Usage finds bad = absurd finds
-  making_bad_store ScriptTooLong finds bad = absurd finds
-  making_bad_store NoStore finds bad = absurd finds
-  making_bad_store SourceFault finds bad = absurd finds
-  making_bad_store ShelfFault finds bad = absurd finds
+  making_ended : (status : RunStatus) → EndedBefore status → MakingJudges l r status
+  making_ended status ended = record { already_store = λ store. inr ended; bad_store = λ bad. inr ended }
 
   pub making_judges : (status : RunStatus) → MakingFinds l r status → MakingJudges l r status
-  making_judges status finds = record { already_store = making_already_store status finds; bad_store = making_bad_store status finds }
+  making_judges Done finds = making_absent Done finds
+  making_judges SayFault finds = making_absent SayFault finds
+  making_judges AlreadyStore finds = record { already_store = λ store. inl refl; bad_store = λ bad. absurd (store_not_bad finds bad) }
+  making_judges BadStore finds = record { already_store = λ store. absurd (store_not_bad store finds); bad_store = λ bad. inl refl }
+  making_judges DiskFault finds = making_ended DiskFault (inr (inr (inl refl)))
+  making_judges OutOfMemory finds = making_ended OutOfMemory (inr (inr (inr refl)))
+  making_judges Usage finds = absurd finds
+  making_judges ScriptTooLong finds = absurd finds
+  making_judges NoStore finds = absurd finds
+  making_judges SourceFault finds = absurd finds
+  making_judges ShelfFault finds = absurd finds
 
   pub making_complete : (status : RunStatus) → MakingFinds l r status → IsAbsent l r → (status ≡ DiskFault → ⊥) → (status ≡ SayFault → ⊥) → (status ≡ Done) ⊎ (status ≡ OutOfMemory)
   making_complete Done finds absent disk say = inl refl

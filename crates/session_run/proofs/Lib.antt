@@ -28,6 +28,7 @@ mod SoundRuns
 mod EncodedStores
 mod Starting
 mod Stepping
+mod TreeAnswers
 mod Undone
 mod Values
 mod WordLists

@@ -12,12 +12,12 @@ use Rattle.client_store.specs.Moments.{IsQuiet}
 use Rattle.client_store.specs.OpenStore.{AllKept}
 use Rattle.client_store.specs.Places.{making_bytes, place_made}
 use Rattle.client_store.specs.Store.{IsAbsent}
+use Rattle.client_store.proofs.Refusing.{among_not_absent}
 use Rattle.session_run.specs.declared.status.RunStatus.{RunStatus}
 use Rattle.session_run.specs.declared.status.RunStatus.TheVariants.{OutOfMemory}
 use Rattle.session_run.specs.Making.{ready, DuringMaking, MakingEnds, Made}
 use Rattle.session_run.specs.Writes.{IsBelowMark}
 use Rattle.session_run.proofs.Beginning.{said_met}
-use Rattle.session_run.proofs.Judging.{among_not_absent}
 
 -- what is known of a store that was made for this id
 pub record IsMade {H : Type 0} (h : Ghosts H) (old mid : H) (id : List ℕ) (now : ℕ) : Type 0 where

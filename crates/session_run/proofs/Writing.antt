@@ -9,6 +9,7 @@ use Rattle.host_model.specs.Sides.{on}
 use Rattle.host_model.proofs.Meeting.{started, goes_on, then_met, met_weaker}
 use Rattle.pair_store.specs.declared.mark.TheConstants.{MAX_RECORD_END}
 use Rattle.pair_store.specs.Moments.{IsOpening, SameBehind, StaysBelow}
+use Rattle.client_store.proofs.Moments.{met_now}
 use Rattle.session_run.specs.Writes.{IsBelowMark, WritesNoMore}
 
 module _ {H : Type 0} (h : Ghosts H) (old mid new : H) where
@@ -30,6 +31,11 @@ module _ {H : Type 0} (h : Ghosts H) (old mid new : H) where
     where
       below_on : (side : Side) (l r : List ℕ) → SameBehind MAX_RECORD_END (h.images mid side) (on side l r) → SameBehind MAX_RECORD_END (h.images old side) (on side l r)
       below_on side l r met = chained left right now_below side (on side l r) met
+
+-- and behind a call
+module _ {H : Type 0} (h : Ghosts H) (old mid : H) (tells : h.tells) (counts : (t : ℕ) (l r u : List ℕ) → h.tells → t ≤ h.moment mid → NowOf h mid l r u → h.might mid t l r u) (image : (s : Side) → h.tells → h.images mid s (h.reads mid s)) where
+  pub below_after : MeetsAll h old mid (IsBelowMark h old) → (new : H) → MeetsAll h mid new (IsBelowMark h mid) → MeetsAll h old new (IsBelowMark h old)
+  below_after first new second = below_then h old mid new (image Left tells) (image Right tells) first (met_now h old mid (IsBelowMark h old) first counts tells) second
 
 module _ {H : Type 0} (h : Ghosts H) (old new : H) where
   -- a call on the store alone

@@ -5,7 +5,6 @@ use Rattle.host_model.proofs.Meeting.{met_weaker}
 use Rattle.recipe_drill.specs.Parts.{parts_of}
 use Rattle.client_store.specs.Places.{place_made}
 use Rattle.client_store.proofs.Holding.{stands_of_kept}
-use Rattle.client_store.proofs.Moments.{met_now}
 use Rattle.client_words.specs.Commands.{lines_of}
 use Rattle.session_run.specs.declared.status.RunStatus.TheVariants.{Done, DiskFault, SayFault}
 use Rattle.session_run.specs.DrillEnds.{ScriptEnds, made_start}
@@ -14,7 +13,6 @@ use Rattle.session_run.specs.Ends.{RunEnds}
 use Rattle.session_run.specs.FaultCauses.{IsStatusOf}
 use Rattle.session_run.specs.Moments.{AfterPrefix}
 use Rattle.session_run.specs.Statuses.{of_drill, IsOfLines, IsOfMaking}
-use Rattle.session_run.specs.Writes.{IsBelowMark}
 use Rattle.session_run.proofs.Belonging.{drill_status, status_was, drill_is_of, summary_is_of}
 use Rattle.session_run.proofs.Causing.{causes_behind}
 use Rattle.session_run.proofs.DrillScripts.{setting_with, setting_is, lines_are, here, unsaid_met, unsaid_ends, said_met, said_ends, ready_elsewhere}
@@ -22,7 +20,7 @@ use Rattle.session_run.proofs.Linking.{among_one}
 use Rattle.session_run.proofs.Running.{elsewhere}
 use Rattle.session_run.proofs.EncodedStores.{encoded_ends}
 use Rattle.session_run.proofs.Starting.{begin}
-use Rattle.session_run.proofs.Writing.{below_then, below_said}
+use Rattle.session_run.proofs.Writing.{below_after, below_said}
 use Rattle.session_run.proofs.drill.run_script.Goals as goal
 
 -- ---- all lines are done and answered
@@ -70,13 +68,9 @@ returns-in-Ok-clause-ends g c tells =
 
 pub returns-in-Ok-clause-below : goal.returns-in-Ok-clause-below
 returns-in-Ok-clause-below g c tells =
-    let h = g.H.Host in
-    let old = c.args.host.now in
     let mid = c.run_client.new.host in
-    let below = c.run_client.ensures.below tells in
-    below_then h old mid c.say_summary.new.host (g.met.H.Host.read_is_image mid Left tells) (g.met.H.Host.read_is_image mid Right tells) below
-    (met_now h old mid (IsBelowMark h old) below (g.met.H.Host.counts_now mid) tells)
-    (below_said h mid c.say_summary.new.host _ (c.say_summary.ensures.any_moment tells))
+    below_after g.H.Host c.args.host.now mid tells (g.met.H.Host.counts_now mid) (g.met.H.Host.read_is_image mid) (c.run_client.ensures.below tells)
+    c.say_summary.new.host (below_said g.H.Host mid c.say_summary.new.host _ (c.say_summary.ensures.any_moment tells))
 
 pub returns-in-Ok-clause-is_of : goal.returns-in-Ok-clause-is_of
 returns-in-Ok-clause-is_of g c = summary_is_of c.say_summary.result c.say_summary.ensures.only

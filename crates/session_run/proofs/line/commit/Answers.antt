@@ -1,10 +1,9 @@
 -- A step is committed, and then its answer is said.
 use Rattle.std.proofs.Common.{List, ℕ, ◌++◌, ◌∙◌, sym, ap, take, arith}
-use Rattle.host_model.specs.declared.side.Side.TheVariants.{Left, Right}
+use Rattle.host_model.specs.Hosts.{MeetsAll}
 use Rattle.client_core.specs.Clients.{state_of}
 use Rattle.client_core.specs.Prepared.{next_state}
 use Rattle.client_store.proofs.Holding.{kept_said}
-use Rattle.client_store.proofs.Moments.{met_now}
 use Rattle.client_core.proofs.Holding.{open_said, gate_said}
 use Rattle.session_run.specs.Writes.{IsBelowMark}
 use Rattle.session_run.specs.declared.faults.RunFault.TheVariants.{DiskFault, SayFault}
@@ -13,7 +12,9 @@ use Rattle.session_run.proofs.Causing.{unwritten_causes, unsaid_causes}
 use Rattle.session_run.proofs.Ending.{written_ends, said_ends}
 use Rattle.session_run.proofs.Undone.{err_ok}
 use Rattle.session_run.proofs.Outcomes.{err_cost}
-use Rattle.session_run.proofs.Writing.{below_of, below_then, below_said}
+use Rattle.session_run.proofs.Writing.{below_after, below_of, below_said}
+use Rattle.session_run.proofs.line.commit.Given.{Over}
+use Rattle.session_run.proofs.line.commit.Goals.{After-say_answer}
 use Rattle.session_run.proofs.line.commit.Goals as goal
 
 -- ---- the write has failed
@@ -44,6 +45,14 @@ returns-in_err-commit-clause-host_causes g c =
     let commit = c.commit.ensures in
     unwritten_causes g.H.Host c.args.host.now c.commit.new.host commit.cause.later c.in_err-commit.ensures.cause.failed commit.say_faults c.from_residual.result c.from_residual.ensures.1
 
+-- ---- the answer is said, or the output has failed
+
+below : (g : Over) (c : After-say_answer g) → g.H.Host.tells → MeetsAll g.H.Host c.args.host.now c.say_answer.new.host (IsBelowMark g.H.Host c.args.host.now)
+below g c tells =
+    let mid = c.commit.new.host in
+    below_after g.H.Host c.args.host.now mid tells (g.met.H.Host.counts_now mid) (g.met.H.Host.read_is_image mid) (below_of g.H.Host c.args.host.now mid (c.commit.ensures.below tells))
+    c.say_answer.new.host (below_said g.H.Host mid c.say_answer.new.host c.args.text.now (c.say_answer.ensures.any_moment tells))
+
 -- ---- the output has failed
 
 pub returns-in_err-say_answer-clause-ran : goal.returns-in_err-say_answer-clause-ran
@@ -68,19 +77,12 @@ returns-in_err-say_answer-clause-ran g c tells =
     }
 
 pub returns-in_err-say_answer-clause-stays_open : goal.returns-in_err-say_answer-clause-stays_open
-returns-in_err-say_answer-clause-stays_open g c tells =
-    let h = g.H.Host in
-    let old = c.args.host.now in
-    let mid = c.commit.new.host in
-    let below = below_of h old mid (c.commit.ensures.below tells) in
-    record {
-      holds = err_ok _ c.from_residual-in_err-say_answer.result SayFault c.from_residual-in_err-say_answer.ensures.1;
-      gate = err_ok _ c.from_residual-in_err-say_answer.result SayFault c.from_residual-in_err-say_answer.ensures.1;
-      gate_made = err_ok _ c.from_residual-in_err-say_answer.result SayFault c.from_residual-in_err-say_answer.ensures.1;
-      below = below_then h old mid c.say_answer.new.host (g.met.H.Host.read_is_image mid Left tells) (g.met.H.Host.read_is_image mid Right tells) below
-          (met_now h old mid (IsBelowMark h old) below (g.met.H.Host.counts_now mid) tells)
-          (below_said h mid c.say_answer.new.host c.args.text.now (c.say_answer.ensures.any_moment tells));
-    }
+returns-in_err-say_answer-clause-stays_open g c tells = record {
+  holds = err_ok _ c.from_residual-in_err-say_answer.result SayFault c.from_residual-in_err-say_answer.ensures.1;
+  gate = err_ok _ c.from_residual-in_err-say_answer.result SayFault c.from_residual-in_err-say_answer.ensures.1;
+  gate_made = err_ok _ c.from_residual-in_err-say_answer.result SayFault c.from_residual-in_err-say_answer.ensures.1;
+  below = below g (goal.at.returns-in_err-say_answer-clause-stays_open g c).After-say_answer tells;
+}
 
 pub returns-in_err-say_answer-clause-host_causes : goal.returns-in_err-say_answer-clause-host_causes
 returns-in_err-say_answer-clause-host_causes g c =
@@ -119,12 +121,9 @@ returns-clause-stays_open g c tells =
     let client = c.commit.new.self in
     let done = c.in_ok-commit.ensures in
     let still = c.say_answer.ensures.still tells in
-    let below = below_of h old mid (c.commit.ensures.below tells) in
     record {
       holds = open_said h mid new still client (done.holds tells);
       gate = λ gate. gate_said h mid new still client (done.gate tells gate);
       gate_made = λ changed. gate_said h mid new still client (done.gate_made tells (λ stays. changed (stays ∙ sym done.state)));
-      below = below_then h old mid new (g.met.H.Host.read_is_image mid Left tells) (g.met.H.Host.read_is_image mid Right tells) below
-          (met_now h old mid (IsBelowMark h old) below (g.met.H.Host.counts_now mid) tells)
-          (below_said h mid new c.args.text.now (c.say_answer.ensures.any_moment tells));
+      below = below g (goal.at.returns-clause-stays_open g c).After-say_answer tells;
     }

@@ -6,69 +6,68 @@ use Rattle.host_model.proofs.Meeting.{started, met_weaker}
 use Rattle.client_store.specs.declared.faults.MakeFault.TheVariants.{DiskFault}
 use Rattle.client_store.specs.NewStates.{fresh}
 use Rattle.client_store.specs.Moments.{IsLeftAmong}
+use Rattle.client_store.specs.OpenStore.{AllKept}
 use Rattle.client_store.specs.Places.{making_bytes}
 use Rattle.client_store.proofs.Holding.{kept_said}
-use Rattle.client_store.proofs.Moments.{met_now}
 use Rattle.session_run.specs.declared.status.RunStatus.{RunStatus}
 use Rattle.session_run.specs.FaultCauses.{IsStatusOf, HasHostCauses}
 use Rattle.session_run.specs.Finds.{MakingFound}
-use Rattle.session_run.specs.Making.{ready, DuringMaking, Made}
+use Rattle.session_run.specs.Making.{ready, DuringMaking, MakingEnds, Made}
 use Rattle.session_run.specs.Statuses.{of_making, IsOfMaking}
 use Rattle.session_run.specs.declared.status.RunStatus.TheVariants.{Done, SayFault, OutOfMemory}
-use Rattle.session_run.specs.Writes.{IsBelowMark}
 use Rattle.session_run.proofs.Belonging.{making_is_of, making_leaves, making_finds, making_not_done, making_memory, making_never}
 use Rattle.session_run.proofs.Causing.{make_fault_is, done_causes, said_causes, making_causes_of}
 use Rattle.session_run.proofs.Judging.{making_judges}
 use Rattle.session_run.proofs.MadeStores.{IsMade, made_said}
-use Rattle.session_run.proofs.Writing.{below_of, below_then, below_saying, below_unwritten, no_more}
+use Rattle.session_run.proofs.Writing.{below_after, below_of, below_saying, below_unwritten, no_more}
+use Rattle.session_run.proofs.making.init.Given.{Over}
+use Rattle.session_run.proofs.making.init.Goals.{After-say}
 use Rattle.session_run.proofs.making.init.Goals as goal
 
 -- ---- the store is made
 
+module _ (g : Over) (c : After-say g) where
+  is_ready : c.as_bytes.result.now ≡ ready c.args.id
+  is_ready = c.as_bytes.ensures.value ∙ c.as_str.ensures.text ∙ c.in-Ok.ensures
+
+  module _ (tells : g.H.Host.tells) where
+    is_made : IsMade g.H.Host c.args.host.now c.make.new.host c.args.id c.args.now
+    is_made =
+        let make = c.in-Ok-make.ensures in
+        subst (λ (id : List ℕ). IsMade g.H.Host c.args.host.now c.make.new.host id c.args.now) c.from_bytes.ensures
+        (record { kept = make.made tells; encoded = make.encoded tells; placed = make.place tells; closed = make.right tells; cost = (make.cost tells (make.finds tells)).exact })
+
+    kept : AllKept g.H.Host c.say.new.self (fresh c.args.id c.args.now)
+    kept = kept_said g.H.Host c.make.new.host c.say.new.self (c.say.ensures.still tells) (fresh c.args.id c.args.now) is_made.kept
+
+    made : (status : RunStatus) → MakingEnds g.H.Host (fresh c.args.id c.args.now) (ready c.args.id) (g.H.Host.said c.args.host.now) c.say.new.self status → ¬ (status ≡ OutOfMemory)
+        → Made g.H.Host c.args.id c.args.now c.args.host.now c.say.new.self status
+    made =
+        let h = g.H.Host in
+        let old = c.args.host.now in
+        let mid = c.make.new.host in
+        let make = c.in-Ok-make.ensures in
+        made_said h old mid c.say.new.self c.args.id c.as_bytes.result.now c.args.now is_ready (make.finds tells) (g.met.H.Host.read_is_image old Left tells) (g.met.H.Host.read_is_image old Right tells) is_made (make.any_moment tells) (make.text tells)
+        (c.say.ensures.still tells) (c.say.ensures.cost tells) (c.say.ensures.time tells)
+        (below_after h old mid tells (g.met.H.Host.counts_now mid) (g.met.H.Host.read_is_image mid) (below_of h old mid (make.below tells))
+        c.say.new.self (below_saying h mid c.say.new.self c.as_bytes.result.now (c.say.ensures.still tells) (g.met.H.Host.only_now mid) (c.say.ensures.time tells) tells))
+
 pub returns-in-Ok-say-clause-made : goal.returns-in-Ok-say-clause-made
 returns-in-Ok-say-clause-made g c tells =
-    let h = g.H.Host in
-    let old = c.args.host.now in
-    let mid = c.make.new.host in
-    let new = c.say.new.self in
-    let make = c.in-Ok-make.ensures in
-    let absent = make.finds tells in
-    let is_ready : c.as_bytes.result.now ≡ ready c.args.id = c.as_bytes.ensures.value ∙ c.as_str.ensures.text ∙ c.in-Ok.ensures in
-    let below = below_of h old mid (make.below tells) in
-    let made = subst (λ (id : List ℕ). IsMade h old mid id c.args.now) c.from_bytes.ensures (record { kept = make.made tells; encoded = make.encoded tells; placed = make.place tells; closed = make.right tells; cost = (make.cost tells absent).exact }) in
-    made_said h old mid new c.args.id c.as_bytes.result.now c.args.now is_ready absent (g.met.H.Host.read_is_image old Left tells) (g.met.H.Host.read_is_image old Right tells) made (make.any_moment tells) (make.text tells)
-    (c.say.ensures.still tells) (c.say.ensures.cost tells) (c.say.ensures.time tells)
-    (below_then h old mid new (g.met.H.Host.read_is_image mid Left tells) (g.met.H.Host.read_is_image mid Right tells) below
-    (met_now h old mid (IsBelowMark h old) below (g.met.H.Host.counts_now mid) tells)
-    (below_saying h mid new c.as_bytes.result.now (c.say.ensures.still tells) (g.met.H.Host.only_now mid) (c.say.ensures.time tells) tells))
-    Done (
-      kept_said h mid new (c.say.ensures.still tells) (fresh c.args.id c.args.now) made.kept,
-      c.in-Ok-say.ensures.said tells ∙ ap (λ (u : List ℕ). u ++ c.as_bytes.result.now) (make.text tells) ∙ ap (λ (u : List ℕ). h.said old ++ u) is_ready,
-    )
+    let said = (goal.at.returns-in-Ok-say-clause-made g c).After-say in
+    made g said tells Done
+    (kept g said tells, c.in-Ok-say.ensures.said tells ∙ ap (λ (u : List ℕ). u ++ c.as_bytes.result.now) (c.in-Ok-make.ensures.text tells) ∙ ap (λ (u : List ℕ). g.H.Host.said c.args.host.now ++ u) (is_ready g said))
     (λ is. absurd cc)
 
 pub returns-in-Ok-make-clause-made : goal.returns-in-Ok-make-clause-made
 returns-in-Ok-make-clause-made g c tells =
-    let h = g.H.Host in
-    let old = c.args.host.now in
-    let mid = c.make.new.host in
-    let new = c.say.new.self in
-    let make = c.in-Ok-make.ensures in
-    let absent = make.finds tells in
-    let is_ready : c.as_bytes.result.now ≡ ready c.args.id = c.as_bytes.ensures.value ∙ c.as_str.ensures.text ∙ c.in-Ok.ensures in
-    let below = below_of h old mid (make.below tells) in
-    let made = subst (λ (id : List ℕ). IsMade h old mid id c.args.now) c.from_bytes.ensures (record { kept = make.made tells; encoded = make.encoded tells; placed = make.place tells; closed = make.right tells; cost = (make.cost tells absent).exact }) in
+    let said = (goal.at.returns-in-Ok-make-clause-made g c).After-say in
     let part = c.in-Err-say.ensures.said_part tells in
-    made_said h old mid new c.args.id c.as_bytes.result.now c.args.now is_ready absent (g.met.H.Host.read_is_image old Left tells) (g.met.H.Host.read_is_image old Right tells) made (make.any_moment tells) (make.text tells)
-    (c.say.ensures.still tells) (c.say.ensures.cost tells) (c.say.ensures.time tells)
-    (below_then h old mid new (g.met.H.Host.read_is_image mid Left tells) (g.met.H.Host.read_is_image mid Right tells) below
-    (met_now h old mid (IsBelowMark h old) below (g.met.H.Host.counts_now mid) tells)
-    (below_saying h mid new c.as_bytes.result.now (c.say.ensures.still tells) (g.met.H.Host.only_now mid) (c.say.ensures.time tells) tells))
-    SayFault
+    made g said tells SayFault
     (record {
-      kept = kept_said h mid new (c.say.ensures.still tells) (fresh c.args.id c.args.now) made.kept;
+      kept = kept g said tells;
       n = part.0;
-      said_part = part.1 ∙ ap (λ (u : List ℕ). u ++ take part.0 c.as_bytes.result.now) (make.text tells) ∙ ap (λ (u : List ℕ). h.said old ++ take part.0 u) is_ready;
+      said_part = part.1 ∙ ap (λ (u : List ℕ). u ++ take part.0 c.as_bytes.result.now) (c.in-Ok-make.ensures.text tells) ∙ ap (λ (u : List ℕ). g.H.Host.said c.args.host.now ++ take part.0 u) (is_ready g said);
     })
     (λ is. absurd cc)
 

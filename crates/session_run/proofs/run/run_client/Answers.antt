@@ -1,10 +1,10 @@
 -- A store is opened, and its lines are done.
 use Rattle.std.proofs.Common.{◌≡◌, List, ℕ, All, Ok, Err, length, map, refl, sym, ap, ◌∙◌, subst}
 use Rattle.host_model.specs.declared.side.Side.TheVariants.{Left, Right}
-use Rattle.host_model.specs.Hosts.{NowOf}
+use Rattle.host_model.specs.Hosts.{NowOf, MeetsAll}
 use Rattle.host_model.proofs.Meeting.{started}
 use Rattle.row_store.proofs.Folds.{fault_is}
-use Rattle.client_core.specs.Clients.{state_of, end_of}
+use Rattle.client_core.specs.Clients.{state_of, end_of, HasGateOn}
 use Rattle.pair_store.specs.declared.faults.PairFault.TheVariants as opening
 use Rattle.client_store.specs.Moments.{IsLeftAmong}
 use Rattle.client_steps.specs.Settings.{setting}
@@ -13,7 +13,7 @@ use Rattle.client_store.proofs.Moments.{met_now}
 use Rattle.client_words.specs.Commands.{IsWithin, bytes_at, lines_of}
 use Rattle.client_words.proofs.Within.{lines-within, lines_at}
 use Rattle.std.proofs.lemmas.Result.{IfErr-at_err}
-use Rattle.std.specs.Prelude.{IsErrOf}
+use Rattle.std.specs.Prelude.{Result, IsErrOf}
 use Rattle.session_run.specs.declared.faults.RunFault.{RunFault}
 use Rattle.session_run.specs.declared.faults.RunFault.TheVariants as faults
 use Rattle.session_run.specs.declared.status.RunStatus.{RunStatus}
@@ -23,54 +23,62 @@ use Rattle.session_run.specs.FaultCauses.{IsStatusOf, HasShelfCauses, HasHostCau
 use Rattle.session_run.specs.Files.{LinesAsked}
 use Rattle.session_run.specs.Finds.{RunFound}
 use Rattle.session_run.specs.Later.{MayGoOn}
-use Rattle.session_run.specs.Runs.{Ran}
-use Rattle.session_run.specs.Starts.{Start, opened_on, last_state}
+use Rattle.session_run.specs.Runs.{LinesRan, Ran}
+use Rattle.session_run.specs.Starts.{Start, opened_on, start_on, last_state}
 use Rattle.session_run.specs.Statuses.{of_store, of_run, IsOfLines}
 use Rattle.session_run.specs.Writes.{IsBelowMark}
-use Rattle.session_run.proofs.Opened.{run_finds, unopened_leaves, lines_find, lines_leave, ran_unreached, ran_unopened, ran_opened}
+use Rattle.session_run.proofs.Opened.{run_finds, unopened_leaves, lines_find, lines_leave, of_lines, ran_unreached, ran_unopened, ran_opened}
 use Rattle.session_run.proofs.Asking.{none_asked, lines_unasked}
 use Rattle.session_run.proofs.Belonging.{lines_are_of, lines_open, store_is_of}
 use Rattle.session_run.proofs.Causing.{unfailed_causes, unopened_causes, shelf_causes_of, host_causes_of, done_causes, opening_causes}
 use Rattle.session_run.proofs.Judging.{run_judges}
 use Rattle.session_run.proofs.Linking.{goes_on_from, goes_on_as}
 use Rattle.session_run.proofs.Starting.{same_start}
-use Rattle.session_run.proofs.Writing.{below_of, below_then, below_unwritten, no_more}
+use Rattle.session_run.proofs.Writing.{below_after, below_of, below_unwritten, no_more}
+use Rattle.session_run.proofs.run.run_client.Given.{Over}
+use Rattle.session_run.proofs.run.run_client.Goals.{After-run_lines}
 use Rattle.session_run.proofs.run.run_client.Goals as goal
 
 pub run_lines-requires-clause-within : goal.run_lines-requires-clause-within
 run_lines-requires-clause-within g c =
     subst (λ (spans : List (ℕ × ℕ)). All (IsWithin (length c.args.script.now)) spans) (sym (c.as_slice.ensures ∙ c.in-Ok.ensures)) (lines-within c.args.script.now)
 
+-- ---- its lines are done, or one of them isn't
+
+module _ (g : Over) (c : After-run_lines g) where
+  lines_are : map (bytes_at c.args.script.now) c.as_slice.result.now ≡ lines_of c.args.script.now
+  lines_are = lines_at c.args.script.now c.as_slice.result.now (c.as_slice.ensures ∙ c.in-Ok.ensures)
+
+  asked : LinesAsked g.F.Shelf c.args.shelf.now c.run_lines.new.shelf (lines_of c.args.script.now)
+  asked = subst (LinesAsked g.F.Shelf c.args.shelf.now c.run_lines.new.shelf) lines_are c.run_lines.ensures.asked
+
+  below : g.H.Host.tells → MeetsAll g.H.Host c.args.host.now c.run_lines.new.host (IsBelowMark g.H.Host c.args.host.now)
+  below tells =
+      let mid = c.open.new.host in
+      below_after g.H.Host c.args.host.now mid tells (g.met.H.Host.counts_now mid) (g.met.H.Host.read_is_image mid) (below_of g.H.Host c.args.host.now mid (c.open.ensures.below tells))
+      c.run_lines.new.host (c.run_lines.ensures.below tells)
+
+  ran : g.H.Host.tells → (result : Result (Unit {0}) RunFault)
+      → LinesRan g.H.Host (LinesAsked g.F.Shelf c.args.shelf.now c.run_lines.new.shelf) (HasGateOn g.H.Host c.in-Ok-open.client c.open.new.host)
+      (start_on g.F.Shelf g.H.Host c.args.now c.args.shelf.now c.open.new.host (map (bytes_at c.args.script.now) c.as_slice.result.now) (state_of c.in-Ok-open.client) (end_of c.in-Ok-open.client)) c.open.new.host c.run_lines.new.host result
+      → Ran g.H.Host (LinesAsked g.F.Shelf c.args.shelf.now c.run_lines.new.shelf) (opened_on g.F.Shelf g.H.Host c.args.now c.args.shelf.now c.args.host.now (lines_of c.args.script.now)) c.args.host.now c.run_lines.new.host (of_lines result)
+  ran tells result lines_ran =
+      let h = g.H.Host in
+      let old = c.args.host.now in
+      let new = c.run_lines.new.host in
+      let opened = c.in-Ok-open.ensures in
+      ran_opened g.F.Shelf h (LinesAsked g.F.Shelf c.args.shelf.now c.run_lines.new.shelf) c.args.now c.requires.moment c.args.shelf.now old (lines_of c.args.script.now) (g.met.H.Host.read_is_image old Left tells) (g.met.H.Host.read_is_image old Right tells)
+      tells g.met.H.Host.counts_now c.open.new.host new c.in-Ok-open.client (opened.phases tells) (opened.ends tells) (opened.text tells)
+      (map (bytes_at c.args.script.now) c.as_slice.result.now) lines_are result lines_ran (g.met.H.Host.read_is_image new Left tells) (g.met.H.Host.read_is_image new Right tells)
+
 pub returns-in-Ok-run_lines-clause-ran : goal.returns-in-Ok-run_lines-clause-ran
 returns-in-Ok-run_lines-clause-ran g c shelf_tells tells =
-    let h = g.H.Host in
-    let old = c.args.host.now in
-    let mid = c.open.new.host in
-    let new = c.run_lines.new.host in
-    let script = c.args.script.now in
-    let opened = c.in-Ok-open.ensures in
-    let client = c.in-Ok-open.client in
-    let lines = map (bytes_at script) c.as_slice.result.now in
-    let lines_are : lines ≡ lines_of script = lines_at script c.as_slice.result.now (c.as_slice.ensures ∙ c.in-Ok.ensures) in
-    ran_opened g.F.Shelf h (LinesAsked g.F.Shelf c.args.shelf.now c.run_lines.new.shelf) c.args.now c.requires.moment c.args.shelf.now old (lines_of script) (g.met.H.Host.read_is_image old Left tells) (g.met.H.Host.read_is_image old Right tells) tells g.met.H.Host.counts_now mid new client (opened.phases tells) (opened.ends tells) (opened.text tells)
-    lines lines_are (Ok c.in-Ok-run_lines.field-0) (c.in-Ok-run_lines.ensures.ran shelf_tells tells)
-    (g.met.H.Host.read_is_image new Left tells) (g.met.H.Host.read_is_image new Right tells)
+    ran g (goal.at.returns-in-Ok-run_lines-clause-ran g c).After-run_lines tells (Ok c.in-Ok-run_lines.field-0) (c.in-Ok-run_lines.ensures.ran shelf_tells tells)
 
 pub returns-in-Ok-open-clause-ran : goal.returns-in-Ok-open-clause-ran
 returns-in-Ok-open-clause-ran g c shelf_tells tells =
-    let h = g.H.Host in
-    let old = c.args.host.now in
-    let mid = c.open.new.host in
-    let new = c.run_lines.new.host in
-    let script = c.args.script.now in
-    let opened = c.in-Ok-open.ensures in
-    let client = c.in-Ok-open.client in
-    let lines = map (bytes_at script) c.as_slice.result.now in
-    let lines_are : lines ≡ lines_of script = lines_at script c.as_slice.result.now (c.as_slice.ensures ∙ c.in-Ok.ensures) in
-    subst (Ran h (LinesAsked g.F.Shelf c.args.shelf.now c.run_lines.new.shelf) (opened_on g.F.Shelf h c.args.now c.args.shelf.now old (lines_of script)) old new) (sym c.into.ensures)
-    (ran_opened g.F.Shelf h (LinesAsked g.F.Shelf c.args.shelf.now c.run_lines.new.shelf) c.args.now c.requires.moment c.args.shelf.now old (lines_of script) (g.met.H.Host.read_is_image old Left tells) (g.met.H.Host.read_is_image old Right tells) tells g.met.H.Host.counts_now mid new client (opened.phases tells) (opened.ends tells) (opened.text tells)
-    lines lines_are (Err c.in-Err-run_lines.fault) (c.in-Err-run_lines.ensures.ran shelf_tells tells)
-    (g.met.H.Host.read_is_image new Left tells) (g.met.H.Host.read_is_image new Right tells))
+    subst (Ran g.H.Host (LinesAsked g.F.Shelf c.args.shelf.now c.run_lines.new.shelf) (opened_on g.F.Shelf g.H.Host c.args.now c.args.shelf.now c.args.host.now (lines_of c.args.script.now)) c.args.host.now c.run_lines.new.host) (sym c.into.ensures)
+    (ran g (goal.at.returns-in-Ok-open-clause-ran g c).After-run_lines tells (Err c.in-Err-run_lines.fault) (c.in-Err-run_lines.ensures.ran shelf_tells tells))
 
 -- there is no memory for the lines
 pub returns-in_default-clause-ran : goal.returns-in_default-clause-ran
@@ -112,9 +120,8 @@ returns-in-Ok-run_lines-clause-state g c shelf_tells tells s stands =
     let client = c.in-Ok-open.client in
     let at = setting g.F.Shelf c.args.shelf.now c.args.now in
     let lines = map (bytes_at script) c.as_slice.result.now in
-    let lines_are : lines ≡ lines_of script = lines_at script c.as_slice.result.now (c.as_slice.ensures ∙ c.in-Ok.ensures) in
     subst (λ (start : Start). state_of c.run_lines.new.client ≡ last_state start)
-    (same_start at s (state_of client) (end_of client) lines (lines_of script) (h.said old) (h.said c.open.new.host) _ _ ((opened.ends tells).known s stands) lines_are (opened.text tells) (opened.ends tells).written)
+    (same_start at s (state_of client) (end_of client) lines (lines_of script) (h.said old) (h.said c.open.new.host) _ _ ((opened.ends tells).known s stands) (lines_are g (goal.at.returns-in-Ok-run_lines-clause-state g c).After-run_lines) (opened.text tells) (opened.ends tells).written)
     (c.in-Ok-run_lines.ensures.state shelf_tells)
 
 -- ---- what was found
@@ -153,12 +160,10 @@ returns-clause-found g c tells =
 -- ---- what is asked for
 
 pub returns-in-Ok-run_lines-clause-asked : goal.returns-in-Ok-run_lines-clause-asked
-returns-in-Ok-run_lines-clause-asked g c =
-    subst (LinesAsked g.F.Shelf c.args.shelf.now c.run_lines.new.shelf) (lines_at c.args.script.now c.as_slice.result.now (c.as_slice.ensures ∙ c.in-Ok.ensures)) c.run_lines.ensures.asked
+returns-in-Ok-run_lines-clause-asked g c = asked g (goal.at.returns-in-Ok-run_lines-clause-asked g c).After-run_lines
 
 pub returns-in-Ok-open-clause-asked : goal.returns-in-Ok-open-clause-asked
-returns-in-Ok-open-clause-asked g c =
-    subst (LinesAsked g.F.Shelf c.args.shelf.now c.run_lines.new.shelf) (lines_at c.args.script.now c.as_slice.result.now (c.as_slice.ensures ∙ c.in-Ok.ensures)) c.run_lines.ensures.asked
+returns-in-Ok-open-clause-asked g c = asked g (goal.at.returns-in-Ok-open-clause-asked g c).After-run_lines
 
 pub returns-in_default-clause-asked : goal.returns-in_default-clause-asked
 returns-in_default-clause-asked g c = lines_unasked g.F.Shelf (lines_of c.args.script.now) c.args.shelf.now
@@ -209,22 +214,10 @@ returns-clause-next g c tells =
 -- ---- where is written
 
 pub returns-in-Ok-run_lines-clause-below : goal.returns-in-Ok-run_lines-clause-below
-returns-in-Ok-run_lines-clause-below g c tells =
-    let h = g.H.Host in
-    let old = c.args.host.now in
-    let mid = c.open.new.host in
-    let below = below_of h old mid (c.open.ensures.below tells) in
-    below_then h old mid c.run_lines.new.host (g.met.H.Host.read_is_image mid Left tells) (g.met.H.Host.read_is_image mid Right tells) below
-    (met_now h old mid (IsBelowMark h old) below (g.met.H.Host.counts_now mid) tells) (c.run_lines.ensures.below tells)
+returns-in-Ok-run_lines-clause-below g c = below g (goal.at.returns-in-Ok-run_lines-clause-below g c).After-run_lines
 
 pub returns-in-Ok-open-clause-below : goal.returns-in-Ok-open-clause-below
-returns-in-Ok-open-clause-below g c tells =
-    let h = g.H.Host in
-    let old = c.args.host.now in
-    let mid = c.open.new.host in
-    let below = below_of h old mid (c.open.ensures.below tells) in
-    below_then h old mid c.run_lines.new.host (g.met.H.Host.read_is_image mid Left tells) (g.met.H.Host.read_is_image mid Right tells) below
-    (met_now h old mid (IsBelowMark h old) below (g.met.H.Host.counts_now mid) tells) (c.run_lines.ensures.below tells)
+returns-in-Ok-open-clause-below g c = below g (goal.at.returns-in-Ok-open-clause-below g c).After-run_lines
 
 pub returns-in_default-clause-below : goal.returns-in_default-clause-below
 returns-in_default-clause-below g c tells = below_unwritten g.H.Host c.args.host.now (λ l r u met. g.met.H.Host.only_now c.args.host.now l r u tells met)
