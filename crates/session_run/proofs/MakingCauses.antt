@@ -30,6 +30,7 @@ making_causes s f h words source shelf old new answered makes is_of causes found
   say_quiet = causes.say_quiet;
   unreached = λ is. absurd (making_reaches answered is_of is);
   unasked = λ is. refl;
+  unasked_where = λ tells none. refl;
   unread = λ is. refl;
   apart = λ is. (refl, refl);
   asked = λ is_run. absurd (run_makes_none words is_run makes);

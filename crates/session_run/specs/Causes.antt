@@ -7,7 +7,8 @@ use Rattle.host_model.specs.declared.side.Side.TheVariants.{Left, Right}
 use Rattle.host_model.specs.declared.host.Host.{Ghosts}
 use Rattle.host_model.specs.declared.shelf.Shelf as shelves
 use Rattle.host_model.specs.declared.source.Source as sources
-use Rattle.client_store.specs.Store.{IsStore, IsAbsent}
+use Rattle.client_state.specs.declared.client_state.ClientState.{ClientState}
+use Rattle.client_store.specs.Store.{StandsFor, IsStore, IsAbsent}
 use Rattle.client_words.specs.Commands.{lines_of}
 use Rattle.session_run.specs.declared.status.RunStatus.{RunStatus}
 use Rattle.session_run.specs.declared.status.RunStatus.TheVariants.{Done, Usage, ScriptTooLong, NoStore, AlreadyStore, BadStore}
@@ -63,6 +64,8 @@ pub record HasCauses {S F H : Type 0} (s : sources.Ghosts S) (f : shelves.Ghosts
   pub unreached : IsUnreached status → new_host ≡ host
   pub unasked : OpensNone status → new_shelf ≡ shelf
   pub unread : status ≡ Usage → new_source ≡ source
+  -- nor is one of the shelf made where the pair of sides stands for no state, whatever the status
+  pub unasked_where : h.tells → ((s : ClientState) → StandsFor (h.reads host Left) (h.reads host Right) s → ⊥) → new_shelf ≡ shelf
   -- `init` and `drill` read neither the source nor the shelf
   pub apart : IsInit words ⊎ IsDrill words → (new_source ≡ source) × (new_shelf ≡ shelf)
   -- no file is asked for that the lines don't ask for, and none is changed

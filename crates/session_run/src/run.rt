@@ -46,6 +46,8 @@ pub(crate) fn run_client<F: Shelf, H: Host>(
     ensures found { H.tells → RunFound H.Host host.old host.new (status_of result) }
     ensures asked { LinesAsked F.Shelf shelf.old shelf.new (lines_of script.now) }
     ensures unasked { OpensNone (status_of result) → shelf.new ≡ shelf.old }
+    ensures unasked_where { H.tells → ((s : ClientState) → StandsFor (H.reads host.old Side.Left) (H.reads host.old Side.Right) s → ⊥)
+        → shelf.new ≡ shelf.old }
     ensures next { H.tells → MayGoOn H.Host host.old host.new (status_of result) }
     ensures below { H.tells → MeetsAll H.Host host.old host.new (IsBelowMark H.Host host.old) }
     ensures is_of { IsOfLines (status_of result) }
@@ -102,6 +104,8 @@ pub(crate) fn run<S: Source, F: Shelf, H: Host>(
     ensures found { H.tells → RunFound H.Host host.old host.new result }
     ensures asked { S.tells → LinesAsked F.Shelf shelf.old shelf.new (lines_of (S.left source.old)) }
     ensures unasked { OpensNone result → shelf.new ≡ shelf.old }
+    ensures unasked_where { H.tells → ((s : ClientState) → StandsFor (H.reads host.old Side.Left) (H.reads host.old Side.Right) s → ⊥)
+        → shelf.new ≡ shelf.old }
     ensures next { H.tells → MayGoOn H.Host host.old host.new result }
     ensures below { H.tells → MeetsAll H.Host host.old host.new (IsBelowMark H.Host host.old) }
     ensures is_of { IsOfRun result }

@@ -177,6 +177,12 @@ returns-in-Ok-run_lines-clause-unasked g c none = absurd none
 pub returns-in-Ok-open-clause-unasked : goal.returns-in-Ok-open-clause-unasked
 returns-in-Ok-open-clause-unasked g c none = absurd (lines_open c.in-Err-run_lines.fault (subst OpensNone c.into.ensures none))
 
+pub returns-in-Ok-run_lines-clause-unasked_where : goal.returns-in-Ok-run_lines-clause-unasked_where
+returns-in-Ok-run_lines-clause-unasked_where g c tells none = absurd (none (state_of c.in-Ok-open.client) (c.in-Ok-open.ensures.ends tells).stands)
+
+pub returns-in-Ok-open-clause-unasked_where : goal.returns-in-Ok-open-clause-unasked_where
+returns-in-Ok-open-clause-unasked_where g c tells none = absurd (none (state_of c.in-Ok-open.client) (c.in-Ok-open.ensures.ends tells).stands)
+
 -- ---- the next run
 
 disk_status : (fault : RunFault) → IsErrOf {T = Unit {0}} (Err fault) faults.DiskFault → of_run fault ≡ DiskFault
