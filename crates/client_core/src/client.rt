@@ -10,7 +10,7 @@ ghost use Rattle.row_store.specs.Rows.{HasRows};
 ghost use Rattle.client_state.specs.Sound.{IsConsistent, IsSound};
 ghost use Rattle.client_state.specs.Encoding.{rows_of};
 ghost use Rattle.client_store.specs.Moments.{WhileWritten};
-ghost use Rattle.client_store.specs.OpenStore.{AreDurable, AllKept, AllKeptEither, AllStand};
+ghost use Rattle.client_store.specs.OpenStore.{AreDurable, AllKept, AllKeptEither, AllStand, IsChangedTo};
 ghost use Rattle.client_store.specs.Places.{place_after, bytes_for, makes_checkpoint};
 ghost use Rattle.client_steps.specs.Sessions.{changed_by};
 
@@ -105,7 +105,9 @@ impl Client {
         ensures same { OnErr result (self.new ≡ self.old) }
 
         // What is written, and where: no byte at or past the mark, and the whole of the new state exactly where a record of
-        // the changed rows would pass it.
+        // the changed rows would pass it. Else both sides are as they were.
+        ensures bytes { OnOk result (H.tells → state_of self.old ≢ next_state self.old prepared
+            → IsChangedTo H.Host self.old.store (next_state self.old prepared) host.old host.new) }
         ensures cost { H.tells → HasCost (bytes_for (end_of self.old) (state_of self.old) (next_state self.old prepared)) (H.written host.old) (H.written host.new) result }
         ensures place { OnOk result (end_of self.new ≡ place_after (end_of self.old) (state_of self.old) (next_state self.old prepared)) }
         ensures below { H.tells → MeetsAll H.Host host.old host.new (StaysBelow H.Host host.old) }
@@ -160,6 +162,7 @@ impl Client {
         ensures session { OnOk result (session_of self.new ≡ changed_by self.old.session session) }
         ensures same { OnErr result (self.new ≡ self.old) }
 
+        ensures bytes { OnOk result (H.tells → IsChangedTo H.Host self.old.store change.state host.old host.new) }
         ensures cost { H.tells → HasCost (bytes_for (end_of self.old) (state_of self.old) change.state) (H.written host.old) (H.written host.new) result }
         ensures place { OnOk result (end_of self.new ≡ place_after (end_of self.old) (state_of self.old) change.state) }
         ensures below { H.tells → MeetsAll H.Host host.old host.new (StaysBelow H.Host host.old) }

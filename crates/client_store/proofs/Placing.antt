@@ -3,11 +3,12 @@ use Rattle.std.proofs.Common.{◌≡◌, ◌≢◌, ℕ, ◌+◌, ◌<◌, ◌�
 use Rattle.std.specs.Prelude.{if◌then◌else◌}
 use Rattle.std.specs.Cmp.Lexicographic.{bytes_decides}
 use Rattle.std.proofs.lemmas.Bool.{le-ltb, lt-ltb}
+use Rattle.host_model.specs.declared.host.Host.{Ghosts}
 use Rattle.pair_store.specs.declared.mark.TheConstants.{MAX_RECORD_END}
 use Rattle.row_batches.specs.Batch.{ChangeList, batch_text, applied, whole_of}
 use Rattle.row_batches.specs.declared.store_row.StoreRow.{StoreRow}
 use Rattle.row_batches.proofs.Walks.{applied_between}
-use Rattle.row_store.specs.Ready.{ReadyRows, IsWritten, commit_cost}
+use Rattle.row_store.specs.Ready.{ReadyRows, IsCommitted, IsWritten, commit_cost}
 use Rattle.row_store.specs.Ready as rows
 use Rattle.row_store.specs.Store.{place}
 use Rattle.client_state.specs.declared.client_state.ClientState.{ClientState}
@@ -16,7 +17,8 @@ use Rattle.client_state.specs.Encoding.{rows_of, encoding, state_eq}
 use Rattle.client_state.proofs.KeyOrder.{rows_rise}
 use Rattle.client_state.proofs.OneState.{one_encoding}
 use Rattle.client_store.specs.declared.change.Change.{Change}
-use Rattle.client_store.specs.Places.{row_changes, change_size, passes_mark, makes_checkpoint, bytes_for, place_after}
+use Rattle.client_store.specs.OpenStore.{IsChangedTo}
+use Rattle.client_store.specs.Places.{row_changes, change_size, passes_mark, makes_checkpoint, payload_for, bytes_for, place_after}
 use Rattle.client_store.specs.Changes.{IsChangeOf}
 use Rattle.client_store.specs.Stored.{StoredState, IsStored}
 
@@ -47,9 +49,9 @@ no_checkpoint place s = subst (λ (b : Bool). false ≡ (if b then false else pa
 
 -- ---- a change
 
-whole_size : (t : ClientState) → length (batch_text (whole_of (rows_of t))) ≡ length (encoding t)
+whole_is : (t : ClientState) → batch_text (whole_of (rows_of t)) ≡ encoding t
 unfolding encoding
-whole_size t = refl
+whole_is t = refl
 
 -- the changed rows make the new state's rows of those of the old one
 pub changes_give : (s t : ClientState) (batch : ChangeList) → IsSound s → IsSound t → batch ≡ row_changes s t → applied batch (rows_of s) ≡ rows_of t
@@ -71,11 +73,21 @@ module _ (stored : StoredState) (t : ClientState) (batch : ChangeList) (payload 
   within : IsWritten false stored.rows batch payload → passes_mark at s t ≡ false
   within written = le-ltb MAX_RECORD_END (at + change_size s t + 6) (subst (λ (b : ChangeList). at + length (batch_text b) + 6 ≤ MAX_RECORD_END) same written.1)
 
+  whole_payload : IsWritten true stored.rows batch payload → payload ≡ encoding t
+  whole_payload written = written.0 ∙ ap (λ (rs : List StoreRow). batch_text (whole_of rs)) gives ∙ whole_is t
+
+  part_payload : IsWritten false stored.rows batch payload → payload ≡ batch_text (row_changes s t)
+  part_payload written = written.0 ∙ ap batch_text same
+
   whole_length : IsWritten true stored.rows batch payload → length payload ≡ length (encoding t)
-  whole_length written = ap length (written.0 ∙ ap (λ (rs : List StoreRow). batch_text (whole_of rs)) gives) ∙ whole_size t
+  whole_length written = ap length (whole_payload written)
 
   part_length : IsWritten false stored.rows batch payload → length payload ≡ change_size s t
-  part_length written = ap length (written.0 ∙ ap batch_text same)
+  part_length written = ap length (part_payload written)
+
+  pub payload_is : (is_whole : Bool) → IsWritten is_whole stored.rows batch payload → payload ≡ payload_for at s t
+  payload_is true written = subst (λ (b : Bool). payload ≡ (if b then encoding t else batch_text (row_changes s t))) (sym (passes written)) (whole_payload written)
+  payload_is false written = subst (λ (b : Bool). payload ≡ (if b then encoding t else batch_text (row_changes s t))) (sym (within written)) (part_payload written)
 
   pub checkpoint_is : (is_whole : Bool) → IsWritten is_whole stored.rows batch payload → is_whole ≡ makes_checkpoint at s t
   checkpoint_is true written = subst (λ (b : Bool). true ≡ (if b then false else passes_mark at s t)) (sym apart) (sym (passes written))
@@ -112,3 +124,12 @@ module _ (stored : StoredState) (change : Change) (is_stored : IsStored stored) 
 
   pub change_place : rows.place_after change.ready (place stored.rows) ≡ place_after (place stored.rows) stored.state change.state
   change_place = place_is stored change.state change.ready.batch change.ready.payload is_stored.sound is.sound is.other is.batch change_gives change.ready.is_whole is.ready.written
+
+  change_payload : change.ready.payload ≡ payload_for (place stored.rows) stored.state change.state
+  change_payload = payload_is stored change.state change.ready.batch change.ready.payload is_stored.sound is.sound is.other is.batch change_gives change.ready.is_whole is.ready.written
+
+  -- what is written of it
+  pub change_written : {H : Type 0} (h : Ghosts H) (old new : H) → IsCommitted h change.ready.is_whole stored.rows.records change.ready.payload old new → IsChangedTo h stored change.state old new
+  change_written h old new fact =
+      subst (λ (b : Bool). IsCommitted h b stored.rows.records (payload_for (place stored.rows) stored.state change.state) old new) change_checkpoint
+      (subst (λ (payload : List ℕ). IsCommitted h change.ready.is_whole stored.rows.records payload old new) change_payload fact)

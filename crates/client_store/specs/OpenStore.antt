@@ -4,8 +4,10 @@ use Rattle.host_model.specs.declared.side.Side.{Side}
 use Rattle.host_model.specs.declared.side.Side.TheVariants.{Left, Right}
 use Rattle.host_model.specs.declared.host.Host.{Ghosts}
 use Rattle.host_model.specs.Hosts.{IsDurable}
+use Rattle.row_store.specs.Ready.{IsCommitted}
 use Rattle.row_store.specs.Store.{RowsStand, RowsStandWithGate, place}
 use Rattle.client_state.specs.declared.client_state.ClientState.{ClientState}
+use Rattle.client_store.specs.Places.{makes_checkpoint, payload_for}
 use Rattle.client_store.specs.Store.{StandsFor, KeptFor, KeptAmong}
 use Rattle.client_store.specs.Stored.{StoredState, IsStored}
 
@@ -22,6 +24,12 @@ pub record IsOpenOn {H : Type 0} (h : Ghosts H) (store : StoredState) (host : H)
 -- and a byte stands where the next record begins
 abbrev pub HasGateOn : {H : Type 0} → Ghosts H → StoredState → H → Type 0
 HasGateOn h store host = RowsStandWithGate h store.rows host
+
+-- what a change to t makes of both sides: the record of the changed rows stands where the next one begins, or the whole of t on the
+-- other side, which counts then. Else both sides are as they were
+abbrev pub IsChangedTo : {H : Type 0} → Ghosts H → StoredState → ClientState → H → H → Type 0
+IsChangedTo h store t old new =
+    IsCommitted h (makes_checkpoint (end_of store) store.state t) store.rows.records (payload_for (end_of store) store.state t) old new
 
 -- each image of either side is what reads give
 abbrev pub AreDurable : {H : Type 0} → Ghosts H → H → Type 0

@@ -1,5 +1,5 @@
 -- What a change of state writes, and where the next record begins then.
-use Rattle.std.specs.Prelude.{ℕ, Bool, false, nat_lt, ◌+◌, length, if◌then◌else◌}
+use Rattle.std.specs.Prelude.{ℕ, Bool, false, nat_lt, ◌+◌, List, length, if◌then◌else◌}
 use Rattle.pair_store.specs.declared.mark.TheConstants.{MAX_RECORD_END}
 use Rattle.row_batches.specs.Batch.{ChangeList, batch_text}
 use Rattle.row_batches.specs.Between.{between}
@@ -21,6 +21,10 @@ passes_mark place s t = nat_lt MAX_RECORD_END (place + change_size s t + 6)
 -- then the whole of t is written, on the other side
 abbrev pub makes_checkpoint : ℕ → ClientState → ClientState → Bool
 makes_checkpoint place s t = if state_eq s t then false else passes_mark place s t
+
+-- the payload of what a change from s to t writes at this place
+abbrev pub payload_for : ℕ → ClientState → ClientState → List ℕ
+payload_for place s t = if passes_mark place s t then encoding t else batch_text (row_changes s t)
 
 -- how many bytes a change from s to t writes at this place: none where there is none
 unfoldable pub bytes_for : ℕ → ClientState → ClientState → ℕ

@@ -8,7 +8,7 @@ ghost use Rattle.host_model.specs.Causes.{HasCause};
 ghost use Rattle.host_model.specs.Hosts.{MeetsAll};
 ghost use Rattle.pair_store.specs.Moments.{StaysBelow};
 ghost use Rattle.row_store.specs.Moments.{KeepsEitherRows};
-ghost use Rattle.row_store.specs.Ready.{commit_cost, place_after};
+ghost use Rattle.row_store.specs.Ready.{IsCommitted, commit_cost, place_after};
 ghost use Rattle.row_store.specs.Store.{RowsStand, RowsStandWithGate, place};
 ghost use Rattle.client_state.specs.Changes as changes;
 ghost use Rattle.client_state.specs.Changes.{state_after, with_users_value, HasHoldersOfBefore, IsWholeChangeOf};
@@ -157,6 +157,7 @@ impl StateStore {
         requires stands { H.tells → RowsStand H.Host self.old.rows host.old }
 
         ensures acknowledged { H.tells → OnOk result (RowsStandWithGate H.Host self.new.rows host.new) }
+        ensures bytes { H.tells → OnOk result (IsCommitted H.Host change.ready.is_whole self.old.rows.records change.ready.payload host.old host.new) }
         ensures state { OnOk result (self.new.state ≡ change.state) }
         ensures same { OnErr result (self.new ≡ self.old) }
         ensures was { IsStored self.old }

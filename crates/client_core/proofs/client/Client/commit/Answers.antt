@@ -12,7 +12,7 @@ use Rattle.client_state.specs.Encoding.{rows_of}
 use Rattle.client_store.specs.declared.change.Change.{Change}
 use Rattle.client_core.specs.Clients.{HasGateOn}
 use Rattle.client_store.specs.Moments.{WhileWritten}
-use Rattle.client_store.specs.OpenStore.{AllKept, AllKeptEither, AllStand}
+use Rattle.client_store.specs.OpenStore.{AllKept, AllKeptEither, AllStand, IsChangedTo}
 use Rattle.client_store.specs.Places.{place_after, bytes_for, makes_checkpoint}
 use Rattle.client_store.specs.Changes.{changed, is_whole_in, IsChange}
 use Rattle.client_store.proofs.Holding.{has_rows, has_kept_rows}
@@ -84,6 +84,13 @@ pub returns-in-Some-clause-sound : goal.returns-in-Some-clause-sound
 returns-in-Some-clause-sound g c =
     let made = subst (IsChange c.args.self.now.store) c.in-Some.is c.requires.made in
     subst (λ (o : Option Change). IsSound (changed c.args.self.now.store.state o)) (sym c.in-Some.is) made.sound
+
+pub returns-in-Some-clause-bytes : goal.returns-in-Some-clause-bytes
+returns-in-Some-clause-bytes g c =
+    let h = g.H.Host in
+    let old = c.args.self.now.store in
+    subst (λ (o : Option Change). OnOk c.write.result (h.tells → (old.state ≡ changed old.state o → ⊥) → IsChangedTo h old (changed old.state o) c.args.host.now c.write.new.host)) (sym c.in-Some.is)
+    (at_ok c.write.result c.write.ensures.bytes (λ written tells changes. written tells))
 
 pub returns-in-Some-clause-place : goal.returns-in-Some-clause-place
 returns-in-Some-clause-place g c =
@@ -158,6 +165,9 @@ returns-clause-sound g c = subst (λ (o : Option Change). IsSound (changed c.arg
 
 pub returns-clause-gate_made : goal.returns-clause-gate_made
 returns-clause-gate_made g c tells changes = absurd (changes (ap (changed c.args.self.now.store.state) (sym c.in-None.is)))
+
+pub returns-clause-bytes : goal.returns-clause-bytes
+returns-clause-bytes g c tells changes = absurd (changes (ap (changed c.args.self.now.store.state) (sym c.in-None.is)))
 
 pub returns-clause-place : goal.returns-clause-place
 returns-clause-place g c =

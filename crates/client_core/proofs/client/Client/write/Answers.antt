@@ -6,7 +6,7 @@ use Rattle.client_store.proofs.Moments.{met_now, text_below}
 use Rattle.row_store.specs.Rows.{HasRows}
 use Rattle.client_state.specs.Encoding.{rows_of}
 use Rattle.client_store.proofs.Holding.{rows_settled, rows_read, rows_stand, rows_kept, ungated, while_written}
-use Rattle.client_store.proofs.Placing.{change_bytes, change_place, change_checkpoint}
+use Rattle.client_store.proofs.Placing.{change_bytes, change_place, change_checkpoint, change_written}
 use Rattle.client_core.proofs.client.Client.write.Goals as goal
 
 pub returns-clause-any_moment : goal.returns-clause-any_moment
@@ -57,6 +57,9 @@ returns-clause-rows g c tells =
 pub returns-clause-kept : goal.returns-clause-kept
 returns-clause-kept g c tells =
     rows_kept g.H.Host c.commit.new.self.rows c.commit.new.host c.args.change.state c.requires.change.sound (inl (c.commit.ensures.stored.same ∙ ap rows_of c.in_ok-commit.ensures.state)) (c.in_ok-commit.ensures.acknowledged tells)
+
+pub returns-clause-bytes : goal.returns-clause-bytes
+returns-clause-bytes g c tells = change_written c.args.self.now.store c.args.change c.commit.ensures.was c.requires.change g.H.Host c.args.host.now c.commit.new.host (c.in_ok-commit.ensures.bytes tells)
 
 pub returns-clause-cost : goal.returns-clause-cost
 returns-clause-cost g c tells =

@@ -21,6 +21,9 @@ pub returns-clause-any_moment : goal.returns-clause-any_moment
 returns-clause-any_moment g c tells gated =
     met_as_states _ c.args.self.now c.self.view_is c.self.invariant c.args.change c.requires.change g.H.Host c.args.host.now c.commit.new.host (c.commit.ensures.any_moment tells) gated
 
+pub returns-in_err-commit-clause-bytes : goal.returns-in_err-commit-clause-bytes
+returns-in_err-commit-clause-bytes g c tells = let p = err_from_is_err_and c.from_residual.result c.from_residual.ensures.1 in rw p.1 tt
+
 -- what holds anyway holds where there is an error
 on_err : {T E P : Type 0} (r : Result T E) → P → OnErr r P
 on_err (Ok x) p = tt
