@@ -17,7 +17,7 @@ use Rattle.session_run.specs.declared.status.RunStatus.{RunStatus}
 use Rattle.session_run.specs.declared.status.RunStatus.TheVariants as status
 use Rattle.session_run.specs.Causes.{BelongsTo, IsUnreached, OpensNone}
 use Rattle.session_run.specs.Finds.{RunFinds, MakingFinds, RunLeaves, MakingLeaves}
-use Rattle.session_run.specs.Making.{MakingEnds}
+use Rattle.session_run.specs.Making.{MakesStore, MakingEnds}
 use Rattle.session_run.specs.Statuses.{of_script, of_store, of_making, of_run, of_drill, IsOfLines, IsOfRun, IsOfMaking}
 use Rattle.session_run.specs.Words.{IsRun, IsInit, IsDrill}
 
@@ -190,8 +190,8 @@ making_reaches answered is (inl other) = subst IsOfMaking other is
 making_reaches answered is (inr (inl other)) = subst IsOfMaking other is
 making_reaches answered is (inr (inr other)) = subst IsOfMaking other is
 
-pub making_never : (fault : MakeFault) → of_making fault ≡ status.Done → ⊥
-making_never make.AlreadyStore is = absurd cc
-making_never make.BadStore is = absurd cc
-making_never make.DiskFault is = absurd cc
-making_never make.OutOfMemory is = absurd cc
+pub making_makes_none : (fault : MakeFault) → MakesStore (of_making fault) → ⊥
+making_makes_none make.AlreadyStore is = is
+making_makes_none make.BadStore is = is
+making_makes_none make.DiskFault is = is
+making_makes_none make.OutOfMemory is = is

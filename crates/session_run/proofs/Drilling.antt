@@ -132,7 +132,7 @@ module _ {H : Type 0} (h : Ghosts H) (start count now : ℕ) where
   -- the store is made, and what follows `ready` has ended
   module _ (old mid new : H) (status : RunStatus) (made : Made h drill_bytes now old mid Done) (absent : IsAbsent (h.reads old Left) (h.reads old Right)) (ends : ScriptEnds h (made_start h start count now mid) (drill_summary start count now) new status) where
     there : ReadyEnds h start count now old new status
-    there = record { made = mid; kept = made.ends.0; said = made.ends.1; cost = made.cost refl; placed = made.placed refl; ends = ends }
+    there = record { made = mid; making = made; ends = ends }
 
     pub found_made : MakingFound h old new status
     found_made =
@@ -175,10 +175,7 @@ module _ {H : Type 0} (h : Ghosts H) (start count now : ℕ) where
         ends = refl;
         left = λ states all. met_weaker h.moment h.might old old _ (IsLeftAmong (h.said old) states) run (λ l r u met. (all l r met.0 met.1, met.2));
         memory = λ is. record { moments = met_weaker h.moment h.might old old _ (IsOpening h old) run (λ l r u met. inl met); text = refl; most = omega arith };
-        encoded = λ is. absurd cc;
-        placed = λ is. absurd cc;
-        closed = λ is. absurd cc;
-        cost = λ is. absurd cc;
+        store = λ is. absurd is;
         most = λ absent. omega arith;
         below = met_weaker h.moment h.might old old _ (IsBelowMark h old) run (λ l r u met. at_each h old old l r met.0 met.1);
       },

@@ -1,13 +1,11 @@
 -- What is promised of a drill.
-use Rattle.std.specs.Prelude.{◌≡◌, ◌⊎◌, ◌+◌, ℕ, List, ◌++◌, take}
-use Rattle.host_model.specs.declared.side.Side.TheVariants.{Left, Right}
+use Rattle.std.specs.Prelude.{◌≡◌, ◌⊎◌, ℕ, List, ◌++◌, take}
 use Rattle.host_model.specs.declared.host.Host.{Ghosts}
 use Rattle.host_model.specs.Hosts.{MeetsAll}
 use Rattle.client_state.specs.declared.client_state.ClientState.{ClientState}
 use Rattle.client_store.specs.Moments.{IsLeftAmong}
-use Rattle.row_store.specs.Rows.{HasPlace}
 use Rattle.client_store.specs.OpenStore.{AllKept, AllKeptAmong}
-use Rattle.client_store.specs.Places.{making_bytes, place_made}
+use Rattle.client_store.specs.Places.{place_made}
 use Rattle.session_run.specs.declared.status.RunStatus.{RunStatus}
 use Rattle.session_run.specs.declared.status.RunStatus.TheVariants.{Done, DiskFault, SayFault, OutOfMemory}
 use Rattle.session_run.specs.Drills.{drill_bytes, drill_fresh, drill_ready, drill_start, drill_summary, DuringDrill}
@@ -56,10 +54,7 @@ made_start h start count now made = drill_start start count now (place_made (dri
 -- and what follows the `ready` of a drill: the store was made on the host `made`, which its lines open
 pub record ReadyEnds {H : Type 0} (h : Ghosts H) (start count now : ℕ) (old new : H) (status : RunStatus) : Type 0 where
   pub made : H
-  pub kept : AllKept h made (drill_fresh now)
-  pub said : h.said made ≡ h.said old ++ drill_ready
-  pub cost : h.written made ≡ h.written old + making_bytes (drill_fresh now)
-  pub placed : HasPlace (h.reads made Left) (h.reads made Right) (place_made (drill_fresh now))
+  pub making : Made h drill_bytes now old made Done
   pub ends : ScriptEnds h (made_start h start count now made) (drill_summary start count now) new status
 
 -- a whole drill: its store was not made, or not said to be ready, and this is as in the making of a store that is not done. Or what follows

@@ -3,10 +3,11 @@ use Rattle.std.specs.Prelude.{◌≡◌, ◌⊎◌, ◌≤◌, ◌+◌, ℕ, Lis
 use Rattle.host_model.specs.declared.side.Side.TheVariants.{Left, Right}
 use Rattle.host_model.specs.declared.host.Host.{Ghosts}
 use Rattle.host_model.specs.Hosts.{MeetsAll}
+use Rattle.gate_journal.specs.Records.{made_on}
 use Rattle.row_store.specs.Rows.{HasRows, HasPlace}
 use Rattle.client_state.specs.declared.client_state.ClientState.{ClientState}
 use Rattle.client_store.specs.NewStates.{fresh}
-use Rattle.client_state.specs.Encoding.{rows_of}
+use Rattle.client_state.specs.Encoding.{rows_of, encoding}
 use Rattle.client_store.specs.Moments.{IsLeftAmong}
 use Rattle.client_store.specs.OpenStore.{AllKept, AllKeptAmong}
 use Rattle.client_store.specs.Places.{making_bytes, place_made}
@@ -40,6 +41,22 @@ MakingEnds h s text said host DiskFault = h.said host ≡ said
 MakingEnds h s text said host OutOfMemory = h.said host ≡ said
 MakingEnds h s text said host status = ⊥
 
+-- the store was made: that is said, or the output has failed
+abbrev pub MakesStore : RunStatus → Type 0
+MakesStore Done = Unit {0}
+MakesStore SayFault = Unit {0}
+MakesStore status = ⊥
+
+-- the store that was made. Its journal stands on the left side, and the right side is closed; else both sides are as they were
+pub record IsNewStore {H : Type 0} (h : Ghosts H) (id : List ℕ) (now : ℕ) (old new : H) : Type 0 where
+  -- its rows are encoded, and in no older form, and the next record begins behind them
+  pub encoded : HasRows (h.reads new Left) (h.reads new Right) (rows_of (fresh id now))
+  pub placed : HasPlace (h.reads new Left) (h.reads new Right) (place_made (fresh id now))
+  pub journal : h.reads new Left ≡ made_on 0 (encoding (fresh id now)) (h.reads old Left)
+  pub closed : h.reads new Right ≡ 0 ∷ drop 1 (h.reads old Right)
+  -- it takes exactly its bytes
+  pub cost : h.written new ≡ h.written old + making_bytes (fresh id now)
+
 -- the making of a store with this id at this moment
 pub record Made {H : Type 0} (h : Ghosts H) (id : List ℕ) (now : ℕ) (old new : H) (status : RunStatus) : Type 0 where
   -- at each moment at which a byte of the answer is said, the images are kept for the state of the new store
@@ -50,13 +67,9 @@ pub record Made {H : Type 0} (h : Ghosts H) (id : List ℕ) (now : ℕ) (old new
   pub left : (states : List ClientState) → AllKeptAmong h old states → MeetsAll h old new (IsLeftAmong (h.said old) states)
   -- where memory is wanting, nothing is said, and no byte is written but that of an opening
   pub memory : status ≡ OutOfMemory → WritesNoMore h old new
-  -- the rows of a store that is made are encoded, and in no older form
-  pub encoded : status ≡ Done → HasRows (h.reads new Left) (h.reads new Right) (rows_of (fresh id now))
-  -- they stand on the left side, the next record begins behind them, and the right side is closed
-  pub placed : status ≡ Done → HasPlace (h.reads new Left) (h.reads new Right) (place_made (fresh id now))
-  pub closed : status ≡ Done → h.reads new Right ≡ 0 ∷ drop 1 (h.reads old Right)
-  -- a store that is made takes exactly its bytes, and any other end takes no more
-  pub cost : status ≡ Done → h.written new ≡ h.written old + making_bytes (fresh id now)
+  -- to the byte, what stands where the store was made
+  pub store : MakesStore status → IsNewStore h id now old new
+  -- no end takes more bytes than the store does
   pub most : IsAbsent (h.reads old Left) (h.reads old Right) → h.written new ≤ h.written old + making_bytes (fresh id now)
   -- no byte at or past byte 33,554,432 of a side is written
   pub below : MeetsAll h old new (IsBelowMark h old)

@@ -1,5 +1,5 @@
 -- The store of a drill is made, and then its script is run.
-use Rattle.std.proofs.Common.{List, ℕ, refl, subst}
+use Rattle.std.proofs.Common.{List, ℕ, subst}
 use Rattle.host_model.specs.declared.side.Side.TheVariants.{Left, Right}
 use Rattle.host_model.specs.Hosts.{NowOf}
 use Rattle.host_model.proofs.Meeting.{started}
@@ -67,15 +67,15 @@ run_script-requires-clause-made g c tells =
 pub run_script-requires-clause-encoded : goal.run_script-requires-clause-encoded
 run_script-requires-clause-encoded g c tells =
     let h = g.H.Host in
-    (subst (λ (id : List ℕ). Made h id c.args.now c.args.host.now c.init.new.host Done) c.id_bytes.ensures (c.in-Done.ensures.made tells)).encoded refl
+    ((subst (λ (id : List ℕ). Made h id c.args.now c.args.host.now c.init.new.host Done) c.id_bytes.ensures (c.in-Done.ensures.made tells)).store tt).encoded
 
 pub run_script-requires-clause-placed : goal.run_script-requires-clause-placed
 run_script-requires-clause-placed g c tells =
     let h = g.H.Host in
-    (subst (λ (id : List ℕ). Made h id c.args.now c.args.host.now c.init.new.host Done) c.id_bytes.ensures (c.in-Done.ensures.made tells)).placed refl
+    ((subst (λ (id : List ℕ). Made h id c.args.now c.args.host.now c.init.new.host Done) c.id_bytes.ensures (c.in-Done.ensures.made tells)).store tt).placed
 
 pub run_script-requires-clause-whole : goal.run_script-requires-clause-whole
 run_script-requires-clause-whole g c tells =
     let h = g.H.Host in
     let mid = c.init.new.host in
-    closed_cost (h.reads mid Left) (h.reads mid Right) _ ((c.in-Done.ensures.made tells).closed refl)
+    closed_cost (h.reads mid Left) (h.reads mid Right) _ ((c.in-Done.ensures.made tells).store tt).closed

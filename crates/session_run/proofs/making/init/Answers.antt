@@ -15,7 +15,7 @@ use Rattle.session_run.specs.Finds.{MakingFound}
 use Rattle.session_run.specs.Making.{ready, DuringMaking, MakingEnds, Made}
 use Rattle.session_run.specs.Statuses.{of_making, IsOfMaking}
 use Rattle.session_run.specs.declared.status.RunStatus.TheVariants.{Done, SayFault, OutOfMemory}
-use Rattle.session_run.proofs.Belonging.{making_is_of, making_leaves, making_finds, making_not_done, making_memory, making_never}
+use Rattle.session_run.proofs.Belonging.{making_is_of, making_leaves, making_finds, making_not_done, making_memory, making_makes_none}
 use Rattle.session_run.proofs.Causing.{make_fault_is, done_causes, said_causes, making_causes_of}
 use Rattle.session_run.proofs.Judging.{making_judges}
 use Rattle.session_run.proofs.MadeStores.{IsMade, made_said}
@@ -35,7 +35,10 @@ module _ (g : Over) (c : After-say g) where
     is_made =
         let make = c.in-Ok-make.ensures in
         subst (λ (id : List ℕ). IsMade g.H.Host c.args.host.now c.make.new.host id c.args.now) c.from_bytes.ensures
-        (record { kept = make.made tells; encoded = make.encoded tells; placed = make.place tells; closed = make.right tells; cost = (make.cost tells (make.finds tells)).exact })
+        (record {
+          kept = make.made tells;
+          store = record { encoded = make.encoded tells; placed = make.place tells; journal = make.journal tells; closed = make.right tells; cost = (make.cost tells (make.finds tells)).exact };
+        })
 
     kept : AllKept g.H.Host c.say.new.self (fresh c.args.id c.args.now)
     kept = kept_said g.H.Host c.make.new.host c.say.new.self (c.say.ensures.still tells) (fresh c.args.id c.args.now) is_made.kept
@@ -100,10 +103,7 @@ returns-clause-made g c tells =
       memory = λ is.
           let wanting = ap Err (making_memory fault is) in
           record { moments = c.in-Err.ensures.memory wanting tells; text = made.text tells; most = c.in-Err.ensures.memory_cost wanting tells };
-      encoded = λ is. absurd (making_never fault is);
-      placed = λ is. absurd (making_never fault is);
-      closed = λ is. absurd (making_never fault is);
-      cost = λ is. absurd (making_never fault is);
+      store = λ is. absurd (making_makes_none fault is);
       most = λ absent. subst (λ (id : List ℕ). h.written new ≤ h.written old + making_bytes (fresh id c.args.now)) c.from_bytes.ensures (made.cost tells absent).most;
       below = below_of h old new (made.below tells);
     })
@@ -132,10 +132,7 @@ returns-in_default-clause-made g c tells =
       ends = refl;
       left = λ states all. met_weaker h.moment h.might old old _ (IsLeftAmong (h.said old) states) none (λ l r u met. (all l r met.0 met.1, met.2));
       memory = λ is. no_more h old (λ l r u met. g.met.H.Host.only_now old l r u tells met);
-      encoded = λ is. absurd cc;
-      placed = λ is. absurd cc;
-      closed = λ is. absurd cc;
-      cost = λ is. absurd cc;
+      store = λ is. absurd is;
       most = λ absent. omega arith;
       below = below_unwritten h old (λ l r u met. g.met.H.Host.only_now old l r u tells met);
     }
