@@ -172,6 +172,7 @@ module _ {H : Type 0} (h : Ghosts H) (start count now : ℕ) where
       λ is. absurd cc,
       record {
         moments = met_weaker h.moment h.might old old _ (DuringMaking (h.said old) (drill_fresh now) drill_ready) run (λ l r u met. inl met.2);
+        phases = record { made = old; making = inr (inr (inr (refl, refl))); says = inl refl };
         ends = refl;
         left = λ states all. met_weaker h.moment h.might old old _ (IsLeftAmong (h.said old) states) run (λ l r u met. (all l r met.0 met.1, met.2));
         memory = λ is. record { moments = met_weaker h.moment h.might old old _ (IsOpening h old) run (λ l r u met. inl met); text = refl; most = omega arith };

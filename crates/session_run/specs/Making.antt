@@ -1,11 +1,15 @@
 -- What is promised of the making of a store.
 use Rattle.std.specs.Prelude.{◌≡◌, ◌⊎◌, ◌≤◌, ◌+◌, ℕ, List, [], ◌∷◌, ◌++◌, take, drop, codes}
+use Rattle.host_model.specs.declared.side.Side.{Side}
 use Rattle.host_model.specs.declared.side.Side.TheVariants.{Left, Right}
 use Rattle.host_model.specs.declared.host.Host.{Ghosts}
 use Rattle.host_model.specs.Hosts.{MeetsAll}
+use Rattle.host_model.specs.Sides.{on}
+use Rattle.pair_store.specs.Moments.{EndsUnsynced, OpensInTwoPhases}
 use Rattle.gate_journal.specs.Records.{made_on}
 use Rattle.row_store.specs.Rows.{HasRows, HasPlace}
 use Rattle.client_state.specs.declared.client_state.ClientState.{ClientState}
+use Rattle.client_store.specs.Makings.{MakesInPhases}
 use Rattle.client_store.specs.NewStates.{fresh}
 use Rattle.client_state.specs.Encoding.{rows_of, encoding}
 use Rattle.client_store.specs.Moments.{IsLeftAmong}
@@ -57,10 +61,29 @@ pub record IsNewStore {H : Type 0} (h : Ghosts H) (id : List ℕ) (now : ℕ) (o
   -- it takes exactly its bytes
   pub cost : h.written new ≡ h.written old + making_bytes (fresh id now)
 
+-- The phases of a making, until its answer is said: those of one that found no store; or an opening and no more, as far as the disk lets
+-- it; or nothing at all, where memory is wanting before
+abbrev pub MakesOn : {H : Type 0} → Ghosts H → ClientState → H → H → RunStatus → Type 0
+MakesOn h s old made status =
+    MakesInPhases h s old made
+    ⊎ (OpensInTwoPhases h old made ⊎ (((status ≡ DiskFault) × EndsUnsynced h old made) ⊎ ((status ≡ OutOfMemory) × (made ≡ old))))
+
+-- what reads give
+abbrev pub IsAsRead : {H : Type 0} → Ghosts H → H → List ℕ → List ℕ → List ℕ → Type 0
+IsAsRead h host l r u = (side : Side) → on side l r ≡ h.reads host side
+
+-- a making, and then its answer, while each image is what reads give
+pub record MakesAndSays {H : Type 0} (h : Ghosts H) (s : ClientState) (old new : H) (status : RunStatus) : Type 0 where
+  pub made : H
+  pub making : MakesOn h s old made status
+  pub says : (new ≡ made) ⊎ MeetsAll h made new (IsAsRead h made)
+
 -- the making of a store with this id at this moment
 pub record Made {H : Type 0} (h : Ghosts H) (id : List ℕ) (now : ℕ) (old new : H) (status : RunStatus) : Type 0 where
   -- at each moment at which a byte of the answer is said, the images are kept for the state of the new store
   pub moments : MeetsAll h old new (DuringMaking (h.said old) (fresh id now) (ready id))
+  -- what each image is at each moment, phase by phase
+  pub phases : MakesAndSays h (fresh id now) old new status
   -- what stands when it has ended
   pub ends : MakingEnds h (fresh id now) (ready id) (h.said old) new status
   -- where each image is kept for one of some states, each image at each moment is, and nothing is said

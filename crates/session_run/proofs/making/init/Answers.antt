@@ -4,6 +4,7 @@ use Rattle.host_model.specs.declared.side.Side.TheVariants.{Left, Right}
 use Rattle.host_model.specs.Hosts.{NowOf}
 use Rattle.host_model.proofs.Meeting.{started, met_weaker}
 use Rattle.client_store.specs.declared.faults.MakeFault.TheVariants.{DiskFault}
+use Rattle.client_store.specs.Makings.{MakePhases}
 use Rattle.client_store.specs.NewStates.{fresh}
 use Rattle.client_store.specs.Moments.{IsLeftAmong}
 use Rattle.client_store.specs.OpenStore.{AllKept}
@@ -18,7 +19,7 @@ use Rattle.session_run.specs.declared.status.RunStatus.TheVariants.{Done, SayFau
 use Rattle.session_run.proofs.Belonging.{making_is_of, making_leaves, making_finds, making_not_done, making_memory, making_makes_none}
 use Rattle.session_run.proofs.Causing.{make_fault_is, done_causes, said_causes, making_causes_of}
 use Rattle.session_run.proofs.Judging.{making_judges}
-use Rattle.session_run.proofs.MadeStores.{IsMade, made_said}
+use Rattle.session_run.proofs.MadeStores.{IsMade, made_said, made_phases, unmade_phases}
 use Rattle.session_run.proofs.Writing.{below_after, below_of, below_saying, below_unwritten, no_more}
 use Rattle.session_run.proofs.making.init.Given.{Over}
 use Rattle.session_run.proofs.making.init.Goals.{After-say}
@@ -38,6 +39,8 @@ module _ (g : Over) (c : After-say g) where
         (record {
           kept = make.made tells;
           store = record { encoded = make.encoded tells; placed = make.place tells; journal = make.journal tells; closed = make.right tells; cost = (make.cost tells (make.finds tells)).exact };
+          settled = make.settled tells;
+          phases = made_phases g.H.Host (fresh _ c.args.now) c.args.host.now c.make.new.host _ (make.phases tells);
         })
 
     kept : AllKept g.H.Host c.say.new.self (fresh c.args.id c.args.now)
@@ -54,6 +57,7 @@ module _ (g : Over) (c : After-say g) where
         (c.say.ensures.still tells) (c.say.ensures.cost tells) (c.say.ensures.time tells)
         (below_after h old mid tells (g.met.H.Host.counts_now mid) (g.met.H.Host.read_is_image mid) (below_of h old mid (make.below tells))
         c.say.new.self (below_saying h mid c.say.new.self c.as_bytes.result.now (c.say.ensures.still tells) (g.met.H.Host.only_now mid) (c.say.ensures.time tells) tells))
+        (λ l r u met. g.met.H.Host.only_now mid l r u tells met)
 
 pub returns-in-Ok-say-clause-made : goal.returns-in-Ok-say-clause-made
 returns-in-Ok-say-clause-made g c tells =
@@ -98,6 +102,11 @@ returns-clause-made g c tells =
     let made = c.make.ensures in
     subst (Made h c.args.id c.args.now old new) (sym c.into.ensures) (record {
       moments = met_weaker h.moment h.might old new _ (DuringMaking (h.said old) s (ready c.args.id)) (made.any_moment tells) (λ l r u quiet. inl quiet);
+      phases = record {
+        made = new;
+        making = unmade_phases h s old new fault (subst (λ (id : List ℕ). MakePhases {T = Unit {0}} h (fresh id c.args.now) old new (Err fault)) c.from_bytes.ensures (c.in-Err.ensures.phases tells));
+        says = inl refl;
+      };
       ends = making_not_done h s (ready c.args.id) (h.said old) new fault (made.text tells);
       left = made.left tells;
       memory = λ is.
@@ -129,6 +138,7 @@ returns-in_default-clause-made g c tells =
     let none = started h.moment h.might old (NowOf h old) (λ l r u met. g.met.H.Host.only_now old l r u tells met) in
     record {
       moments = met_weaker h.moment h.might old old _ (DuringMaking (h.said old) (fresh c.args.id c.args.now) (ready c.args.id)) none (λ l r u met. inl met.2);
+      phases = record { made = old; making = inr (inr (inr (refl, refl))); says = inl refl };
       ends = refl;
       left = λ states all. met_weaker h.moment h.might old old _ (IsLeftAmong (h.said old) states) none (λ l r u met. (all l r met.0 met.1, met.2));
       memory = λ is. no_more h old (λ l r u met. g.met.H.Host.only_now old l r u tells met);
