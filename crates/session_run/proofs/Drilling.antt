@@ -55,15 +55,15 @@ module _ {H : Type 0} (h : Ghosts H) (start : Start) (summary : List ℕ) (old :
   -- a run that did not do all ends a drill
   pub lines_end : (asked : List (List ℕ) → Type 0) (new : H) (status : RunStatus) → RunEnds h asked (start.state ∷ []) start old new status → (status ≡ Done → ⊥) → (status ≡ ScriptTooLong → ⊥) → (status ≡ SourceFault → ⊥) → (status ≡ ShelfFault → ⊥) → ScriptEnds h start summary new status
   lines_end asked new Done ends not_done short source shelf = absurd (not_done refl)
-  lines_end asked new OutOfMemory (inl ends) not_done short source shelf = inl (record { k = ends.k; within = ends.within; kept = ends.kept; text = ends.text; most = ends.most; asks = tt })
+  lines_end asked new OutOfMemory (inl ends) not_done short source shelf = inl (record { k = ends.k; within = ends.within; kept = ends.kept; text = ends.text; cost = ends.cost; asks = tt })
   lines_end asked new OutOfMemory (inr (inl stays)) not_done short source shelf = inr (inl (stays_as asked new stays.kept stays.unbegun))
   lines_end asked new OutOfMemory (inr (inr stays)) not_done short source shelf = inr (inl (stays_as asked new (one_among h new start.state stays.kept) stays.unbegun))
   lines_end asked new DiskFault (inl ends) not_done short source shelf =
-      inl (record { k = ends.k; within = ends.within; changes = ends.changes; kept = ends.kept; text = ends.text; most = ends.most; asks = tt })
+      inl (record { k = ends.k; within = ends.within; changes = ends.changes; kept = ends.kept; text = ends.text; least = ends.least; most = ends.most; asks = tt })
   lines_end asked new DiskFault (inr (inl stays)) not_done short source shelf = inr (stays_as asked new stays.kept stays.unbegun)
   lines_end asked new DiskFault (inr (inr stays)) not_done short source shelf = inr (stays_as asked new (one_among h new start.state stays.kept) stays.unbegun)
   lines_end asked new SayFault ends not_done short source shelf =
-      inl (record { k = ends.k; within = ends.within; kept = ends.kept; part = ends.part; rest = ends.rest; both = ends.both; some = ends.some; text = ends.text; most = ends.most; asks = tt })
+      inl (record { k = ends.k; within = ends.within; kept = ends.kept; part = ends.part; rest = ends.rest; both = ends.both; some = ends.some; text = ends.text; cost = ends.cost; asks = tt })
   lines_end asked new ShelfFault ends not_done short source shelf = absurd (shelf refl)
   lines_end asked new ScriptTooLong ends not_done short source shelf = absurd (short refl)
   lines_end asked new SourceFault ends not_done short source shelf = absurd (source refl)

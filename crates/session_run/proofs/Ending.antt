@@ -1,5 +1,5 @@
 -- What stands when a line, the lines of a run or a run has ended.
-use Rattle.std.proofs.Common.{◌≡◌, ◌≢◌, inl, inr, ℕ, ◌<◌, ◌≤◌, ◌+◌, List, [], ◌∷◌, ◌++◌, length, take, drop, refl, sym, ◌∙◌, ap, subst, Some, Result, Ok, Err, IsErrAnd}
+use Rattle.std.proofs.Common.{◌≡◌, ◌≢◌, inl, inr, ℕ, ◌<◌, ◌+◌, List, [], ◌∷◌, ◌++◌, length, take, drop, refl, sym, ◌∙◌, ap, subst, Some, Result, Ok, Err, IsErrAnd}
 use Rattle.std.proofs.lemmas.List.{take-append-drop}
 use Rattle.std.specs.Prelude.{slice_get}
 use Rattle.host_model.specs.declared.host.Host.{Ghosts}
@@ -16,7 +16,7 @@ use Rattle.session_run.specs.declared.status.RunStatus.TheVariants.{SourceFault,
 use Rattle.session_run.specs.Statuses.{of_run, of_script}
 use Rattle.session_run.specs.Places.{all_bytes}
 use Rattle.session_run.specs.Steps.{RunState, begun, run_after, answer, run_at, after, out}
-use Rattle.session_run.specs.Ends.{LineEnds, EndsBefore, LinesEnd, RunEnds, StaysAmong}
+use Rattle.session_run.specs.Ends.{FaultCost, LineEnds, EndsBefore, LinesEnd, RunEnds, StaysAmong}
 use Rattle.session_run.specs.Files.{NamesFile}
 use Rattle.session_run.specs.Moments.{EndsEarly}
 use Rattle.session_run.specs.Starts.{Start}
@@ -45,24 +45,26 @@ module _ {H : Type 0} (h : Ghosts H) (at : Setting) (s : ClientState) (lines : L
   next_is : (run_after at now line).state ≡ after at s lines (i + 1)
   next_is = ap (λ (run : RunState). (run_after at run line).state) is ∙ sym (after-more at s lines i line within more)
 
-  abbrev before : (asked : List (List ℕ) → Type 0) (place written : ℕ) → asked (take (i + 1) lines) → h.written new ≤ written + all_bytes at place (begun s) (take (i + 1) lines) → AllKept h new now.state → h.said new ≡ h.said mid → EndsBefore h asked (begin at s place lines (h.said start) written) new
-  before asked place written asks most kept text = record { k = i; within = within; kept = subst (AllKept h new) now_is kept; text = text ∙ said; most = most; asks = asks }
+  abbrev before : (asked : List (List ℕ) → Type 0) (place written : ℕ) → asked (take (i + 1) lines) → h.written new ≡ written + all_bytes at place (begun s) (take i lines) → AllKept h new now.state → h.said new ≡ h.said mid → EndsBefore h asked (begin at s place lines (h.said start) written) new
+  before asked place written asks cost kept text = record { k = i; within = within; kept = subst (AllKept h new) now_is kept; text = text ∙ said; cost = cost; asks = asks }
 
   -- a line that isn't done and answered ends the run
-  pub line_ends : (asked : List (List ℕ) → Type 0) (place written : ℕ) (fault : RunFault) → asked (take (i + 1) lines) → h.written new ≤ written + all_bytes at place (begun s) (take (i + 1) lines) → slice_get lines i ≡ Some line → (fault ≡ run.ShelfFault → NamesFile line)
+  pub line_ends : (asked : List (List ℕ) → Type 0) (place written : ℕ) (fault : RunFault) → asked (take (i + 1) lines)
+      → FaultCost (written + all_bytes at place (begun s) (take i lines)) (written + all_bytes at place (begun s) (take (i + 1) lines)) (h.written new) fault → slice_get lines i ≡ Some line → (fault ≡ run.ShelfFault → NamesFile line)
       → LineEnds {T = Unit {0}} h now.state (run_after at now line).state (answer at now line) (h.said mid) new (Err fault) → LinesEnd {T = Unit {0}} h asked (begin at s place lines (h.said start) written) new (Err fault)
-  line_ends asked place written run.ShelfFault asks most there named ends = record { before = before asked place written asks most ends.0 ends.1; line = line; is_next = there; names = named refl }
-  line_ends asked place written run.OutOfMemory asks most there named ends = before asked place written asks most ends.0 ends.1
-  line_ends asked place written run.DiskFault asks most there named (changed, either, text) = record {
+  line_ends asked place written run.ShelfFault asks cost there named ends = record { before = before asked place written asks cost ends.0 ends.1; line = line; is_next = there; names = named refl }
+  line_ends asked place written run.OutOfMemory asks cost there named ends = before asked place written asks cost ends.0 ends.1
+  line_ends asked place written run.DiskFault asks cost there named (changed, either, text) = record {
     k = i;
     within = within;
     changes = λ same. changed (now_is ∙ same ∙ sym next_is);
     kept = subst (λ (x : ClientState). AllKeptEither h new x (after at s lines (i + 1))) now_is (subst (λ (x : ClientState). AllKeptEither h new now.state x) next_is either);
     text = text ∙ said;
-    most = most;
+    least = cost.0;
+    most = cost.1;
     asks = asks;
   }
-  line_ends asked place written run.SayFault asks most there named (some, kept, (n, text)) = record {
+  line_ends asked place written run.SayFault asks cost there named (some, kept, (n, text)) = record {
     k = i;
     within = within;
     kept = subst (AllKept h new) next_is kept;
@@ -71,7 +73,7 @@ module _ {H : Type 0} (h : Ghosts H) (at : Setting) (s : ClientState) (lines : L
     both = part at s lines i line within more n;
     some = λ none. some (ap (λ (x : RunState). answer at x line) is ∙ sym (take-append-drop n (answer at (run_at at s lines i) line)) ∙ none);
     text = text ∙ ap (λ (u : List ℕ). u ++ take n (answer at now line)) said ∙ ap (λ (x : RunState). h.said start ++ out at s lines i ++ take n (answer at x line)) is;
-    most = most;
+    cost = cost;
     asks = asks;
   }
 

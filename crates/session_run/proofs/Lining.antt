@@ -1,5 +1,5 @@
 -- A line of a run, over the setting of its start.
-use Rattle.std.proofs.Common.{◌≡◌, ◌≢◌, ◌+◌, ℕ, ◌<◌, ◌≤◌, List, [], ◌∷◌, ◌++◌, append_assoc, length, take, refl, sym, ap, ◌∙◌, subst, arith, Err}
+use Rattle.std.proofs.Common.{◌≡◌, ◌≢◌, ◌+◌, ℕ, ◌<◌, List, [], ◌∷◌, ◌++◌, append_assoc, length, take, refl, sym, ap, ◌∙◌, subst, arith, Err}
 use Rattle.std.specs.Prelude.{slice_get, Some}
 use Rattle.host_model.specs.declared.host.Host.{Ghosts}
 use Rattle.host_model.specs.Hosts.{MeetsAll}
@@ -11,7 +11,7 @@ use Rattle.session_run.specs.declared.faults.RunFault.TheVariants.{ShelfFault}
 use Rattle.session_run.specs.Steps.{RunState, begun, run_after, answer, run_at, after, out}
 use Rattle.session_run.specs.Moments.{DuringLine, AfterPrefix}
 use Rattle.session_run.specs.Places.{all_places, all_bytes}
-use Rattle.session_run.specs.Ends.{LineEnds, LinesEnd}
+use Rattle.session_run.specs.Ends.{FaultCost, LineEnds, LinesEnd}
 use Rattle.session_run.specs.Files.{NamesFile}
 use Rattle.session_run.proofs.Ending.{line_ends}
 use Rattle.session_run.proofs.Placing.{all_places-push, all_bytes-push}
@@ -52,19 +52,21 @@ module _ (at here : Setting) (same : here ≡ at) (s : ClientState) (lines : Lis
       ap (λ (some : List (List ℕ)). all_bytes at place (begun s) some) more ∙ all_bytes-push at place (begun s) (take i lines) line in
       omega (arith, step, so_far, step_is, more_is)
 
-  pub most_more : (place before start written later : ℕ) → before ≡ all_places at place (begun s) (take i lines) → written ≡ start + all_bytes at place (begun s) (take i lines)
-      → later ≤ written + bytes_for before now.state (run_after here now line).state → later ≤ start + all_bytes at place (begun s) (take (i + 1) lines)
-  most_more place before start written later placed so_far step =
+  -- and those of one that ends them
+  pub fault_more : (place before start written later : ℕ) (fault : RunFault) → before ≡ all_places at place (begun s) (take i lines) → written ≡ start + all_bytes at place (begun s) (take i lines)
+      → FaultCost written (written + bytes_for before now.state (run_after here now line).state) later fault → FaultCost (start + all_bytes at place (begun s) (take i lines)) (start + all_bytes at place (begun s) (take (i + 1) lines)) later fault
+  fault_more place before start written later fault placed so_far step =
       let whole = cost_more place before start written (written + bytes_for before now.state (run_after here now line).state) placed so_far refl in
-      omega (arith, step, whole)
+      subst (λ (n : ℕ). FaultCost n (start + all_bytes at place (begun s) (take (i + 1) lines)) later fault) so_far (subst (λ (n : ℕ). FaultCost written n later fault) whole step)
 
   module _ {H : Type 0} (h : Ghosts H) (start mid new : H) (said : h.said mid ≡ h.said start ++ out at s lines i) where
     pub met_more : (place written : ℕ) → MeetsAll h start mid (AfterPrefix (begin at s place lines (h.said start) written)) → MeetsAll h mid new (DuringLine (h.said mid) now.state (run_after here now line).state (answer here now line)) → MeetsAll h start new (AfterPrefix (begin at s place lines (h.said start) written))
     met_more place written first second =
         lines_met at s lines i line within more h start mid new now is said place written first (subst (λ (x : Setting). MeetsAll h mid new (DuringLine (h.said mid) now.state (run_after x now line).state (answer x now line))) same second)
 
-    pub ends_more : (asked : List (List ℕ) → Type 0) (place written : ℕ) (fault : RunFault) → asked (take (i + 1) lines) → h.written new ≤ written + all_bytes at place (begun s) (take (i + 1) lines) → slice_get lines i ≡ Some line → (fault ≡ ShelfFault → NamesFile line)
+    pub ends_more : (asked : List (List ℕ) → Type 0) (place written : ℕ) (fault : RunFault) → asked (take (i + 1) lines)
+        → FaultCost (written + all_bytes at place (begun s) (take i lines)) (written + all_bytes at place (begun s) (take (i + 1) lines)) (h.written new) fault → slice_get lines i ≡ Some line → (fault ≡ ShelfFault → NamesFile line)
         → LineEnds {T = Unit {0}} h now.state (run_after here now line).state (answer here now line) (h.said mid) new (Err fault) → LinesEnd {T = Unit {0}} h asked (begin at s place lines (h.said start) written) new (Err fault)
-    ends_more asked place written fault none_after most there named ends =
-        line_ends h at s lines i line within more start mid new now is said asked place written fault none_after most there named
+    ends_more asked place written fault none_after cost there named ends =
+        line_ends h at s lines i line within more start mid new now is said asked place written fault none_after cost there named
         (subst (λ (x : Setting). LineEnds {T = Unit {0}} h now.state (run_after x now line).state (answer x now line) (h.said mid) new (Err fault)) same ends)

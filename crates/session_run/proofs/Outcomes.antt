@@ -1,6 +1,5 @@
 -- What follows from the answers of the calls of a line.
-use Rattle.std.proofs.Common.{◌≡◌, ◌≢◌, ◌⊎◌, ◌≤◌, ◌+◌, inl, inr, ℕ, List, refl, sym, ◌∙◌, ap, subst, arith, Result, Ok, Err, OnOk, IsErrAnd}
-use Rattle.gate_journal.specs.Costs.{HasCost}
+use Rattle.std.proofs.Common.{◌≡◌, ◌≢◌, ◌⊎◌, inl, inr, ℕ, List, refl, sym, ◌∙◌, ap, subst, arith, Result, Ok, Err, OnOk, IsErrAnd}
 use Rattle.host_model.specs.declared.host.Host.{Ghosts}
 use Rattle.host_model.specs.Hosts.{MeetsAll, NowOf}
 use Rattle.host_model.proofs.Meeting.{started}
@@ -21,7 +20,8 @@ use Rattle.client_words.specs.Commands.{command_of}
 use Rattle.session_run.specs.Statuses.{of_step}
 use Rattle.session_run.specs.Steps.{RunState, left_by, effect, reply, run_after, answer}
 use Rattle.session_run.specs.Moments.{DuringLine}
-use Rattle.session_run.specs.Ends.{LineEnds}
+use Rattle.session_run.specs.Ends.{FaultCost, LineEnds}
+use Rattle.session_run.specs.Lines.{LineCost}
 use Rattle.session_run.proofs.Ending.{err_is}
 
 -- what holds anyway
@@ -92,7 +92,11 @@ module _ (at : Setting) (now : RunState) (line : List ℕ) where
   unfolding answer
   answer-fault fault is = ap (reply at now) (sym is)
 
--- a call that failed has written no more than this
-pub err_cost : {T E : Type 0} (bytes before now : ℕ) (result : Result T E) (fault : E) → IsErrAnd result (λ f. f ≡ fault) → before ≤ now → now ≤ before + bytes → HasCost bytes before now result
-err_cost bytes before now (Ok value) fault and least most = absurd and
-err_cost bytes before now (Err f) fault and least most = record { exact = tt; least = least; most = most }
+-- a line that failed has written so much
+pub err_cost : (before after now : ℕ) (result : Result (Unit {0}) RunFault) (fault : RunFault) → IsErrAnd result (λ f. f ≡ fault) → FaultCost before after now fault → LineCost before after now result
+err_cost before after now result fault and cost = subst (λ (r : Result (Unit {0}) RunFault). LineCost before after now r) (sym (err_is result fault and)) cost
+
+-- nothing where no step was prepared
+pub step_free : (fault : StepFault) (before after : ℕ) → FaultCost before after before (of_step fault)
+step_free step_fault.ShelfFault before after = refl
+step_free step_fault.OutOfMemory before after = refl

@@ -19,6 +19,14 @@ LineEnds h s t text said host (Err run.OutOfMemory) = AllKept h host s × (h.sai
 LineEnds h s t text said host (Err run.DiskFault) = (s ≢ t) × AllKeptEither h host s t × (h.said host ≡ said)
 LineEnds h s t text said host (Err run.SayFault) = (text ≢ []) × AllKept h host t × ((n : ℕ) × (h.said host ≡ said ++ take n text))
 
+-- How many bytes are written where a line ends so, by the counts before it and once it is done: none of its own where no step is prepared or
+-- no answer built, at most its own where the disk fails, and all of them where its answer isn't said
+abbrev pub FaultCost : ℕ → ℕ → ℕ → RunFault → Type 0
+FaultCost before after now run.ShelfFault = now ≡ before
+FaultCost before after now run.OutOfMemory = now ≡ before
+FaultCost before after now run.DiskFault = (before ≤ now) × (now ≤ after)
+FaultCost before after now run.SayFault = now ≡ after
+
 -- In what follows `asked` tells of some lines whether the shelf was asked for nothing but what they ask for.
 
 -- all lines are done and answered, and exactly their bytes are written
@@ -28,14 +36,14 @@ pub record EndsWhole {H : Type 0} (h : Ghosts H) (asked : List (List ℕ) → Ty
   pub cost : h.written host ≡ written_at start (line_count start)
   pub asks : asked start.lines
 
--- the first k lines are done and answered, and the next one is not done. No more bytes are written than those of the next one too, and no
--- file is asked for that these lines don't ask for; so it is below
+-- the first k lines are done and answered, and the next one is not done. Exactly their bytes are written, and no file is asked for that they
+-- and the next one don't ask for; so it is below
 pub record EndsBefore {H : Type 0} (h : Ghosts H) (asked : List (List ℕ) → Type 0) (start : Start) (host : H) : Type 0 where
   pub k : ℕ
   pub within : k < line_count start
   pub kept : AllKept h host (state_at start k)
   pub text : h.said host ≡ start.said ++ answers start k
-  pub most : h.written host ≤ written_at start (k + 1)
+  pub cost : h.written host ≡ written_at start k
   pub asks : asked (take (k + 1) start.lines)
 
 -- and the next one names a file
@@ -45,17 +53,20 @@ pub record EndsAtFile {H : Type 0} (h : Ghosts H) (asked : List (List ℕ) → T
   pub is_next : slice_get start.lines before.k ≡ Some line
   pub names : NamesFile line
 
--- the first k lines are done and answered. The next one changes the state. It is done or not, and it is not answered
+-- the first k lines are done and answered. The next one changes the state. It is done or not, some of its bytes are written, and it is not
+-- answered
 pub record EndsWithin {H : Type 0} (h : Ghosts H) (asked : List (List ℕ) → Type 0) (start : Start) (host : H) : Type 0 where
   pub k : ℕ
   pub within : k < line_count start
   pub changes : state_at start k ≢ state_at start (k + 1)
   pub kept : AllKeptEither h host (state_at start k) (state_at start (k + 1))
   pub text : h.said host ≡ start.said ++ answers start k
+  pub least : written_at start k ≤ h.written host
   pub most : h.written host ≤ written_at start (k + 1)
   pub asks : asked (take (k + 1) start.lines)
 
--- the first k lines are done and answered. The next one is done, its answer isn't empty, and a part of that is said
+-- the first k lines are done and answered. The next one is done, exactly the bytes of all these are written, its answer isn't empty, and a
+-- part of that is said
 pub record EndsInAnswer {H : Type 0} (h : Ghosts H) (asked : List (List ℕ) → Type 0) (start : Start) (host : H) : Type 0 where
   pub k : ℕ
   pub within : k < line_count start
@@ -65,7 +76,7 @@ pub record EndsInAnswer {H : Type 0} (h : Ghosts H) (asked : List (List ℕ) →
   pub both : answers start k ++ part ++ rest ≡ answers start (k + 1)
   pub some : part ++ rest ≢ []
   pub text : h.said host ≡ start.said ++ answers start k ++ part
-  pub most : h.written host ≤ written_at start (k + 1)
+  pub cost : h.written host ≡ written_at start (k + 1)
   pub asks : asked (take (k + 1) start.lines)
 
 -- lines

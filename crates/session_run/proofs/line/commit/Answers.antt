@@ -29,7 +29,7 @@ returns-in_err-commit-clause-ran g c tells =
       moments = λ gate. written_met h c.args.host.now c.commit.new.host (state_of client) t c.args.text.now (c.commit.ensures.any_moment tells gate);
       ends = λ gate. written_ends h c.args.host.now c.commit.new.host (state_of client) t c.args.text.now c.from_residual.result c.from_residual.ensures.1 (λ same. absurd (let never = (c.in_err-commit.ensures.unchanged same).0 in cc)) (c.commit.ensures.kept_either tells gate) (c.commit.ensures.text tells);
       said = err_ok _ c.from_residual.result DiskFault c.from_residual.ensures.1;
-      cost = err_cost _ _ _ c.from_residual.result DiskFault c.from_residual.ensures.1 cost.least cost.most;
+      cost = err_cost _ _ _ c.from_residual.result DiskFault c.from_residual.ensures.1 (cost.least, cost.most);
     }
 
 pub returns-in_err-commit-clause-stays_open : goal.returns-in_err-commit-clause-stays_open
@@ -73,7 +73,7 @@ returns-in_err-say_answer-clause-ran g c tells =
       ends = λ gate. said_ends h old new s t text c.from_residual-in_err-say_answer.result c.from_residual-in_err-say_answer.ensures.1 c.in_err-say_answer.ensures.some
           (kept_said h mid new (c.say_answer.ensures.still tells) t (done.kept tells gate)) (part.0, part.1 ∙ ap (λ (u : List ℕ). u ++ take part.0 text) (done.text tells));
       said = err_ok _ c.from_residual-in_err-say_answer.result SayFault c.from_residual-in_err-say_answer.ensures.1;
-      cost = err_cost _ _ _ c.from_residual-in_err-say_answer.result SayFault c.from_residual-in_err-say_answer.ensures.1 (omega (arith, cost.least, same)) (omega (arith, cost.most, same));
+      cost = err_cost _ _ _ c.from_residual-in_err-say_answer.result SayFault c.from_residual-in_err-say_answer.ensures.1 (same ∙ cost.exact);
     }
 
 pub returns-in_err-say_answer-clause-stays_open : goal.returns-in_err-say_answer-clause-stays_open
@@ -109,7 +109,7 @@ returns-clause-ran g c tells =
       moments = λ gate. line_met h old mid new s t text (done.any_moment tells gate) (done.text tells) (done.kept tells gate) (c.say_answer.ensures.any_moment tells);
       ends = λ gate. (kept_said h mid new (c.say_answer.ensures.still tells) t (done.kept tells gate), said);
       said = said;
-      cost = record { exact = same ∙ cost.exact; least = omega (arith, cost.least, same); most = omega (arith, cost.most, same) };
+      cost = same ∙ cost.exact;
     }
 
 pub returns-clause-stays_open : goal.returns-clause-stays_open

@@ -23,7 +23,7 @@ returns-in_err-text-clause-ran g c tells =
     let h = g.H.Host in
     let client = c.args.client.now in
     let start = c.args.host.now in
-    undone_ran h client start (λ l r u met. g.met.H.Host.only_now start l r u tells met) c.from_residual.result OutOfMemory c.from_residual.ensures.1 (c.requires.holds tells) _ _
+    undone_ran h client start (λ l r u met. g.met.H.Host.only_now start l r u tells met) c.from_residual.result OutOfMemory c.from_residual.ensures.1 (λ after. refl) (c.requires.holds tells) _ _
     (λ kept. unanswered_ends h start (state_of client) _ _ kept c.from_residual.result c.from_residual.ensures.1)
 
 pub returns-in_err-text-clause-stays_open : goal.returns-in_err-text-clause-stays_open
@@ -48,7 +48,7 @@ returns-in_err-say_answer-clause-ran g c tells =
       moments = λ gate. said_met h start new s text (all_kept h client start (c.requires.holds tells) gate) (c.say_answer.ensures.any_moment tells);
       ends = λ gate. said_ends h start new s s text result and c.in_err-say_answer.ensures.some (kept_said h start new (c.say_answer.ensures.still tells) s (all_kept h client start (c.requires.holds tells) gate)) (c.in_err-say_answer.ensures.said_part tells);
       said = err_ok _ result SayFault and;
-      cost = err_cost _ _ _ result SayFault and (omega (arith, same)) (omega (arith, same));
+      cost = err_cost _ _ _ result SayFault and (omega (arith, bytes_same (end_of client) s, same));
     })
 
 pub returns-in_err-say_answer-clause-stays_open : goal.returns-in_err-say_answer-clause-stays_open
@@ -80,7 +80,7 @@ returns-clause-ran g c tells =
           (said_met h start new s c.as_str.result.now (all_kept h client start (c.requires.holds tells) gate) (c.say_answer.ensures.any_moment tells));
       ends = λ gate. (kept_said h start new (c.say_answer.ensures.still tells) s (all_kept h client start (c.requires.holds tells) gate), said);
       said = said;
-      cost = record { exact = omega (arith, bytes_same (end_of client) s, same); least = omega (arith, same); most = omega (arith, same) };
+      cost = omega (arith, bytes_same (end_of client) s, same);
     }
 
 pub returns-clause-stays_open : goal.returns-clause-stays_open

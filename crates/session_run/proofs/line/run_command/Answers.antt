@@ -1,5 +1,5 @@
 -- The step that is prepared is the command's, and it is committed and answered.
-use Rattle.std.proofs.Common.{◌≡◌, List, [], ℕ, ◌∙◌, ap, subst, sym, Result, Err, OnOk}
+use Rattle.std.proofs.Common.{◌≡◌, List, [], ℕ, ◌∙◌, ap, refl, subst, sym, Result, Err, OnOk}
 use Rattle.std.specs.Prelude.{IsErrOf}
 use Rattle.client_state.specs.declared.client_state.ClientState.{ClientState}
 use Rattle.client_steps.specs.declared.session.Session.{Session}
@@ -17,7 +17,7 @@ use Rattle.session_run.specs.Statuses.{of_step}
 use Rattle.session_run.proofs.Causing.{unfailed_causes, unprepared_causes}
 use Rattle.session_run.proofs.Ending.{err_is}
 use Rattle.session_run.proofs.Undone.{undone_ran, undone_open, ran_again}
-use Rattle.session_run.proofs.Outcomes.{on_ok, both_ok, unprepared_ends, unanswered_ends}
+use Rattle.session_run.proofs.Outcomes.{on_ok, both_ok, step_free, unprepared_ends, unanswered_ends}
 use Rattle.session_run.proofs.line.run_command.Goals as goal
 
 -- ---- no step is prepared
@@ -28,7 +28,7 @@ returns-in_err-prepared-clause-ran g c shelf_tells tells =
     let client = c.args.client.now in
     let start = c.args.host.now in
     let fault = c.in_err-prepared.field-0.0 in
-    undone_ran h client start (λ l r u met. g.met.H.Host.only_now start l r u tells met) c.from_residual.result (of_step fault) c.from_residual.ensures.1 (c.requires.holds tells) _ _
+    undone_ran h client start (λ l r u met. g.met.H.Host.only_now start l r u tells met) c.from_residual.result (of_step fault) c.from_residual.ensures.1 (step_free fault (h.written start)) (c.requires.holds tells) _ _
     (λ kept. unprepared_ends h start (state_of client) _ _ kept fault c.from_residual.result c.from_residual.ensures.1)
 
 pub returns-in_err-prepared-clause-somehow : goal.returns-in_err-prepared-clause-somehow
@@ -40,7 +40,7 @@ returns-in_err-prepared-clause-somehow g c tells =
       state_of client,
       (
         [],
-        undone_ran h client start (λ l r u met. g.met.H.Host.only_now start l r u tells met) c.from_residual.result (of_step fault) c.from_residual.ensures.1 (c.requires.holds tells) (state_of client) []
+        undone_ran h client start (λ l r u met. g.met.H.Host.only_now start l r u tells met) c.from_residual.result (of_step fault) c.from_residual.ensures.1 (step_free fault (h.written start)) (c.requires.holds tells) (state_of client) []
             (λ kept. unprepared_ends h start (state_of client) _ _ kept fault c.from_residual.result c.from_residual.ensures.1),
       ),
     )
@@ -67,7 +67,7 @@ returns-in_err-text-clause-ran g c shelf_tells tells =
     let start = c.args.host.now in
     let result = c.from_residual-in_err-text.result in
     let and = c.from_residual-in_err-text.ensures.1 in
-    undone_ran h client start (λ l r u met. g.met.H.Host.only_now start l r u tells met) result OutOfMemory and (c.requires.holds tells) _ _ (λ kept. unanswered_ends h start (state_of client) _ _ kept result and)
+    undone_ran h client start (λ l r u met. g.met.H.Host.only_now start l r u tells met) result OutOfMemory and (λ after. refl) (c.requires.holds tells) _ _ (λ kept. unanswered_ends h start (state_of client) _ _ kept result and)
 
 pub returns-in_err-text-clause-somehow : goal.returns-in_err-text-clause-somehow
 returns-in_err-text-clause-somehow g c tells =
@@ -77,7 +77,7 @@ returns-in_err-text-clause-somehow g c tells =
     let result = c.from_residual-in_err-text.result in
     let and = c.from_residual-in_err-text.ensures.1 in (
       state_of client,
-      ([], undone_ran h client start (λ l r u met. g.met.H.Host.only_now start l r u tells met) result OutOfMemory and (c.requires.holds tells) (state_of client) [] (λ kept. unanswered_ends h start (state_of client) _ _ kept result and)),
+      ([], undone_ran h client start (λ l r u met. g.met.H.Host.only_now start l r u tells met) result OutOfMemory and (λ after. refl) (c.requires.holds tells) (state_of client) [] (λ kept. unanswered_ends h start (state_of client) _ _ kept result and)),
     )
 
 pub returns-in_err-text-clause-shelf_causes : goal.returns-in_err-text-clause-shelf_causes

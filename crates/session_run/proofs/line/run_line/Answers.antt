@@ -86,14 +86,14 @@ returns-in-Err-clause-place g c = always_ok c.refuse.result (place_same (end_of 
 pub returns-in-Err-OutOfMemory-clause-ran : goal.returns-in-Err-OutOfMemory-clause-ran
 returns-in-Err-OutOfMemory-clause-ran g c shelf_tells tells =
     let start = c.args.host.now in
-    undone_ran g.H.Host c.args.client.now start (λ l r u met. g.met.H.Host.only_now start l r u tells met) (Err run.OutOfMemory) run.OutOfMemory refl (c.requires.holds tells) _ _ (λ kept. (kept, refl))
+    undone_ran g.H.Host c.args.client.now start (λ l r u met. g.met.H.Host.only_now start l r u tells met) (Err run.OutOfMemory) run.OutOfMemory refl (λ after. refl) (c.requires.holds tells) _ _ (λ kept. (kept, refl))
 
 pub returns-in-Err-OutOfMemory-clause-somehow : goal.returns-in-Err-OutOfMemory-clause-somehow
 returns-in-Err-OutOfMemory-clause-somehow g c tells =
     let client = c.args.client.now in
     let start = c.args.host.now in (
       state_of client,
-      ([], undone_ran g.H.Host client start (λ l r u met. g.met.H.Host.only_now start l r u tells met) (Err run.OutOfMemory) run.OutOfMemory refl (c.requires.holds tells) (state_of client) [] (λ kept. (kept, refl))),
+      ([], undone_ran g.H.Host client start (λ l r u met. g.met.H.Host.only_now start l r u tells met) (Err run.OutOfMemory) run.OutOfMemory refl (λ after. refl) (c.requires.holds tells) (state_of client) [] (λ kept. (kept, refl))),
     )
 
 pub returns-in-Err-OutOfMemory-clause-stays_open : goal.returns-in-Err-OutOfMemory-clause-stays_open

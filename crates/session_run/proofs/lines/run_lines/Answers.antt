@@ -23,7 +23,7 @@ use Rattle.session_run.proofs.Asking.{none_asked, asked_more, asked_all}
 use Rattle.session_run.proofs.Causing.{causes_behind, shelf_behind}
 use Rattle.session_run.proofs.Ending.{err_is}
 use Rattle.session_run.proofs.Linking.{keeps_ended, keeps_done}
-use Rattle.session_run.proofs.Lining.{state_more, said_more, place_more, cost_more, most_more, changes_here, met_more, ends_more}
+use Rattle.session_run.proofs.Lining.{state_more, said_more, place_more, cost_more, fault_more, changes_here, met_more, ends_more}
 use Rattle.session_run.proofs.Placing.{line_within, line_more, line_at}
 use Rattle.session_run.proofs.Running.{some_at_start}
 use Rattle.session_run.proofs.Starting.{begin}
@@ -84,7 +84,7 @@ returns-in_err-run_line-clause-ran g c shelf_tells tells =
           ((c.run_line.ensures.ran shelf_tells tells).moments (inv.gate tells gate));
       ends = λ gate. ends_more at _ same s lines i line within more (run_of c.loop-span.client) (inv.state shelf_tells) h c.args.host.now c.loop-span.host new (inv.said shelf_tells tells) (LinesAsked g.F.Shelf c.args.shelf.now c.run_line.new.shelf) place written fault
           (asked_more g.F.Shelf c.args.shelf.now c.loop-span.shelf c.run_line.new.shelf lines i line more inv.files inv.asked c.run_line.ensures.asked)
-          (most_more at _ same s lines i line within more (run_of c.loop-span.client) (inv.state shelf_tells) place (end_of c.loop-span.client) written (h.written c.loop-span.host) (h.written new) (inv.place shelf_tells) (inv.cost shelf_tells tells) (c.run_line.ensures.ran shelf_tells tells).cost.most) there
+          (fault_more at _ same s lines i line within more (run_of c.loop-span.client) (inv.state shelf_tells) place (end_of c.loop-span.client) written (h.written c.loop-span.host) (h.written new) fault (inv.place shelf_tells) (inv.cost shelf_tells tells) (c.in_err-run_line.ensures.ran shelf_tells tells).cost) there
           (λ is. c.in_err-run_line.ensures.named (ap Err is)) ((c.in_err-run_line.ensures.ran shelf_tells tells).ends (inv.gate tells gate));
       images = tt;
       text = tt;
@@ -129,7 +129,7 @@ loop-span-preserved g c =
       any_moment = λ shelf_tells tells gate. met_more at here (same shelf_tells) s lines i line within more now (inv.state shelf_tells) h c.args.host.now c.loop-span.host new (inv.said shelf_tells tells) (end_of c.args.client.now) (h.written c.args.host.now) (inv.any_moment shelf_tells tells gate) ((done.ran shelf_tells tells).moments (inv.gate tells gate));
       place = λ tells. place_more at here (same tells) s lines i line within more now (inv.state tells) (end_of c.args.client.now) (end_of c.loop-span.client) (end_of c.run_line.new.client) next (done.state tells) (inv.place tells) done.place;
       cost = λ shelf_tells tells. cost_more at here (same shelf_tells) s lines i line within more now (inv.state shelf_tells) (end_of c.args.client.now) (end_of c.loop-span.client) (h.written c.args.host.now) (h.written c.loop-span.host) (h.written new)
-          (inv.place shelf_tells) (inv.cost shelf_tells tells) (done.ran shelf_tells tells).cost.exact;
+          (inv.place shelf_tells) (inv.cost shelf_tells tells) (done.ran shelf_tells tells).cost;
       below = λ tells. below_all tells;
       below_now = λ tells. met_now h c.args.host.now new (IsBelowMark h c.args.host.now) (below_all tells) (g.met.H.Host.counts_now new) tells;
       shelf_faults = done.shelf_causes.quiet (λ is. absurd cc) ∙ inv.shelf_faults;
