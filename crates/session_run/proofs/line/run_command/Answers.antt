@@ -1,5 +1,5 @@
 -- The step that is prepared is the command's, and it is committed and answered.
-use Rattle.std.proofs.Common.{◌≡◌, List, [], ℕ, ◌∙◌, ap, refl, subst, sym, Result, Err, OnOk}
+use Rattle.std.proofs.Common.{◌≡◌, List, [], ℕ, ◌∙◌, ap, refl, subst, sym, arith, Result, Err, OnOk}
 use Rattle.std.specs.Prelude.{IsErrOf}
 use Rattle.client_state.specs.declared.client_state.ClientState.{ClientState}
 use Rattle.client_steps.specs.declared.session.Session.{Session}
@@ -11,7 +11,7 @@ use Rattle.client_core.proofs.Holding.{open_again, gate_again, end_again}
 use Rattle.client_words.specs.Answers.{answer_lines}
 use Rattle.session_run.specs.declared.faults.RunFault.{RunFault}
 use Rattle.session_run.specs.declared.faults.RunFault.TheVariants.{OutOfMemory}
-use Rattle.session_run.specs.FaultCauses.{HasShelfCauses}
+use Rattle.session_run.specs.FaultCauses.{HasShelfCauses, HasHostCauses}
 use Rattle.session_run.specs.Lines.{LineRan}
 use Rattle.session_run.specs.Statuses.{of_step}
 use Rattle.session_run.proofs.Causing.{unfailed_causes, unprepared_causes}
@@ -87,6 +87,19 @@ returns-in_err-text-clause-shelf_causes g c =
     let done = c.in_ok-prepared.ensures in
     subst (λ (r : Result (Unit {0}) RunFault). HasShelfCauses f (IsErrOf r) c.args.shelf.now new) (sym (err_is c.from_residual-in_err-text.result OutOfMemory c.from_residual-in_err-text.ensures.1))
     (unfailed_causes f (IsErrOf {T = Unit {0}} (Err OutOfMemory)) c.args.shelf.now new (λ is. absurd cc) (done.quiet (λ is. absurd cc)) done.files)
+
+pub returns-in_err-text-clause-host_causes : goal.returns-in_err-text-clause-host_causes
+returns-in_err-text-clause-host_causes g c =
+    let h = g.H.Host in
+    let start = c.args.host.now in
+    subst (λ (r : Result (Unit {0}) RunFault). HasHostCauses h (IsErrOf r) start start) (sym (err_is c.from_residual-in_err-text.result OutOfMemory c.from_residual-in_err-text.ensures.1)) (record {
+      disk = λ is. absurd cc;
+      say = λ is. absurd cc;
+      disk_quiet = λ other. refl;
+      say_quiet = λ other. refl;
+      disk_later = omega arith;
+      say_later = omega arith;
+    })
 
 pub returns-in_err-text-clause-stays_open : goal.returns-in_err-text-clause-stays_open
 returns-in_err-text-clause-stays_open g c tells =
