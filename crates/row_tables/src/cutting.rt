@@ -2,6 +2,7 @@
 use crate::fault::Fault;
 use plain_text::read_number;
 use std::alloc::AllocError;
+use std::fmt::{Debug, Display};
 
 /// A text before and behind its first space, or else the whole and an empty one.
 pub fn cut(text: &str) -> (&str, &str) {
@@ -48,6 +49,25 @@ pub fn add_none(found: &mut String) -> Result<(), AllocError> {
 pub fn add_texts(found: &mut String, texts: &[&str]) -> Result<(), AllocError> {
     for text in texts {
         found.push_str(text)?;
+    }
+    Ok(())
+}
+
+/// Adds what `Display` writes of a value.
+pub fn add_displayed<T: Display>(found: &mut String, value: &T) -> Result<(), AllocError> {
+    write!(found, "{value}")
+}
+
+/// Adds what `Debug` writes of a value.
+pub fn add_debugged<T: Debug>(found: &mut String, value: &T) -> Result<(), AllocError> {
+    write!(found, "{value:?}")
+}
+
+/// Adds what `Display` writes of values, with a space between two.
+pub fn add_all_displayed<T: Display>(found: &mut String, values: &[T]) -> Result<(), AllocError> {
+    for (place, value) in values.iter().enumerate() {
+        found.push_str(if place > 0 { " " } else { "" })?;
+        add_displayed(found, value)?;
     }
     Ok(())
 }

@@ -23,7 +23,10 @@ mod pieces;
 mod tables;
 
 pub use answers::{debugged, displayed, halves, word};
-pub use cutting::{add_between, add_bytes, add_none, add_texts, byte, count, cut, number, parts};
+pub use cutting::{
+    add_all_displayed, add_between, add_bytes, add_debugged, add_displayed, add_none, add_texts,
+    byte, count, cut, number, parts,
+};
 pub use fault::Fault;
 pub use judging::{Kinds, Question, report_on};
 pub use pieces::Piece;
