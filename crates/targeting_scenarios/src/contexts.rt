@@ -3,56 +3,63 @@ ghost use Rattle.std.specs.Prelude.{IsTrue, ◌≤◌};
 ghost use Rattle.enrol_states.specs.Order.{Rise};
 ghost use Rattle.enrol_states.specs.State.{last_moment, slugs_of};
 
-use crate::json_texts::json_text;
-use anyhow::{Context as _, Result, bail, ensure};
+use crate::json_texts::{add_value, tree};
+use crate::states::add_rows;
 use app_context::{
     Context, ContextFault, ContextKey, NamedTexts, attributes, read_context, set_already_enrolled,
     shared_attributes,
 };
-use enrol_states::{
-    DisqualifiedReason, EnrolledReason, ErrorCause, NotEnrolledReason, Row, State, Status,
-};
+use enrol_states::{Row, State};
 use jexl_value::{Attributes, Value};
-use json_tree::{Tree, read};
-use plain_text::{LAST_MOMENT, Slug, read_number, slug_of};
-use row_tables::{displayed, halves, word};
-use sequences::{SharedList, Text};
+use plain_text::{LAST_MOMENT, Slug, slug_of};
+use row_tables::{Fault, add_displayed, add_texts, cut, number, parts};
+use sequences::Text;
 use std::alloc::{AllocError, Global};
 use uuid::Uuid;
 
 const INSTALLED: u64 = 1_700_000_000;
 
-fn tree(alloc: Global, text: &str) -> Result<Tree> {
-    read(alloc, text.as_bytes()).ok().context("no JSON")
-}
-
-fn context(alloc: Global, text: &str) -> Result<Context> {
-    let read = read_context(alloc, &tree(alloc, text)?);
-    read.ok().context("no context")
+fn context(alloc: Global, text: &str) -> Result<Context, Fault> {
+    let tree = tree(alloc, text)?;
+    read_context(alloc, &tree).ok().ok_or(Fault::NoRow)
 }
 
 /// The first key that keeps a tree from being a context, or `none`. Row: a JSON text.
-pub(crate) fn refused_key(alloc: Global, input: &str) -> Result<String> {
-    let read = read_context(alloc, &tree(alloc, input)?);
-    match read {
-        Ok(_) => word(alloc, "none"),
-        Err(ContextFault::BadContext(key)) => word(alloc, key.name()),
-        Err(ContextFault::OutOfMemory) => bail!("out of memory"),
+pub(crate) fn find_refused_key(
+    alloc: Global,
+    input: &str,
+    found: &mut String,
+) -> Result<(), Fault> {
+    let tree = tree(alloc, input)?;
+    match read_context(alloc, &tree).err() {
+        None => Ok(found.push_str("none")?),
+        Some(ContextFault::BadContext(key)) => Ok(found.push_str(key.name())?),
+        Some(ContextFault::OutOfMemory) => Err(Fault::OutOfMemory),
     }
 }
 
-/// The text that a context, or its copy, has under a key, or the unit of this name, in quotes, or `none`; and the
-/// numbers of its units and custom attributes at `units` and `custom`. Row: the key.
-pub(crate) fn text_of(alloc: Global, given: &str, input: &str) -> Result<String> {
-    let context = copied(&context(alloc, given)?)?;
-    match count_of(&context, input) {
-        Some(count) => displayed(alloc, &count),
-        None => quoted(alloc, text_at(&context, input)),
-    }
+/// The text that a context's copy has under a key, or the unit of this name, in quotes, or `none`; and the numbers of its
+/// texts, units and custom attributes at `texts`, `units` and `custom`. Row: the key.
+pub(crate) fn find_text(
+    alloc: Global,
+    given: &str,
+    input: &str,
+    found: &mut String,
+) -> Result<(), Fault> {
+    let context = context(alloc, given)?;
+    Ok(add_text_of_copy(&context, input, found)?)
 }
 
-fn copied(context: &Context) -> Result<Context> {
-    Ok(context.clone()?)
+fn add_text_of_copy(context: &Context, key: &str, found: &mut String) -> Result<(), AllocError> {
+    let copy = context.clone()?;
+    add_text_at(&copy, key, found)
+}
+
+fn add_text_at(context: &Context, key: &str, found: &mut String) -> Result<(), AllocError> {
+    match count_of(context, key) {
+        Some(count) => add_displayed(found, &count),
+        None => add_quoted(text_at(context, key), found),
+    }
 }
 
 // How many texts, units or custom attributes the context has, where the key asks for these.
@@ -79,127 +86,170 @@ fn text_at<'a>(context: &'a Context, key: &str) -> Option<&'a Text> {
     }
 }
 
-// A text in quotes, or `none`.
-fn quoted(alloc: Global, text: Option<&Text>) -> Result<String> {
+// Adds a text in quotes, or `none`.
+fn add_quoted(text: Option<&Text>, found: &mut String) -> Result<(), AllocError> {
     match text {
-        Some(text) => Ok(format!(in alloc; "'{}'", text.as_str())?),
-        None => word(alloc, "none"),
+        Some(text) => add_texts(found, &["'", text.as_str(), "'"]),
+        None => found.push_str("none"),
     }
 }
 
 /// The text of a name in a copy of one name and its text, in quotes, or `none`. Row: the name and the text, and the name
 /// that is looked for.
-pub(crate) fn text_under(alloc: Global, input: &str) -> Result<String> {
-    let (pair, wanted) = halves(input)?;
-    let (name, text) = pair.split_once(' ').context("no name and text")?;
+pub(crate) fn find_named(alloc: Global, input: &str, found: &mut String) -> Result<(), Fault> {
+    let (pair, wanted) = parts(input)?;
+    let (name, text) = cut(pair);
     let copy = copy_of_one(alloc, name, text)?;
-    quoted(alloc, copy.get(wanted))
+    Ok(add_quoted(copy.get(wanted), found)?)
 }
 
 fn copy_of_one(alloc: Global, name: &str, text: &str) -> Result<NamedTexts, AllocError> {
+    let name = Text::new(alloc, name)?;
+    let text = Text::new(alloc, text)?;
     let mut named = NamedTexts::new(alloc);
-    named.push(Text::new(alloc, name)?, Text::new(alloc, text)?)?;
+    named.push(name, text)?;
     named.clone()
 }
 
-fn slug(alloc: Global, text: &str) -> Result<Slug> {
+pub(crate) fn slug(alloc: Global, text: &str) -> Result<Slug, Fault> {
     match slug_of(alloc, text.as_bytes()) {
         Ok(slug) => Ok(slug),
-        Err(_) => bail!("no slug: {text}"),
+        Err(_) => Err(Fault::NoRow),
     }
 }
 
 /// The attributes of a client for the recipe of a slug, over a context. They are the same where those of another recipe
 /// were there before. Row: `new`, for a client without rows, or `old`, for one that has a row of each status and was
 /// updated a day before it was installed; then the slug, and how many seconds later than the install it is.
-pub(crate) fn attributes_of(alloc: Global, given: &str, input: &str) -> Result<String> {
-    let (client, rest) = halves(input)?;
-    let (about, later) = halves(rest)?;
-    let now = moment(later)?;
+pub(crate) fn find_attributes(
+    alloc: Global,
+    given: &str,
+    input: &str,
+    found: &mut String,
+) -> Result<(), Fault> {
     let context = context(alloc, given)?;
-    at_moment(alloc, &context, client, about, now)
+    find_attributes_in(alloc, &context, input, found)
 }
 
-fn at_moment(
+fn find_attributes_in(
     alloc: Global,
     context: &Context,
-    client: &str,
-    about: &str,
-    now: u64,
-) -> Result<String> {
-    let state = client_of(alloc, client)?;
-    let recipe = slug(alloc, about)?;
-    ensure!(
-        now <= LAST_MOMENT && rise(state.rows.as_slice()),
-        "no moment"
-    );
-    of_recipe(alloc, context, &state, &recipe, now)
+    input: &str,
+    found: &mut String,
+) -> Result<(), Fault> {
+    let Ok(id) = Uuid::parse_str("5a8f0b1e-7c3d-4e2a-9b6c-0123456789ab") else {
+        return Err(Fault::NoRow);
+    };
+    let mut state = State::new(alloc, id, INSTALLED);
+    let outcome = find_attributes_of(alloc, context, &mut state, input, found);
+    drop(state);
+    outcome
 }
 
-fn of_recipe(
+fn find_attributes_of(
+    alloc: Global,
+    context: &Context,
+    state: &mut State,
+    input: &str,
+    found: &mut String,
+) -> Result<(), Fault> {
+    let (client, asked) = parts(input)?;
+    if client == "old" {
+        state.updated = INSTALLED - 86_400;
+        add_rows(alloc, &mut state.rows)?;
+    }
+    find_attributes_for(alloc, context, state, asked, found)
+}
+
+fn find_attributes_for(
+    alloc: Global,
+    context: &Context,
+    state: &State,
+    asked: &str,
+    found: &mut String,
+) -> Result<(), Fault> {
+    let (about, later) = parts(asked)?;
+    let now = moment(later)?;
+    if now > LAST_MOMENT || !rise(state.rows.as_slice()) {
+        return Err(Fault::NoRow);
+    }
+    let recipe = slug(alloc, about)?;
+    find_both(alloc, context, state, &recipe, now, found)
+}
+
+// So many seconds later than the install, or one earlier at `-1`.
+fn moment(later: &str) -> Result<u64, Fault> {
+    if later == "-1" {
+        return Ok(INSTALLED - 1);
+    }
+    let later = number(later).ok_or(Fault::NoRow)?;
+    Ok(INSTALLED.saturating_add(later))
+}
+
+fn find_both(
     alloc: Global,
     context: &Context,
     state: &State,
     recipe: &Slug,
     now: u64,
-) -> Result<String>
+    found: &mut String,
+) -> Result<(), Fault>
     requires rows { Rise (slugs_of state.now.rows) }
     requires moment { now ≤ last_moment }
 {
-    let found = written(alloc, attributes(alloc, context, state, recipe, now)?)?;
-    let shared = written(alloc, after_another(alloc, context, state, recipe, now)?)?;
-    ensure!(shared.as_str() == found.as_str(), "others are shared");
-    Ok(found)
+    add_attributes(
+        alloc,
+        attributes(alloc, context, state, recipe, now)?,
+        found,
+    )?;
+    let mut shared = String::new(alloc);
+    find_shared(alloc, context, state, recipe, now, &mut shared)?;
+    if shared.as_str() != found.as_str() {
+        found.push_str(", others are shared")?;
+    }
+    Ok(())
 }
 
-// The attributes for a recipe where those of another one were there before.
-fn after_another(
+// Adds the attributes for a recipe where those of another one were there before.
+fn find_shared(
     alloc: Global,
     context: &Context,
     state: &State,
     recipe: &Slug,
     now: u64,
-) -> Result<Attributes>
+    found: &mut String,
+) -> Result<(), Fault>
     requires rows { Rise (slugs_of state.now.rows) }
     requires moment { now ≤ last_moment }
 {
     let mut shared = shared_attributes(alloc, context, state, now)?;
-    ensure!(
-        shared.get("is_already_enrolled").is_none(),
-        "it is there already"
-    );
-    set_already_enrolled(alloc, &mut shared, state, &slug(alloc, "another")?)?;
-    set_already_enrolled(alloc, &mut shared, state, recipe)?;
-    Ok(shared)
+    set_after_another(alloc, &mut shared, state, recipe)?;
+    Ok(add_attributes(alloc, shared, found)?)
 }
 
-fn written(alloc: Global, attributes: Attributes) -> Result<String> {
-    json_text(alloc, &Value::Object(attributes.pairs))
-}
-
-// So many seconds later than the install, or one earlier at `-1`.
-fn moment(later: &str) -> Result<u64> {
-    if later == "-1" {
-        return Ok(INSTALLED - 1);
+fn set_after_another(
+    alloc: Global,
+    shared: &mut Attributes,
+    state: &State,
+    recipe: &Slug,
+) -> Result<(), Fault>
+    requires { Rise (slugs_of state.now.rows) }
+{
+    if shared.get("is_already_enrolled").is_some() {
+        return Err(Fault::NoRow);
     }
-    let later = read_number(later.as_bytes()).context("no number")?;
-    Ok(INSTALLED.saturating_add(later))
+    let another = slug(alloc, "another")?;
+    set_already_enrolled(alloc, shared, state, &another)?;
+    Ok(set_already_enrolled(alloc, shared, state, recipe)?)
 }
 
-fn client_of(alloc: Global, name: &str) -> Result<State> {
-    let mut state = State::new(alloc, client_id()?, INSTALLED);
-    if name == "old" {
-        state.rows = rows(alloc)?;
-        state.updated = INSTALLED - 86_400;
-    }
-    Ok(state)
-}
-
-fn client_id() -> Result<Uuid> {
-    match Uuid::parse_str("5a8f0b1e-7c3d-4e2a-9b6c-0123456789ab") {
-        Ok(id) => Ok(id),
-        Err(_) => bail!("no id"),
-    }
+fn add_attributes(
+    alloc: Global,
+    attributes: Attributes,
+    found: &mut String,
+) -> Result<(), AllocError> {
+    let value = Value::Object(attributes.pairs);
+    add_value(alloc, &value, found)
 }
 
 // Whether the slugs of the rows rise.
@@ -210,54 +260,4 @@ fn rise(rows: &[Row]) -> bool
         [] | [_] => true,
         [first, second, ..] => first.slug < second.slug && rise(&rows[1..]),
     }
-}
-
-// Puts a row at the end.
-fn add(alloc: Global, rows: &mut SharedList<Row>, text: &str, status: Status) -> Result<()> {
-    let slug = slug(alloc, text)?;
-    rows.push(Row { slug, status })?;
-    Ok(())
-}
-
-// Puts the row of a client that is enrolled at the end.
-fn add_enrolled(
-    alloc: Global,
-    rows: &mut SharedList<Row>,
-    text: &str,
-    reason: EnrolledReason,
-    branch: &str,
-) -> Result<()> {
-    let branch = slug(alloc, branch)?;
-    add(alloc, rows, text, Status::Enrolled { reason, branch })
-}
-
-// A row of each status, and two of those that are enrolled.
-fn rows(alloc: Global) -> Result<SharedList<Row>> {
-    let mut rows = SharedList::new(alloc);
-    let opted_out = Status::NotEnrolled {
-        reason: NotEnrolledReason::OptOut,
-    };
-    let faulty = Status::Error {
-        cause: ErrorCause::NoUnit,
-    };
-    add_enrolled(alloc, &mut rows, "a", EnrolledReason::OptIn, "treatment")?;
-    add(alloc, &mut rows, "b", opted_out)?;
-    add_ended(alloc, &mut rows)?;
-    add(alloc, &mut rows, "e", faulty)?;
-    add_enrolled(alloc, &mut rows, "f", EnrolledReason::Qualified, "red")?;
-    Ok(rows)
-}
-
-// Puts the rows of a client that was disqualified and of one that was enrolled at the end.
-fn add_ended(alloc: Global, rows: &mut SharedList<Row>) -> Result<()> {
-    let disqualified = Status::Disqualified {
-        reason: DisqualifiedReason::Error,
-        branch: slug(alloc, "control")?,
-    };
-    add(alloc, rows, "c", disqualified)?;
-    let ended = Status::WasEnrolled {
-        branch: slug(alloc, "blue")?,
-        ended: 7,
-    };
-    add(alloc, rows, "d", ended)
 }

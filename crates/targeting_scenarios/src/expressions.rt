@@ -1,156 +1,131 @@
 //! Rows on the trees of expressions by the grammar, and on the texts that have none.
-use anyhow::Result;
 use jexl_lexer::{Token, lex};
-use jexl_parser::{BinarySign, Literal, Node, parse};
-use row_tables::{debugged, word};
+use jexl_parser::{Literal, Node, parse};
+use row_tables::{Fault, add_debugged, add_displayed, add_texts};
 use std::alloc::{AllocError, Global};
 
 /// The tree of an expression, or the name of the fault of its text. Row: the text.
-pub(crate) fn tree_of(alloc: Global, input: &str) -> Result<String> {
+pub(crate) fn find_tree(alloc: Global, input: &str, found: &mut String) -> Result<(), Fault> {
     match lex(alloc, input) {
-        Ok(tokens) => parsed_tree(alloc, tokens.as_slice()),
-        Err(fault) => debugged(alloc, &fault),
+        Ok(tokens) => Ok(add_parsed(alloc, tokens.as_slice(), found)?),
+        Err(fault) => Ok(add_debugged(found, &fault)?),
     }
 }
 
-fn parsed_tree(alloc: Global, tokens: &[Token]) -> Result<String> {
+fn add_parsed(alloc: Global, tokens: &[Token], found: &mut String) -> Result<(), AllocError> {
     match parse(alloc, tokens) {
-        Ok(expression) => Ok(tree_text(alloc, &expression.root)?),
-        Err(fault) => debugged(alloc, &fault),
+        Ok(expression) => add_tree(alloc, &expression.root, found),
+        Err(fault) => add_debugged(found, &fault),
     }
 }
 
 /// Whether a text is an expression: `tree`, or the name of its fault. Row: the text.
-pub(crate) fn reading_of(alloc: Global, input: &str) -> Result<String> {
+pub(crate) fn find_reading(alloc: Global, input: &str, found: &mut String) -> Result<(), Fault> {
     match lex(alloc, input) {
-        Ok(tokens) => parsed_reading(alloc, tokens.as_slice()),
-        Err(fault) => debugged(alloc, &fault),
+        Ok(tokens) => Ok(add_reading(alloc, tokens.as_slice(), found)?),
+        Err(fault) => Ok(add_debugged(found, &fault)?),
     }
 }
 
-fn parsed_reading(alloc: Global, tokens: &[Token]) -> Result<String> {
-    match parse(alloc, tokens) {
-        Ok(_) => word(alloc, "tree"),
-        Err(fault) => debugged(alloc, &fault),
+fn add_reading(alloc: Global, tokens: &[Token], found: &mut String) -> Result<(), AllocError> {
+    match parse(alloc, tokens).err() {
+        Some(fault) => add_debugged(found, &fault),
+        None => found.push_str("tree"),
     }
 }
 
-fn tree_text(alloc: Global, node: &Node) -> Result<String, AllocError> {
+fn add_tree(alloc: Global, node: &Node, found: &mut String) -> Result<(), AllocError> {
     let mut line = String::new(alloc);
-    show(alloc, &mut line, node)?;
-    String::from_str(alloc, line.trim_start())
+    add_node(node, &mut line)?;
+    found.push_str(line.trim_start())
 }
 
-// Puts the tree of a node at the end of a line, behind a space.
-fn show(alloc: Global, line: &mut String, node: &Node) -> Result<(), AllocError> {
+// Adds the tree of a node, behind a space.
+fn add_node(node: &Node, line: &mut String) -> Result<(), AllocError> {
+    add_head(node, line)?;
     match node {
-        Node::Literal(literal) => show_literal(alloc, line, literal),
-        Node::Name(name) => add(line, " ", name.as_str()),
-        Node::Relative(name) => add(line, " .", name.as_str()),
+        Node::Literal(_) | Node::Name(_) | Node::Relative(_) => {}
         Node::List(items) => {
-            line.push_str(" (list")?;
             for item in items {
-                show(alloc, line, item)?;
+                add_node(item, line)?;
             }
-            line.push(')')
         }
         Node::Members(members) => {
-            line.push_str(" (members")?;
             for (key, value) in members {
-                show_key(line, key.as_str())?;
-                show(alloc, line, value)?;
+                add_key(key.as_str(), line)?;
+                add_node(value, line)?;
             }
-            line.push(')')
         }
-        Node::Member(subject, name) => {
-            line.push_str(" (member")?;
-            show(alloc, line, subject)?;
-            show_last(line, name.as_str())
-        }
-        Node::Index(subject, inside) => {
-            line.push_str(" (index")?;
-            show(alloc, line, subject)?;
-            show(alloc, line, inside)?;
-            line.push(')')
-        }
-        Node::Filter(subject, inside) => {
-            line.push_str(" (filter")?;
-            show(alloc, line, subject)?;
-            show(alloc, line, inside)?;
-            line.push(')')
+        Node::Member(inside, _) | Node::Not(inside) => add_node(inside, line)?,
+        Node::Index(first, second)
+        | Node::Filter(first, second)
+        | Node::Binary(_, first, second)
+        | Node::OrElse(first, second) => {
+            add_node(first, line)?;
+            add_node(second, line)?;
         }
         Node::Transform(subject, name, arguments) => {
-            line.push_str(" (transform")?;
-            show(alloc, line, subject)?;
-            add(line, " ", name.as_str())?;
+            add_node(subject, line)?;
+            add_texts(line, &[" ", name.as_str()])?;
             for argument in arguments {
-                show(alloc, line, argument)?;
+                add_node(argument, line)?;
             }
-            line.push(')')
-        }
-        Node::Not(inside) => {
-            line.push_str(" (!")?;
-            show(alloc, line, inside)?;
-            line.push(')')
-        }
-        Node::Binary(sign, left, right) => {
-            show_sign(alloc, line, *sign)?;
-            show(alloc, line, left)?;
-            show(alloc, line, right)?;
-            line.push(')')
         }
         Node::Choose(test, first, second) => {
-            line.push_str(" (choose")?;
-            show(alloc, line, test)?;
-            show(alloc, line, first)?;
-            show(alloc, line, second)?;
-            line.push(')')
+            add_node(test, line)?;
+            add_node(first, line)?;
+            add_node(second, line)?;
         }
-        Node::OrElse(test, other) => {
-            line.push_str(" (or_else")?;
-            show(alloc, line, test)?;
-            show(alloc, line, other)?;
-            line.push(')')
+    }
+    add_end(node, line)
+}
+
+// Adds what a node has before those inside it: a bracket and a name, or the whole where nothing is inside.
+fn add_head(node: &Node, line: &mut String) -> Result<(), AllocError> {
+    match node {
+        Node::Literal(literal) => add_literal(literal, line),
+        Node::Name(name) => add_texts(line, &[" ", name.as_str()]),
+        Node::Relative(name) => add_texts(line, &[" .", name.as_str()]),
+        Node::Binary(sign, _, _) => {
+            line.push_str(" (")?;
+            add_debugged(line, sign)
         }
+        Node::List(_) => line.push_str(" (list"),
+        Node::Members(_) => line.push_str(" (members"),
+        Node::Member(_, _) => line.push_str(" (member"),
+        Node::Index(_, _) => line.push_str(" (index"),
+        Node::Filter(_, _) => line.push_str(" (filter"),
+        Node::Transform(_, _, _) => line.push_str(" (transform"),
+        Node::Not(_) => line.push_str(" (!"),
+        Node::Choose(_, _, _) => line.push_str(" (choose"),
+        Node::OrElse(_, _) => line.push_str(" (or_else"),
     }
 }
 
-// Puts two texts at the end of a line.
-fn add(line: &mut String, first: &str, second: &str) -> Result<(), AllocError> {
-    line.push_str(first)?;
-    line.push_str(second)
+// Adds what a node has behind those inside it: the bracket, and before it the name of a member.
+fn add_end(node: &Node, line: &mut String) -> Result<(), AllocError> {
+    match node {
+        Node::Literal(_) | Node::Name(_) | Node::Relative(_) => Ok(()),
+        Node::Member(_, name) => add_texts(line, &[" ", name.as_str(), ")"]),
+        _ => line.push_str(")"),
+    }
 }
 
-// Puts a name at the end of a line, behind a space and before a bracket.
-fn show_last(line: &mut String, name: &str) -> Result<(), AllocError> {
-    add(line, " ", name)?;
-    line.push(')')
+// Adds a member's key in single quotes, behind a space.
+fn add_key(key: &str, line: &mut String) -> Result<(), AllocError> {
+    add_texts(line, &[" '", key, "'"])
 }
 
-// Puts a member's key in single quotes at the end of a line, behind a space.
-fn show_key(line: &mut String, key: &str) -> Result<(), AllocError> {
-    add(line, " '", key)?;
-    line.push('\'')
-}
-
-// Puts the name of an operator at the end of a line, behind a space and a bracket.
-fn show_sign(alloc: Global, line: &mut String, sign: BinarySign) -> Result<(), AllocError> {
-    let name = format!(in alloc; " ({sign:?}")?;
-    line.push_str(name.as_str())
-}
-
-// Puts a literal at the end of a line, behind a space, a text in single quotes.
-fn show_literal(alloc: Global, line: &mut String, literal: &Literal) -> Result<(), AllocError> {
+// Adds a literal behind a space, a text in single quotes.
+fn add_literal(literal: &Literal, line: &mut String) -> Result<(), AllocError> {
     match literal {
         Literal::Null => line.push_str(" null"),
         Literal::Truth(true) => line.push_str(" true"),
         Literal::Truth(false) => line.push_str(" false"),
-        Literal::Whole(number) => show_number(alloc, line, *number),
-        Literal::Text(text) => show_key(line, text.as_str()),
+        Literal::Whole(number) => {
+            line.push_str(" ")?;
+            add_displayed(line, number)
+        }
+        Literal::Text(text) => add_key(text.as_str(), line),
     }
-}
-
-fn show_number(alloc: Global, line: &mut String, number: i64) -> Result<(), AllocError> {
-    let text = format!(in alloc; " {number}")?;
-    line.push_str(text.as_str())
 }

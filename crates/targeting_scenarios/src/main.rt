@@ -1,6 +1,6 @@
 //! Tables of rows on targeting, which stand on standard input: Jexl expressions from tokens to their values, the
 //! transforms that they call, and the attributes that they name. A line tells of each table that its rows pass, or what
-//! was found and what was wanted. `row_tables` says how a table is written, and the functions that `found` names what a
+//! was found and what was wanted. `row_tables` says how a table is written, and the functions that `find` names what a
 //! row of each kind is.
 #![tactic(auto)]
 
@@ -8,63 +8,64 @@ mod contexts;
 mod expressions;
 mod json_texts;
 mod meanings;
+mod states;
 mod tokens;
 mod transforms;
 mod values;
 
-use anyhow::{Result, bail};
-use row_tables::Tables;
+use row_tables::{Fault, Kinds, Question, report_on};
 use std::alloc::Global;
 use std::io;
-use std::str::from_utf8;
 
-// What is found of a row of this kind, over what is given.
-fn found(alloc: Global, kind: &str, given: &str, input: &str) -> Result<String> {
+struct TargetingKinds;
+
+impl Kinds for TargetingKinds {
+    fn find(&self, alloc: Global, row: Question<'_>, found: &mut String) -> Result<(), Fault> {
+        let input = row.text()?;
+        match row.kind {
+            "tokens" => tokens::find_tokens(alloc, input, found),
+            "count" => tokens::find_count(alloc, input, found),
+            "tree" => expressions::find_tree(alloc, input, found),
+            "reading" => expressions::find_reading(alloc, input, found),
+            "value" | "truth" | "call" => {
+                meanings::find_with_standard(alloc, row.kind, row.given, input, found)
+            }
+            "wanting-value" | "wanting-call" => {
+                meanings::find_with_wanting(alloc, row.kind, row.given, input, found)
+            }
+            "version" | "date" | "bucket" => {
+                transforms::find_answer(alloc, row.kind, input, found)
+            }
+            "again" => transforms::find_pushed_again(alloc, input, found),
+            _ => find_of_values(alloc, row.kind, row.given, input, found),
+        }
+    }
+}
+
+fn find_of_values(
+    alloc: Global,
+    kind: &str,
+    given: &str,
+    input: &str,
+    found: &mut String,
+) -> Result<(), Fault> {
     match kind {
-        "tokens" => tokens::tokens_of(alloc, input),
-        "count" => tokens::count_of(alloc, input),
-        "tree" => expressions::tree_of(alloc, input),
-        "reading" => expressions::reading_of(alloc, input),
-        "value" | "truth" | "call" => meanings::with_standard(alloc, kind, given, input),
-        "wanting-value" | "wanting-call" => meanings::with_wanting(alloc, kind, given, input),
-        "version" | "date" | "bucket" => transforms::answer_of(alloc, kind, input),
-        "again" => transforms::pushed_again(alloc, input),
-        _ => found_of_values(alloc, kind, given, input),
+        "truthy" => values::find_truthy(alloc, input, found),
+        "order" => values::find_order(alloc, input, found),
+        "same" => values::find_same(alloc, input, found),
+        "json" => values::find_rewritten(alloc, input, found),
+        "attribute" => values::find_attribute(alloc, input, found),
+        "context" => contexts::find_refused_key(alloc, input, found),
+        "text" => contexts::find_text(alloc, given, input, found),
+        "named" => contexts::find_named(alloc, input, found),
+        "attributes" => contexts::find_attributes(alloc, given, input, found),
+        _ => Err(Fault::NoRow),
     }
 }
 
-fn found_of_values(alloc: Global, kind: &str, given: &str, input: &str) -> Result<String> {
-    match kind {
-        "truthy" => values::is_truthy(alloc, input),
-        "order" => values::order_of(alloc, input),
-        "same" => values::are_same(alloc, input),
-        "json" => values::rewritten(alloc, input),
-        "attribute" => values::attribute(alloc, input),
-        "context" => contexts::refused_key(alloc, input),
-        "text" => contexts::text_of(alloc, given, input),
-        "named" => contexts::text_under(alloc, input),
-        "attributes" => contexts::attributes_of(alloc, given, input),
-        _ => bail!("no kind of rows: {kind}"),
-    }
-}
-
-// Reads a line, and judges what is found of the row that it makes whole.
-fn step(alloc: Global, tables: &mut Tables, line: &str) -> Result<()> {
-    let Some(row) = tables.read(line)? else {
-        return Ok(());
-    };
-    let input = from_utf8(&row.input)?;
-    let found = found(alloc, tables.kind(), tables.given(), input)?;
-    Ok(tables.judge(&row, found.as_str())?)
-}
-
-fn main(rt: HostRuntime) -> Result<()> {
-    let alloc = rt.alloc();
-    let input = io::read_to_string(alloc, rt.reader())?;
-    let mut tables = Tables::new(alloc);
-    for line in input.lines() {
-        step(alloc, &mut tables, line)?;
-    }
-    print!(rt; "{}", tables.report()?)?;
-    Ok(())
+fn main(rt: HostRuntime) -> io::Result<()> {
+    let text = io::read_to_string(rt.alloc(), rt.reader())?;
+    let mut report = String::new(rt.alloc());
+    report_on(rt.alloc(), &TargetingKinds, &text, &mut report)?;
+    print!(rt; "{report}")
 }

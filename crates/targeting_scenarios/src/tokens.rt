@@ -1,45 +1,53 @@
 //! Rows on the tokens of texts with their places, and on the faults of texts that have none.
-use anyhow::Result;
-use jexl_lexer::{Token, TokenKind, lex};
-use row_tables::{debugged, displayed};
+use jexl_lexer::{LexFault, Token, TokenKind, lex};
+use row_tables::{Fault, add_debugged, add_displayed, add_texts};
 use std::alloc::{AllocError, Global};
 
 /// The tokens of a text, each with its span and a comma before it, or the message and the name of its fault. Row: the
 /// text.
-pub(crate) fn tokens_of(alloc: Global, input: &str) -> Result<String> {
+pub(crate) fn find_tokens(alloc: Global, input: &str, found: &mut String) -> Result<(), Fault> {
     match lex(alloc, input) {
-        Ok(tokens) => Ok(line_of(alloc, tokens.as_slice())?),
-        Err(fault) => Ok(format!(in alloc; "{fault} {fault:?}")?),
+        Ok(tokens) => Ok(add_tokens(tokens.as_slice(), found)?),
+        Err(fault) => Ok(add_fault(&fault, found)?),
     }
 }
 
 /// The number of tokens, or the name of a fault. Row: the text.
-pub(crate) fn count_of(alloc: Global, input: &str) -> Result<String> {
+pub(crate) fn find_count(alloc: Global, input: &str, found: &mut String) -> Result<(), Fault> {
     match lex(alloc, input) {
-        Ok(tokens) => displayed(alloc, &tokens.len()),
-        Err(fault) => debugged(alloc, &fault),
+        Ok(tokens) => Ok(add_displayed(found, &tokens.len())?),
+        Err(fault) => Ok(add_debugged(found, &fault)?),
     }
 }
 
-fn line_of(alloc: Global, tokens: &[Token]) -> Result<String, AllocError> {
-    let mut line = String::from_str(alloc, "tokens")?;
+fn add_fault(fault: &LexFault, found: &mut String) -> Result<(), AllocError> {
+    add_displayed(found, fault)?;
+    found.push_str(" ")?;
+    add_debugged(found, fault)
+}
+
+fn add_tokens(tokens: &[Token], found: &mut String) -> Result<(), AllocError> {
+    found.push_str("tokens")?;
     for token in tokens {
-        let text = token_text(alloc, token)?;
-        line.push_str(text.as_str())?;
+        add_token(token, found)?;
     }
-    Ok(line)
+    Ok(())
 }
 
-fn token_text(alloc: Global, token: &Token) -> Result<String, AllocError> {
-    let shown = kind_text(alloc, &token.kind)?;
-    format!(in alloc; ", {shown}@{}-{}", token.start, token.end)
+fn add_token(token: &Token, found: &mut String) -> Result<(), AllocError> {
+    found.push_str(", ")?;
+    add_kind(&token.kind, found)?;
+    found.push_str("@")?;
+    add_displayed(found, &token.start)?;
+    found.push_str("-")?;
+    add_displayed(found, &token.end)
 }
 
-fn kind_text(alloc: Global, kind: &TokenKind) -> Result<String, AllocError> {
+fn add_kind(kind: &TokenKind, found: &mut String) -> Result<(), AllocError> {
     match kind {
-        TokenKind::Number(number) => format!(in alloc; "{number}"),
-        TokenKind::Quoted(text) => format!(in alloc; "'{}'", text.as_str()),
-        TokenKind::Name(name) => String::from_str(alloc, name.as_str()),
-        TokenKind::Sign(sign) => format!(in alloc; "{sign:?}"),
+        TokenKind::Number(number) => add_displayed(found, number),
+        TokenKind::Quoted(text) => add_texts(found, &["'", text.as_str(), "'"]),
+        TokenKind::Name(name) => found.push_str(name.as_str()),
+        TokenKind::Sign(sign) => add_debugged(found, sign),
     }
 }

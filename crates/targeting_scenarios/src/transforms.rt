@@ -1,28 +1,36 @@
 //! Rows on what the transforms answer, alone and out of a table.
-ghost use Rattle.std.specs.Prelude.{IsTrue};
-
-use crate::json_texts::{json_text, value};
+use crate::json_texts::{add_value, value};
 use crate::meanings::put;
-use anyhow::{Result, bail};
 use jexl_transforms::{
     PushFault, Transform, TransformAnswer, TransformTable, bucket_transform, date_transform,
     version_transform,
 };
 use jexl_value::{Attributes, NamedValues, Value};
-use row_tables::{debugged, halves, word};
-use std::alloc::Global;
+use row_tables::{Fault, add_debugged, add_displayed, parts};
+use std::alloc::{AllocError, Global};
 
-fn arguments(alloc: Global, text: &str) -> Result<Vec<Value>> {
-    match value(alloc, text)? {
-        Value::List(values) => Ok(values.into_vec()),
-        _ => bail!("no list of arguments: {text}"),
-    }
+// A subject and its arguments.
+#[derive(Drop)]
+struct Call {
+    subject: Value,
+    arguments: Vec<Value>,
 }
 
-// A subject and its arguments. Row: a value and a list of values, as JSON texts.
-fn call_of(alloc: Global, input: &str) -> Result<(Value, Vec<Value>)> {
-    let (subject, list) = halves(input)?;
-    Ok((value(alloc, subject)?, arguments(alloc, list)?))
+// Row: a value and a list of values, as JSON texts.
+fn call_of(alloc: Global, input: &str) -> Result<Call, Fault> {
+    let (subject, list) = parts(input)?;
+    let arguments = arguments(alloc, list)?;
+    Ok(Call {
+        subject: value(alloc, subject)?,
+        arguments,
+    })
+}
+
+fn arguments(alloc: Global, text: &str) -> Result<Vec<Value>, Fault> {
+    match value(alloc, text)? {
+        Value::List(values) => Ok(values.into_vec()),
+        _ => Err(Fault::NoRow),
+    }
 }
 
 fn no_attributes(alloc: Global) -> Attributes {
@@ -31,86 +39,132 @@ fn no_attributes(alloc: Global) -> Attributes {
     }
 }
 
-// The value of an answer as a JSON text, or why there is none.
-fn shown(alloc: Global, answer: &TransformAnswer) -> Result<String> {
+// Adds the value of an answer as a JSON text, or why there is none.
+fn add_answer(
+    alloc: Global,
+    answer: &TransformAnswer,
+    found: &mut String,
+) -> Result<(), AllocError> {
     match answer {
-        TransformAnswer::Gives(value) => json_text(alloc, value),
-        TransformAnswer::Refused => word(alloc, "refused"),
-        TransformAnswer::OutOfMemory => word(alloc, "out of memory"),
+        TransformAnswer::Gives(value) => add_value(alloc, value, found),
+        TransformAnswer::Refused => found.push_str("refused"),
+        TransformAnswer::OutOfMemory => found.push_str("out of memory"),
     }
 }
 
 /// The answer of a transform, of the kind `version`, `date` or `bucket`. Row: a subject and a list of arguments, as JSON
 /// texts.
-pub(crate) fn answer_of(alloc: Global, kind: &str, input: &str) -> Result<String> {
-    let (subject, list) = call_of(alloc, input)?;
+pub(crate) fn find_answer(
+    alloc: Global,
+    kind: &str,
+    input: &str,
+    found: &mut String,
+) -> Result<(), Fault> {
+    let call = call_of(alloc, input)?;
+    Ok(add_answer(alloc, &answer_to(alloc, kind, &call), found)?)
+}
+
+fn answer_to(alloc: Global, kind: &str, call: &Call) -> TransformAnswer {
     let attributes = no_attributes(alloc);
-    let answer = match kind {
-        "version" => version_transform(&attributes, &subject, &list),
-        "date" => date_transform(&attributes, &subject, &list),
-        _ => bucket_transform(alloc, &attributes, &subject, &list),
-    };
-    shown(alloc, &answer)
+    match kind {
+        "version" => version_transform(&attributes, &call.subject, &call.arguments),
+        "date" => date_transform(&attributes, &call.subject, &call.arguments),
+        _ => bucket_transform(alloc, &attributes, &call.subject, &call.arguments),
+    }
 }
 
 /// The value of a call of the table as a JSON text, or the name of its fault. Row: a name, a subject and a list of
 /// arguments.
-pub(crate) fn called(alloc: Global, table: &TransformTable, input: &str) -> Result<String> {
-    let (name, rest) = halves(input)?;
-    called_by(alloc, table, name, rest)
+pub(crate) fn find_called(
+    alloc: Global,
+    table: &TransformTable,
+    input: &str,
+    found: &mut String,
+) -> Result<(), Fault> {
+    let (name, rest) = parts(input)?;
+    find_called_by(alloc, table, name, rest, found)
 }
 
-fn called_by(alloc: Global, table: &TransformTable, name: &str, input: &str) -> Result<String> {
-    let (subject, list) = call_of(alloc, input)?;
-    let answer = table.call(name, &no_attributes(alloc), &subject, &list);
-    match answer {
-        Ok(value) => json_text(alloc, &value),
-        Err(fault) => debugged(alloc, &fault),
+fn find_called_by(
+    alloc: Global,
+    table: &TransformTable,
+    name: &str,
+    input: &str,
+    found: &mut String,
+) -> Result<(), Fault> {
+    let call = call_of(alloc, input)?;
+    Ok(add_called(alloc, table, name, &call, found)?)
+}
+
+fn add_called(
+    alloc: Global,
+    table: &TransformTable,
+    name: &str,
+    call: &Call,
+    found: &mut String,
+) -> Result<(), AllocError> {
+    let attributes = no_attributes(alloc);
+    match table.call(name, &attributes, &call.subject, &call.arguments) {
+        Ok(value) => add_value(alloc, &value, found),
+        Err(fault) => add_debugged(found, &fault),
     }
 }
 
 /// What becomes of a transform of dates that is pushed behind one of its name, which finds no memory: the number of
 /// names, the answer of the table, and that of the closure which was given back. Row: a subject and a list of arguments.
-pub(crate) fn pushed_again(alloc: Global, input: &str) -> Result<String> {
-    let mut table = TransformTable::new(alloc);
-    let wanting: Transform = Box::new(alloc, |_: &Attributes, _: &Value, _: &[Value]| {
-        TransformAnswer::OutOfMemory
-    })?;
-    put(alloc, &mut table, "date", wanting)?;
-    let again: Transform = Box::new(
-        alloc,
-        |attributes: &Attributes, subject: &Value, arguments: &[Value]| {
-            date_transform(attributes, subject, arguments)
-        },
-    )?;
-    match table.push(alloc, "date", again) {
-        Err(PushFault::DuplicateName(given_back)) => both_answers(
+pub(crate) fn find_pushed_again(
+    alloc: Global,
+    input: &str,
+    found: &mut String,
+) -> Result<(), Fault> {
+    let (Ok(wanting), Ok(again)) = (
+        Box::new(alloc, |_: &Attributes, _: &Value, _: &[Value]| {
+            TransformAnswer::OutOfMemory
+        }),
+        Box::new(
             alloc,
-            &table,
-            &given_back,
-            input,
+            |attributes: &Attributes, subject: &Value, arguments: &[Value]| {
+                date_transform(attributes, subject, arguments)
+            },
         ),
-        _ => bail!("a name was pushed twice"),
+    ) else {
+        return Err(Fault::OutOfMemory);
+    };
+    let mut table = TransformTable::new(alloc);
+    put(alloc, &mut table, "date", wanting)?;
+    match table.push(alloc, "date", again) {
+        Err(PushFault::DuplicateName(given_back)) => {
+            find_both(alloc, &table, &given_back, input, found)
+        }
+        _ => Err(Fault::NoRow),
     }
 }
 
-fn both_answers(
+fn find_both(
     alloc: Global,
     table: &TransformTable,
     given_back: &Transform,
     input: &str,
-) -> Result<String>
+    found: &mut String,
+) -> Result<(), Fault>
     requires { Transform.IsAlwaysCallable given_back.now }
 {
-    let stored = called_by(alloc, table, "date", input)?;
-    let answer = answer_by(alloc, given_back, input)?;
-    Ok(format!(in alloc; "{} {stored} {answer}", table.names())?)
+    add_displayed(found, &table.names())?;
+    found.push_str(" ")?;
+    find_called_by(alloc, table, "date", input, found)?;
+    found.push_str(" ")?;
+    find_answer_of(alloc, given_back, input, found)
 }
 
-fn answer_by(alloc: Global, transform: &Transform, input: &str) -> Result<String>
+fn find_answer_of(
+    alloc: Global,
+    transform: &Transform,
+    input: &str,
+    found: &mut String,
+) -> Result<(), Fault>
     requires { Transform.IsAlwaysCallable transform.now }
 {
-    let (subject, list) = call_of(alloc, input)?;
-    let answer = transform(&no_attributes(alloc), &subject, &list);
-    shown(alloc, &answer)
+    let call = call_of(alloc, input)?;
+    let answer = transform(&no_attributes(alloc), &call.subject, &call.arguments);
+    Ok(add_answer(alloc, &answer, found)?)
 }

@@ -1,74 +1,97 @@
 //! Rows on the values that JSON texts become, how they compare, and the attributes that names give.
-use crate::json_texts::{json_text, value};
-use anyhow::{Result, ensure};
+use crate::json_texts::{add_value, value};
 use jexl_value::{Attributes, NamedValues, Text, Value, order, same, truthy};
-use row_tables::{displayed, halves};
-use std::alloc::Global;
+use row_tables::{Fault, add_debugged, add_displayed, parts};
+use std::alloc::{AllocError, Global};
 
 /// Whether a value counts as true. Row: its JSON text.
-pub(crate) fn is_truthy(alloc: Global, input: &str) -> Result<String> {
-    let is_truthy = truthy(&value(alloc, input)?);
-    displayed(alloc, &is_truthy)
-}
-
-// The values of two JSON texts.
-fn both(alloc: Global, input: &str) -> Result<(Value, Value)> {
-    let (left, right) = halves(input)?;
-    Ok((value(alloc, left)?, value(alloc, right)?))
+pub(crate) fn find_truthy(alloc: Global, input: &str, found: &mut String) -> Result<(), Fault> {
+    let value = value(alloc, input)?;
+    Ok(add_displayed(found, &truthy(&value))?)
 }
 
 /// How two values compare, in both orders. Row: their JSON texts.
-pub(crate) fn order_of(alloc: Global, input: &str) -> Result<String> {
-    let (left, right) = both(alloc, input)?;
-    let (there, back) = (order(&left, &right), order(&right, &left));
-    Ok(format!(in alloc; "{there:?} {back:?}")?)
+pub(crate) fn find_order(alloc: Global, input: &str, found: &mut String) -> Result<(), Fault> {
+    let (left, right) = parts(input)?;
+    let left = value(alloc, left)?;
+    find_order_to(alloc, &left, right, found)
+}
+
+fn find_order_to(
+    alloc: Global,
+    left: &Value,
+    right: &str,
+    found: &mut String,
+) -> Result<(), Fault> {
+    let right = value(alloc, right)?;
+    Ok(add_order(left, &right, found)?)
+}
+
+fn add_order(left: &Value, right: &Value, found: &mut String) -> Result<(), AllocError> {
+    add_debugged(found, &order(left, right))?;
+    found.push_str(" ")?;
+    add_debugged(found, &order(right, left))
 }
 
 /// Whether two values are the same. Row: their JSON texts.
-pub(crate) fn are_same(alloc: Global, input: &str) -> Result<String> {
-    let (left, right) = both(alloc, input)?;
-    displayed(alloc, &same(&left, &right))
+pub(crate) fn find_same(alloc: Global, input: &str, found: &mut String) -> Result<(), Fault> {
+    let (left, right) = parts(input)?;
+    let left = value(alloc, left)?;
+    find_same_as(alloc, &left, right, found)
+}
+
+fn find_same_as(alloc: Global, left: &Value, right: &str, found: &mut String) -> Result<(), Fault> {
+    let right = value(alloc, right)?;
+    Ok(add_displayed(found, &same(left, &right))?)
 }
 
 /// The JSON text of a value, and of its copy. Row: a JSON text.
-pub(crate) fn rewritten(alloc: Global, input: &str) -> Result<String> {
+pub(crate) fn find_rewritten(alloc: Global, input: &str, found: &mut String) -> Result<(), Fault> {
     let value = value(alloc, input)?;
-    copy_text(alloc, &value)
+    Ok(add_copy(alloc, &value, found)?)
 }
 
-// The JSON text of a copy of a value.
-fn copy_text(alloc: Global, value: &Value) -> Result<String> {
+// Adds the JSON text of a copy of a value.
+fn add_copy(alloc: Global, value: &Value, found: &mut String) -> Result<(), AllocError> {
     let copy = value.clone()?;
-    ensure!(copy == *value, "a copy differs");
-    json_text(alloc, &copy)
+    if copy != *value {
+        found.push_str("a copy differs: ")?;
+    }
+    add_value(alloc, &copy, found)
 }
 
 /// The number of attributes where one name is set twice, and the value of a name among them, or `none`. Row: the name.
-pub(crate) fn attribute(alloc: Global, input: &str) -> Result<String> {
-    let attributes = set_twice(alloc)?;
-    let count = attributes.pairs.as_slice().len();
-    match attributes.get(input) {
-        Some(value) => counted(alloc, count, value),
-        None => Ok(format!(in alloc; "{count} none")?),
+pub(crate) fn find_attribute(alloc: Global, input: &str, found: &mut String) -> Result<(), Fault> {
+    let mut attributes = Attributes {
+        pairs: NamedValues::new(alloc),
+    };
+    set_twice(alloc, &mut attributes.pairs)?;
+    Ok(add_attribute(alloc, &attributes, input, found)?)
+}
+
+fn add_attribute(
+    alloc: Global,
+    attributes: &Attributes,
+    name: &str,
+    found: &mut String,
+) -> Result<(), AllocError> {
+    add_displayed(found, &attributes.pairs.as_slice().len())?;
+    found.push_str(" ")?;
+    match attributes.get(name) {
+        Some(value) => add_value(alloc, value, found),
+        None => found.push_str("none"),
     }
 }
 
-fn counted(alloc: Global, count: usize, value: &Value) -> Result<String> {
-    let text = json_text(alloc, value)?;
-    Ok(format!(in alloc; "{count} {text}")?)
-}
-
-// Attributes in which `locale` was set twice.
-fn set_twice(alloc: Global) -> Result<Attributes> {
-    let mut pairs = NamedValues::new(alloc);
-    pairs.push(Text::new(alloc, "locale")?, Value::Null)?;
-    set(alloc, &mut pairs, "app_name", "\"fenix\"")?;
-    set(alloc, &mut pairs, "locale", "[\"en\"]")?;
-    Ok(Attributes { pairs })
+// Sets `locale` twice.
+fn set_twice(alloc: Global, pairs: &mut NamedValues) -> Result<(), Fault> {
+    pairs.insert(Text::new(alloc, "locale")?, Value::Null)?;
+    set(alloc, pairs, "app_name", "\"fenix\"")?;
+    set(alloc, pairs, "locale", "[\"en\"]")
 }
 
 // A name gets the value of a JSON text.
-fn set(alloc: Global, pairs: &mut NamedValues, name: &str, text: &str) -> Result<()> {
+fn set(alloc: Global, pairs: &mut NamedValues, name: &str, text: &str) -> Result<(), Fault> {
     let value = value(alloc, text)?;
     pairs.insert(Text::new(alloc, name)?, value)?;
     Ok(())
