@@ -1,43 +1,58 @@
 //! Rows on the lengths of JSON's compact texts, and on the bounds that they keep.
 use crate::trees::tree;
-use anyhow::{Context, Result, bail, ensure};
 use json_length::{length_within, text_length, tree_length, whole_length};
 use json_tree::{Tree, write};
-use row_tables::{displayed, word};
-use std::alloc::Global;
+use row_tables::{Fault, add_displayed, cut, number};
+use std::alloc::{AllocError, Global};
 
 /// The length of the compact text of a text that is compact. Row: the text.
-pub(crate) fn length_of(alloc: Global, input: &str) -> Result<String> {
+pub(crate) fn find_length(alloc: Global, input: &str, found: &mut String) -> Result<(), Fault> {
     let tree = tree(alloc, input)?;
-    length_of_tree(alloc, &tree, input)
+    Ok(add_length(alloc, &tree, input, found)?)
 }
 
-// The length of the text of a tree, which is this one.
-fn length_of_tree(alloc: Global, tree: &Tree, text: &str) -> Result<String> {
-    let Ok(written) = write(alloc, tree) else {
-        bail!("out of memory");
-    };
-    ensure!(written.as_str() == text, "another text is written");
-    displayed(alloc, &tree_length(tree))
+// Adds the length of the text of a tree, which is this one.
+fn add_length(
+    alloc: Global,
+    tree: &Tree,
+    text: &str,
+    found: &mut String,
+) -> Result<(), AllocError> {
+    let written = write(alloc, tree)?;
+    if written.as_str() != text {
+        return found.push_str("another text is written");
+    }
+    add_displayed(found, &tree_length(tree))
 }
 
 /// The length of the JSON text of a text. Row: the text.
-pub(crate) fn text_length_of(alloc: Global, input: &str) -> Result<String> {
-    displayed(alloc, &text_length(input))
+pub(crate) fn find_text_length(input: &str, found: &mut String) -> Result<(), Fault> {
+    Ok(add_displayed(found, &text_length(input))?)
 }
 
 /// The length of the text of a whole number. Row: the number.
-pub(crate) fn whole_length_of(alloc: Global, input: &str) -> Result<String> {
-    displayed(alloc, &whole_length(input.parse::<i64>()?))
+pub(crate) fn find_whole_length(input: &str, found: &mut String) -> Result<(), Fault> {
+    let Ok(whole) = input.parse::<i64>() else {
+        return Err(Fault::NoRow);
+    };
+    Ok(add_displayed(found, &whole_length(whole))?)
 }
 
 /// The length of the compact text of a text where it is within a bound, or `none`. Row: the bound and the text.
-pub(crate) fn length_of_within(alloc: Global, input: &str) -> Result<String> {
-    let (most, text) = input.split_once(' ').context("no bound")?;
-    let most = u128::from(most.parse::<u64>()?);
-    let length = length_within(&tree(alloc, text)?, most);
-    match length {
-        Some(length) => displayed(alloc, &length),
-        None => word(alloc, "none"),
+pub(crate) fn find_length_within(
+    alloc: Global,
+    input: &str,
+    found: &mut String,
+) -> Result<(), Fault> {
+    let (most, text) = cut(input);
+    let most = number(most).ok_or(Fault::NoRow)?;
+    let tree = tree(alloc, text)?;
+    Ok(add_length_within(&tree, u128::from(most), found)?)
+}
+
+fn add_length_within(tree: &Tree, most: u128, found: &mut String) -> Result<(), AllocError> {
+    match length_within(tree, most) {
+        Some(length) => add_displayed(found, &length),
+        None => found.push_str("none"),
     }
 }

@@ -1,6 +1,6 @@
 //! Tables of rows on plain text, versions, JSON and recipes, which stand on standard input. A line tells of each table
 //! that its rows pass, or what was found and what was wanted. `row_tables` says how a table is written, and the functions
-//! that `found` names what a row of each kind is.
+//! that `find` names what a row of each kind is.
 #![tactic(auto)]
 
 mod lengths;
@@ -10,72 +10,67 @@ mod records;
 mod trees;
 mod versions;
 
-use anyhow::{Result, bail};
-use row_tables::Tables;
+use row_tables::{Fault, Kinds, Question, report_on};
 use std::alloc::Global;
 use std::io;
-use std::str::from_utf8;
 
-// What is found of a row of this kind, over what is given.
-fn found(alloc: Global, kind: &str, given: &str, input: &[u8]) -> Result<String> {
+struct JsonKinds;
+
+impl Kinds for JsonKinds {
+    fn find(&self, alloc: Global, row: Question<'_>, found: &mut String) -> Result<(), Fault> {
+        match row.kind {
+            "lines" => plain::find_lines(alloc, row.input, found),
+            "words" => plain::find_words(alloc, row.input, found),
+            "slug" => plain::find_slug(alloc, row.input, found),
+            "name" => plain::find_name(row.input, found),
+            "number" => plain::find_number(row.input, found),
+            "moment" => plain::find_moment(row.input, found),
+            "json" => trees::find_rewritten(alloc, row.input, found),
+            "readable" => trees::find_fault(alloc, row.input, found),
+            _ => find_of_text(alloc, row, found),
+        }
+    }
+}
+
+fn find_of_text(alloc: Global, row: Question<'_>, found: &mut String) -> Result<(), Fault> {
+    let input = row.text()?;
+    match row.kind {
+        "slugs" => plain::find_order(alloc, input, found),
+        "member" => trees::find_member(alloc, input, found),
+        "same" => trees::find_same(alloc, input, found),
+        "versions" => versions::find_order(input, found),
+        "chain" => versions::find_chain(alloc, input, found),
+        "length" => lengths::find_length(alloc, input, found),
+        "text-length" => lengths::find_text_length(input, found),
+        "whole-length" => lengths::find_whole_length(input, found),
+        "within" => lengths::find_length_within(alloc, input, found),
+        _ => find_of_recipes(alloc, row.kind, row.given, input, found),
+    }
+}
+
+fn find_of_recipes(
+    alloc: Global,
+    kind: &str,
+    given: &str,
+    input: &str,
+    found: &mut String,
+) -> Result<(), Fault> {
     match kind {
-        "lines" => plain::lines_of(alloc, input),
-        "words" => plain::words_of(alloc, input),
-        "slug" => plain::slug_read(alloc, input),
-        "name" => plain::name_read(alloc, input),
-        "number" => plain::number_read(alloc, input),
-        "moment" => plain::moment_read(alloc, input),
-        "json" => trees::rewritten(alloc, input),
-        "readable" => trees::fault_of(alloc, input),
-        _ => found_of_text(alloc, kind, given, from_utf8(input)?),
+        "record" => records::find_record(alloc, input, found),
+        "with" => records::find_reason_with(alloc, given, input, found),
+        "absent" => records::find_texts_with(alloc, input, found),
+        "equal" => records::find_equal(alloc, input, found),
+        "payload" => payloads::find_payload(alloc, input, found),
+        "fault" => payloads::find_fault(alloc, input, found),
+        "inserted" => payloads::find_inserted(alloc, input, found),
+        "last" => payloads::find_last(alloc, input, found),
+        _ => Err(Fault::NoRow),
     }
 }
 
-fn found_of_text(alloc: Global, kind: &str, given: &str, input: &str) -> Result<String> {
-    match kind {
-        "slugs" => plain::slugs_in_order(alloc, input),
-        "member" => trees::member_of(alloc, input),
-        "same" => trees::are_same(alloc, input),
-        "versions" => versions::order_of(alloc, input),
-        "chain" => versions::chain_rises(alloc, input),
-        "length" => lengths::length_of(alloc, input),
-        "text-length" => lengths::text_length_of(alloc, input),
-        "whole-length" => lengths::whole_length_of(alloc, input),
-        "within" => lengths::length_of_within(alloc, input),
-        "record" => records::record_text(alloc, input),
-        _ => found_of_recipes(alloc, kind, given, input),
-    }
-}
-
-fn found_of_recipes(alloc: Global, kind: &str, given: &str, input: &str) -> Result<String> {
-    match kind {
-        "with" => records::reason_with(alloc, given, input),
-        "absent" => records::texts_with(alloc, input),
-        "equal" => records::are_equal(alloc, input),
-        "payload" => payloads::payload_text(alloc, input),
-        "fault" => payloads::fault_of(alloc, input),
-        "inserted" => payloads::inserted(alloc, input),
-        "last" => payloads::last_alone(alloc, input),
-        _ => bail!("no kind of rows: {kind}"),
-    }
-}
-
-// Reads a line, and judges what is found of the row that it makes whole.
-fn step(alloc: Global, tables: &mut Tables, line: &str) -> Result<()> {
-    let Some(row) = tables.read(line)? else {
-        return Ok(());
-    };
-    let found = found(alloc, tables.kind(), tables.given(), &row.input)?;
-    Ok(tables.judge(&row, found.as_str())?)
-}
-
-fn main(rt: HostRuntime) -> Result<()> {
-    let alloc = rt.alloc();
-    let input = io::read_to_string(alloc, rt.reader())?;
-    let mut tables = Tables::new(alloc);
-    for line in input.lines() {
-        step(alloc, &mut tables, line)?;
-    }
-    print!(rt; "{}", tables.report()?)?;
-    Ok(())
+fn main(rt: HostRuntime) -> io::Result<()> {
+    let text = io::read_to_string(rt.alloc(), rt.reader())?;
+    let mut report = String::new(rt.alloc());
+    report_on(rt.alloc(), &JsonKinds, &text, &mut report)?;
+    print!(rt; "{report}")
 }

@@ -1,108 +1,148 @@
 //! Rows on payloads, and on recipes in their order.
-use crate::records::{recipe, record_named};
+use crate::records::{add_record_named, recipe};
 use crate::trees::tree;
-use anyhow::{Context, Result, bail, ensure};
 use recipe_reader::{Payload, Recipe, Recipes, read_payload};
-use row_tables::{debugged, halves, word};
+use row_tables::{Fault, add_all_displayed, add_debugged, add_displayed, parts};
 use std::alloc::{AllocError, Global};
 
-fn payload(alloc: Global, text: &str) -> Result<Payload> {
-    let read = read_payload(alloc, &tree(alloc, text)?);
-    read.ok().context("no payload")
+fn payload(alloc: Global, text: &str) -> Result<Payload, Fault> {
+    let tree = tree(alloc, text)?;
+    match read_payload(alloc, &tree) {
+        Ok(payload) => Ok(payload),
+        Err(_) => Err(Fault::NoRow),
+    }
 }
 
 /// The slugs of a payload's recipes, and the records that are skipped. Row: the payload.
-pub(crate) fn payload_text(alloc: Global, input: &str) -> Result<String> {
+pub(crate) fn find_payload(alloc: Global, input: &str, found: &mut String) -> Result<(), Fault> {
     let payload = payload(alloc, input)?;
-    let slugs = slugs_text(alloc, &payload.recipes)?;
-    Ok(format!(in alloc; "{slugs}; {:?}", payload.skipped.as_slice())?)
+    let outcome = add_payload(&payload, found);
+    drop(payload);
+    Ok(outcome?)
 }
 
-// The slugs of recipes, each with a space behind the one before it.
-fn slugs_text(alloc: Global, recipes: &Recipes) -> Result<String, AllocError> {
-    let mut line = String::new(alloc);
-    for recipe in recipes.as_slice() {
-        add(&mut line, " ", recipe.slug.text())?;
-    }
-    Ok(line)
+fn add_payload(payload: &Payload, found: &mut String) -> Result<(), AllocError> {
+    add_slugs(payload.recipes.as_slice(), found)?;
+    found.push_str("; ")?;
+    add_debugged(found, &payload.skipped.as_slice())
 }
 
-// Puts a text at the end of a line, behind another one where it isn't the first.
-fn add(line: &mut String, between: &str, text: &str) -> Result<(), AllocError> {
-    if !line.is_empty() {
-        line.push_str(between)?;
+// Adds the slugs of recipes, each with a space behind the one before it.
+fn add_slugs(recipes: &[Recipe], found: &mut String) -> Result<(), AllocError> {
+    for (place, recipe) in recipes.iter().enumerate() {
+        found.push_str(if place > 0 { " " } else { "" })?;
+        found.push_str(recipe.slug.text())?;
     }
-    line.push_str(text)
+    Ok(())
 }
 
 /// The fault of a payload, or `none`. Row: the payload.
-pub(crate) fn fault_of(alloc: Global, input: &str) -> Result<String> {
-    let read = read_payload(alloc, &tree(alloc, input)?);
-    match read {
-        Ok(_) => word(alloc, "none"),
-        Err(fault) => debugged(alloc, &fault),
+pub(crate) fn find_fault(alloc: Global, input: &str, found: &mut String) -> Result<(), Fault> {
+    let tree = tree(alloc, input)?;
+    match read_payload(alloc, &tree).err() {
+        Some(fault) => Ok(add_debugged(found, &fault)?),
+        None => Ok(found.push_str("none")?),
     }
 }
 
 // The recipes of a payload whose records have these slugs, between which there are spaces.
-fn recipes_named(alloc: Global, slugs: &str) -> Result<Recipes> {
-    let records = records_named(alloc, slugs)?;
-    let text = format!(in alloc; "{{\"data\":[{records}]}}")?;
-    Ok(payload(alloc, text.as_str())?.recipes)
+fn recipes_named(alloc: Global, slugs: &str) -> Result<Recipes, Fault> {
+    let mut text = String::new(alloc);
+    add_records(slugs, &mut text)?;
+    recipes_of(alloc, text.as_str())
 }
 
-// The records of these slugs, with commas between them.
-fn records_named(alloc: Global, slugs: &str) -> Result<String> {
-    let mut records = String::new(alloc);
-    for slug in slugs.split(' ') {
-        let record = record_named(alloc, slug)?;
-        add(&mut records, ",", record.as_str())?;
+fn add_records(slugs: &str, text: &mut String) -> Result<(), AllocError> {
+    text.push_str("{\"data\":[")?;
+    for (place, slug) in slugs.split(' ').enumerate() {
+        text.push_str(if place > 0 { "," } else { "" })?;
+        add_record_named(slug, text)?;
     }
-    Ok(records)
+    text.push_str("]}")
 }
 
-fn recipe_named(alloc: Global, slug: &str) -> Result<Recipe> {
-    let record = record_named(alloc, slug)?;
-    recipe(alloc, record.as_str())
+fn recipes_of(alloc: Global, text: &str) -> Result<Recipes, Fault> {
+    let payload = payload(alloc, text)?;
+    Ok(payload.recipes)
 }
 
 /// Whether a recipe is put into a copy of recipes, the slugs of the copy, those of the recipes, and whether each then has
 /// it. Row: the slugs of a payload's records, and the recipe's with ` | ` before it.
-pub(crate) fn inserted(alloc: Global, input: &str) -> Result<String> {
-    let (slugs, slug) = halves(input)?;
+pub(crate) fn find_inserted(alloc: Global, input: &str, found: &mut String) -> Result<(), Fault> {
+    let (slugs, slug) = parts(input)?;
     let recipes = recipes_named(alloc, slugs)?;
-    inserted_into(alloc, &recipes, slug)
+    let outcome = find_inserted_into(alloc, &recipes, slug, found);
+    drop(recipes);
+    outcome
 }
 
-fn inserted_into(alloc: Global, recipes: &Recipes, slug: &str) -> Result<String> {
-    let mut copy = copy_of(alloc, recipes)?;
+fn find_inserted_into(
+    alloc: Global,
+    recipes: &Recipes,
+    slug: &str,
+    found: &mut String,
+) -> Result<(), Fault> {
+    let mut copy = recipes.clone()?;
+    let outcome = insert_into(alloc, recipes, &mut copy, slug, found);
+    drop(copy);
+    outcome
+}
+
+fn insert_into(
+    alloc: Global,
+    recipes: &Recipes,
+    copy: &mut Recipes,
+    slug: &str,
+    found: &mut String,
+) -> Result<(), Fault> {
+    if *copy != *recipes || recipes.as_slice().is_empty() {
+        return Ok(found.push_str("a copy differs")?);
+    }
     let is_new = copy.insert(recipe_named(alloc, slug)?)?;
-    let slugs = both_slugs(alloc, &copy, recipes)?;
-    let (is_in, was_in) = (copy.get(slug).is_some(), recipes.get(slug).is_some());
-    Ok(format!(in alloc; "{is_new}; {slugs}; {is_in} {was_in}")?)
+    add_displayed(found, &is_new)?;
+    found.push_str("; ")?;
+    Ok(add_both(copy, recipes, slug, found)?)
 }
 
-fn copy_of(alloc: Global, recipes: &Recipes) -> Result<Recipes> {
-    let copy = recipes.clone()?;
-    ensure!(
-        copy == *recipes && copy != Recipes::new(alloc),
-        "a copy differs"
-    );
-    Ok(copy)
+fn recipe_named(alloc: Global, slug: &str) -> Result<Recipe, Fault> {
+    let mut record = String::new(alloc);
+    add_record_named(slug, &mut record)?;
+    recipe(alloc, record.as_str())
 }
 
-fn both_slugs(alloc: Global, first: &Recipes, second: &Recipes) -> Result<String, AllocError> {
-    let (first, second) = (slugs_text(alloc, first)?, slugs_text(alloc, second)?);
-    format!(in alloc; "{first}; {second}")
+// Adds the slugs of both, and whether each has the slug.
+fn add_both(
+    first: &Recipes,
+    second: &Recipes,
+    slug: &str,
+    found: &mut String,
+) -> Result<(), AllocError> {
+    add_slugs(first.as_slice(), found)?;
+    found.push_str("; ")?;
+    add_slugs(second.as_slice(), found)?;
+    let (is_in, was_in) = (first.get(slug).is_some(), second.get(slug).is_some());
+    found.push_str("; ")?;
+    add_all_displayed(found, &[is_in, was_in])
 }
 
 /// The slug of the last of a payload's recipes, which is put at the end of none. Row: the slugs of its records.
-pub(crate) fn last_alone(alloc: Global, input: &str) -> Result<String> {
+pub(crate) fn find_last(alloc: Global, input: &str, found: &mut String) -> Result<(), Fault> {
     let recipes = recipes_named(alloc, input)?;
-    let Some(last) = recipes.as_slice().last() else {
-        bail!("no recipes");
-    };
+    let outcome = find_last_of(alloc, recipes.as_slice(), found);
+    drop(recipes);
+    outcome
+}
+
+fn find_last_of(alloc: Global, recipes: &[Recipe], found: &mut String) -> Result<(), Fault> {
+    match recipes.last() {
+        Some(last) => Ok(add_alone(alloc, last, found)?),
+        None => Err(Fault::NoRow),
+    }
+}
+
+fn add_alone(alloc: Global, recipe: &Recipe, found: &mut String) -> Result<(), AllocError> {
+    let copy = recipe.clone()?;
     let mut others = Recipes::new(alloc);
-    others.push(last.clone()?)?;
-    Ok(slugs_text(alloc, &others)?)
+    others.push(copy)?;
+    add_slugs(others.as_slice(), found)
 }

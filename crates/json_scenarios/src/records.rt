@@ -1,63 +1,68 @@
 //! Rows on records that are read one by one, and on recipes that are written back.
 ghost use Rattle.recipe_reader.specs.Records.{IsValid};
 
-use crate::trees::{text_of, tree};
-use anyhow::{Context, Result, bail, ensure};
+use crate::trees::{add_tree, tree};
 use json::Writer;
+use json_tree::Tree;
 use recipe_reader::{
     Recipe, RecordFault, read_record, record_length, record_of, reread, write_record,
 };
-use row_tables::{debugged, displayed, halves, word};
-use std::alloc::Global;
+use row_tables::{Fault, add_all_displayed, add_debugged, add_displayed, add_texts, parts};
+use std::alloc::{AllocError, Global};
 
 /// The recipe of a record.
-pub(crate) fn recipe(alloc: Global, text: &str) -> Result<Recipe> {
-    let read = read_record(alloc, &tree(alloc, text)?);
-    read.ok().context("no recipe")
+pub(crate) fn recipe(alloc: Global, record: &str) -> Result<Recipe, Fault> {
+    let tree = tree(alloc, record)?;
+    read_record(alloc, &tree).ok().ok_or(Fault::NoRow)
 }
 
 /// The text of a record's recipe, which is written and read again as the same, or the reason to skip it. Row: the
 /// record.
-pub(crate) fn record_text(alloc: Global, input: &str) -> Result<String> {
-    let read = read_record(alloc, &tree(alloc, input)?);
-    match read {
-        Ok(recipe) => written(alloc, &recipe),
-        Err(fault) => reason_text(alloc, &fault),
+pub(crate) fn find_record(alloc: Global, input: &str, found: &mut String) -> Result<(), Fault> {
+    let tree = tree(alloc, input)?;
+    find_recipe_of(alloc, &tree, found)
+}
+
+fn find_recipe_of(alloc: Global, tree: &Tree, found: &mut String) -> Result<(), Fault> {
+    match read_record(alloc, tree) {
+        Ok(recipe) => find_written(alloc, &recipe, found),
+        Err(fault) => add_reason(&fault, found),
     }
 }
 
-// The reason to skip a record.
-fn reason_text(alloc: Global, fault: &RecordFault) -> Result<String> {
+// Adds the reason to skip a record.
+fn add_reason(fault: &RecordFault, found: &mut String) -> Result<(), Fault> {
     match fault {
-        RecordFault::Skip(reason) => debugged(alloc, reason),
-        RecordFault::OutOfMemory => bail!("out of memory"),
+        RecordFault::Skip(reason) => Ok(add_debugged(found, reason)?),
+        RecordFault::OutOfMemory => Err(Fault::OutOfMemory),
     }
 }
 
-fn written(alloc: Global, recipe: &Recipe) -> Result<String>
+// Adds the text of a recipe's tree, unless it is written or read again otherwise.
+fn find_written(alloc: Global, recipe: &Recipe, found: &mut String) -> Result<(), Fault>
     requires { IsValid recipe.now }
 {
-    let text = tree_text(alloc, recipe)?;
-    ensure!(
-        text.len() as u128 == record_length(recipe),
-        "another length"
-    );
-    ensure!(
-        is_streamed_as(alloc, recipe, text.as_str())?,
-        "another text"
-    );
-    ensure!(is_reread(alloc, recipe)?, "another recipe");
-    Ok(text)
+    add_record_of(alloc, recipe, found)?;
+    if found.len() as u128 != record_length(recipe) {
+        return Ok(found.push_str(", another length")?);
+    }
+    if !is_streamed_as(alloc, recipe, found.as_str())? {
+        return Ok(found.push_str(", another text")?);
+    }
+    if !is_reread(alloc, recipe)? {
+        return Ok(found.push_str(", another recipe")?);
+    }
+    Ok(())
 }
 
-// The text of a recipe's tree.
-fn tree_text(alloc: Global, recipe: &Recipe) -> Result<String> {
+// Adds the text of a recipe's tree.
+fn add_record_of(alloc: Global, recipe: &Recipe, found: &mut String) -> Result<(), AllocError> {
     let tree = record_of(alloc, recipe)?;
-    text_of(alloc, &tree)
+    add_tree(alloc, &tree, found)
 }
 
 // Whether a recipe is written as this text where no tree of it is made.
-fn is_streamed_as(alloc: Global, recipe: &Recipe, text: &str) -> Result<bool>
+fn is_streamed_as(alloc: Global, recipe: &Recipe, text: &str) -> Result<bool, AllocError>
     requires { IsValid recipe.now }
 {
     let mut writer = Writer::new(Vec::new(alloc));
@@ -66,76 +71,139 @@ fn is_streamed_as(alloc: Global, recipe: &Recipe, text: &str) -> Result<bool>
 }
 
 // Whether a recipe is read again as the same, and copied as the same.
-fn is_reread(alloc: Global, recipe: &Recipe) -> Result<bool>
+fn is_reread(alloc: Global, recipe: &Recipe) -> Result<bool, Fault>
     requires { IsValid recipe.now }
 {
-    let Ok(again) = reread(alloc, recipe) else {
-        bail!("it isn't read again");
-    };
-    Ok(again == *recipe && is_copied(&again)?)
+    let again = reread(alloc, recipe).ok().ok_or(Fault::OutOfMemory)?;
+    let is_same = again == *recipe;
+    drop(again);
+    Ok(is_same && is_copied(recipe)?)
 }
 
-fn is_copied(recipe: &Recipe) -> Result<bool> {
-    Ok(recipe.clone()? == *recipe)
+fn is_copied(recipe: &Recipe) -> Result<bool, AllocError> {
+    let copy = recipe.clone()?;
+    let is_same = copy == *recipe;
+    drop(copy);
+    Ok(is_same)
 }
 
-// A record that is a recipe, with members at the end of a part. Of two members with one key the last counts.
-fn record_with(alloc: Global, part: &str, members: &str) -> Result<String> {
-    let (record, bucket, branch, feature) = match part {
-        "record" => (members, "", "", ""),
-        "bucket" => ("", members, "", ""),
-        "branch" => ("", "", members, ""),
-        "feature" => ("", "", "", members),
-        _ => bail!("no part: {part}"),
-    };
-    Ok(format!(in alloc;
-        "{{\"slug\":\"alpha\",\"schemaVersion\":\"1.12.0\",\"bucketConfig\":{{\"randomizationUnit\":\"nimbus_id\",\"namespace\":\"ns\",\"start\":0,\"count\":1,\"total\":1{bucket}}},\"branches\":[{{\"slug\":\"control\",\"ratio\":1,\"features\":[{{\"featureId\":\"home\"{feature}}}]{branch}}}]{record}}}"
-    )?)
+// What a record has at the ends of its parts, with a comma before each member. Of two members with one key the last counts.
+#[derive(Clone, Copy)]
+struct Ends<'a> {
+    record: &'a str,
+    bucket: &'a str,
+    branch: &'a str,
+    feature: &'a str,
+}
+
+const NO_ENDS: Ends<'static> = Ends {
+    record: "",
+    bucket: "",
+    branch: "",
+    feature: "",
+};
+
+fn ends_of<'a>(part: &str, members: &'a str) -> Option<Ends<'a>> {
+    let mut ends: Ends<'a> = NO_ENDS;
+    match part {
+        "record" => ends.record = members,
+        "bucket" => ends.bucket = members,
+        "branch" => ends.branch = members,
+        "feature" => ends.feature = members,
+        _ => return None,
+    }
+    Some(ends)
+}
+
+// Adds a record that is a recipe, with this slug.
+fn add_record(slug: &str, ends: Ends<'_>, record: &mut String) -> Result<(), AllocError> {
+    add_texts(
+        record,
+        &[
+            r#"{"slug":""#,
+            slug,
+            r#"","schemaVersion":"1.12.0","bucketConfig":{"randomizationUnit":"nimbus_id","namespace":"ns","start":0,"count":1,"total":1"#,
+            ends.bucket,
+            r#"},"branches":[{"slug":"control","ratio":1,"features":[{"featureId":"home""#,
+            ends.feature,
+            "}]",
+            ends.branch,
+            "}]",
+            ends.record,
+            "}",
+        ],
+    )
+}
+
+/// Adds a record that is a recipe, with this slug.
+pub(crate) fn add_record_named(slug: &str, record: &mut String) -> Result<(), AllocError> {
+    add_record(slug, NO_ENDS, record)
+}
+
+fn record_with(alloc: Global, part: &str, members: &str) -> Result<String, Fault> {
+    let ends = ends_of(part, members).ok_or(Fault::NoRow)?;
+    let mut record = String::new(alloc);
+    add_record("alpha", ends, &mut record)?;
+    Ok(record)
 }
 
 /// `recipe`, or the reason to skip a record with members at the end of the part that is given: `record`, `bucket`,
 /// `branch` or `feature`. Row: the members, with a comma before each.
-pub(crate) fn reason_with(alloc: Global, given: &str, input: &str) -> Result<String> {
+pub(crate) fn find_reason_with(
+    alloc: Global,
+    given: &str,
+    input: &str,
+    found: &mut String,
+) -> Result<(), Fault> {
     let record = record_with(alloc, given, input)?;
-    reason_of(alloc, record.as_str())
+    find_reason_of(alloc, record.as_str(), found)
 }
 
-// `recipe`, or the reason to skip a record.
-fn reason_of(alloc: Global, record: &str) -> Result<String> {
-    let read = read_record(alloc, &tree(alloc, record)?);
-    match read {
-        Ok(_) => word(alloc, "recipe"),
-        Err(fault) => reason_text(alloc, &fault),
+fn find_reason_of(alloc: Global, record: &str, found: &mut String) -> Result<(), Fault> {
+    let tree = tree(alloc, record)?;
+    match read_record(alloc, &tree).err() {
+        Some(fault) => add_reason(&fault, found),
+        None => Ok(found.push_str("recipe")?),
     }
 }
 
 /// Whether a recipe with members has an application, a channel, a targeting and a moment of publishing. Row: the
 /// members.
-pub(crate) fn texts_with(alloc: Global, input: &str) -> Result<String> {
-    let recipe = recipe_with(alloc, input)?;
-    presence_text(alloc, &recipe)
+pub(crate) fn find_texts_with(alloc: Global, input: &str, found: &mut String) -> Result<(), Fault> {
+    let record = record_with(alloc, "record", input)?;
+    find_presence_in(alloc, record.as_str(), found)
 }
 
-fn recipe_with(alloc: Global, members: &str) -> Result<Recipe> {
-    let record = record_with(alloc, "record", members)?;
-    recipe(alloc, record.as_str())
+fn find_presence_in(alloc: Global, record: &str, found: &mut String) -> Result<(), Fault> {
+    let recipe = recipe(alloc, record)?;
+    let outcome = add_presence(&recipe, found);
+    drop(recipe);
+    Ok(outcome?)
 }
 
-fn presence_text(alloc: Global, recipe: &Recipe) -> Result<String> {
+fn add_presence(recipe: &Recipe, found: &mut String) -> Result<(), AllocError> {
     let (name, channel) = (recipe.app_name.is_some(), recipe.channel.is_some());
     let (targeting, published) = (recipe.targeting.is_some(), recipe.published.is_some());
-    Ok(format!(in alloc; "{name} {channel} {targeting} {published}")?)
+    add_all_displayed(found, &[name, channel, targeting, published])
 }
 
 /// Whether the recipes of two records are equal. Row: the records with ` | ` between them.
-pub(crate) fn are_equal(alloc: Global, input: &str) -> Result<String> {
-    let (first, second) = halves(input)?;
-    let (first, second) = (recipe(alloc, first)?, recipe(alloc, second)?);
-    displayed(alloc, &(first == second))
+pub(crate) fn find_equal(alloc: Global, input: &str, found: &mut String) -> Result<(), Fault> {
+    let (first, second) = parts(input)?;
+    let first = recipe(alloc, first)?;
+    let outcome = find_equal_to(alloc, &first, second, found);
+    drop(first);
+    outcome
 }
 
-/// A record that is a recipe, with this slug.
-pub(crate) fn record_named(alloc: Global, slug: &str) -> Result<String> {
-    let members = format!(in alloc; ",\"slug\":\"{slug}\"")?;
-    record_with(alloc, "record", members.as_str())
+fn find_equal_to(
+    alloc: Global,
+    first: &Recipe,
+    second: &str,
+    found: &mut String,
+) -> Result<(), Fault> {
+    let second = recipe(alloc, second)?;
+    let are_equal = *first == second;
+    drop(second);
+    Ok(add_displayed(found, &are_equal)?)
 }

@@ -4,65 +4,83 @@ ghost use Rattle.json_tree.specs.Bytes.{max_depth};
 ghost use Rattle.json_tree.specs.Json.{depth};
 ghost use Rattle.json_tree.specs.Tree.{json_of};
 
-use anyhow::{Context, Result, bail, ensure};
 use json_tree::{Items, Members, Text, Tree, read, reread, write};
-use row_tables::{debugged, displayed, word};
+use row_tables::{Fault, add_debugged, add_displayed, parts};
 use std::alloc::{AllocError, Global};
 
 /// The tree of a JSON text.
-pub(crate) fn tree(alloc: Global, text: &str) -> Result<Tree> {
-    read(alloc, text.as_bytes()).ok().context("no JSON")
-}
-
-/// The text of a tree.
-pub(crate) fn text_of(alloc: Global, tree: &Tree) -> Result<String> {
-    match write(alloc, tree) {
-        Ok(text) => Ok(Text::into_string(text)),
-        Err(_) => bail!("out of memory"),
+pub(crate) fn tree(alloc: Global, text: &str) -> Result<Tree, Fault> {
+    match read(alloc, text.as_bytes()) {
+        Ok(tree) => Ok(tree),
+        Err(_) => Err(Fault::NoRow),
     }
 }
 
+/// Adds the text of a tree.
+pub(crate) fn add_tree(alloc: Global, tree: &Tree, found: &mut String) -> Result<(), AllocError> {
+    let text = write(alloc, tree)?;
+    found.push_str(text.as_str())
+}
+
 /// The text that a text is read and written as, or the name of its fault. Row: the bytes.
-pub(crate) fn rewritten(alloc: Global, input: &[u8]) -> Result<String> {
+pub(crate) fn find_rewritten(alloc: Global, input: &[u8], found: &mut String) -> Result<(), Fault> {
     match read(alloc, input) {
-        Ok(tree) => text_of(alloc, &tree),
-        Err(fault) => debugged(alloc, &fault),
+        Ok(tree) => Ok(add_tree(alloc, &tree, found)?),
+        Err(fault) => Ok(add_debugged(found, &fault)?),
     }
 }
 
 /// The name of a text's fault, or `none`. Row: the bytes.
-pub(crate) fn fault_of(alloc: Global, input: &[u8]) -> Result<String> {
+pub(crate) fn find_fault(alloc: Global, input: &[u8], found: &mut String) -> Result<(), Fault> {
     match read(alloc, input) {
-        Ok(_) => word(alloc, "none"),
-        Err(fault) => debugged(alloc, &fault),
+        Ok(_) => Ok(found.push_str("none")?),
+        Err(fault) => Ok(add_debugged(found, &fault)?),
     }
 }
 
 /// Whether two texts have the same tree. Row: the texts with ` | ` between them.
-pub(crate) fn are_same(alloc: Global, input: &str) -> Result<String> {
-    let (first, second) = input.split_once(" | ").context("no two texts")?;
-    let are_same = tree(alloc, first)? == tree(alloc, second)?;
-    displayed(alloc, &are_same)
+pub(crate) fn find_same(alloc: Global, input: &str, found: &mut String) -> Result<(), Fault> {
+    let (first, second) = parts(input)?;
+    let first = tree(alloc, first)?;
+    find_same_as(alloc, &first, second, found)
+}
+
+fn find_same_as(
+    alloc: Global,
+    first: &Tree,
+    second: &str,
+    found: &mut String,
+) -> Result<(), Fault> {
+    let second = tree(alloc, second)?;
+    Ok(add_displayed(found, &(*first == second))?)
 }
 
 /// The text of a member of an object with a list and a truth value that is built, copied and read again, or `none`; at
 /// `all` its own text. Row: the key.
-pub(crate) fn member_of(alloc: Global, input: &str) -> Result<String> {
+pub(crate) fn find_member(alloc: Global, input: &str, found: &mut String) -> Result<(), Fault> {
     let tree = built(alloc)?;
-    member_text(alloc, &tree, input)
+    find_member_of(alloc, &tree, input, found)
 }
 
-fn member_text(alloc: Global, tree: &Tree, key: &str) -> Result<String>
+fn find_member_of(alloc: Global, tree: &Tree, key: &str, found: &mut String) -> Result<(), Fault>
     requires { depth (json_of tree.now) ≤ max_depth }
 {
-    ensure!(is_copied(tree)?, "a copy differs");
-    ensure!(is_reread(alloc, tree)?, "it reads back as another");
+    if !is_copied(tree)? {
+        return Ok(found.push_str("a copy differs")?);
+    }
+    if !is_reread(alloc, tree)? {
+        return Ok(found.push_str("it reads back as another")?);
+    }
+    Ok(add_member(alloc, tree, key, found)?)
+}
+
+fn add_member(alloc: Global, tree: &Tree, key: &str, found: &mut String) -> Result<(), AllocError> {
     if key == "all" {
-        return text_of(alloc, tree);
+        return add_tree(alloc, tree, found);
     }
     match tree.get(key) {
-        Some(member) => text_of(alloc, member),
-        None => word(alloc, "none"),
+        Some(member) => add_tree(alloc, member, found),
+        None => found.push_str("none"),
     }
 }
 
@@ -70,12 +88,12 @@ fn is_copied(tree: &Tree) -> Result<bool, AllocError> {
     Ok(tree.clone()? == *tree)
 }
 
-fn is_reread(alloc: Global, tree: &Tree) -> Result<bool>
+fn is_reread(alloc: Global, tree: &Tree) -> Result<bool, Fault>
     requires { depth (json_of tree.now) ≤ max_depth }
 {
     match reread(alloc, tree) {
         Ok(again) => Ok(again == *tree),
-        Err(_) => bail!("out of memory"),
+        Err(_) => Err(Fault::OutOfMemory),
     }
 }
 

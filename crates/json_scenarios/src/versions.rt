@@ -1,14 +1,15 @@
 //! Rows on the order of versions.
-use anyhow::{Context, Result};
-use row_tables::word;
+use row_tables::{Fault, add_debugged, add_texts};
 use std::alloc::{AllocError, Global};
 use version_compare::compare;
 
 /// How two versions compare, in both orders. Row: the versions with a bar between them.
-pub(crate) fn order_of(alloc: Global, input: &str) -> Result<String> {
-    let (first, second) = input.split_once('|').context("no two versions")?;
+pub(crate) fn find_order(input: &str, found: &mut String) -> Result<(), Fault> {
+    let (first, second) = input.split_once('|').ok_or(Fault::NoRow)?;
     let (there, back) = (compare(first, second), compare(second, first));
-    Ok(format!(in alloc; "{there:?} {back:?}")?)
+    add_debugged(found, &there)?;
+    found.push_str(" ")?;
+    Ok(add_debugged(found, &back)?)
 }
 
 // A version, and its rank.
@@ -20,11 +21,12 @@ struct Ranked<'a> {
 
 /// The first pair that doesn't compare as the ranks of its versions, or `as ranked`. Row: versions with ` < ` between
 /// them, or ` = ` where the rank is the same.
-pub(crate) fn chain_rises(alloc: Global, input: &str) -> Result<String> {
-    let chain = chain_of(alloc, input)?;
+pub(crate) fn find_chain(alloc: Global, input: &str, found: &mut String) -> Result<(), Fault> {
+    let mut chain = Vec::new(alloc);
+    add_versions(input, &mut chain)?;
     match first_unranked(&chain) {
-        Some((first, second)) => Ok(format!(in alloc; "{first} and {second}")?),
-        None => word(alloc, "as ranked"),
+        Some((first, second)) => Ok(add_texts(found, &[first, " and ", second])?),
+        None => Ok(found.push_str("as ranked")?),
     }
 }
 
@@ -39,8 +41,7 @@ fn first_unranked<'a>(chain: &[Ranked<'a>]) -> Option<(&'a str, &'a str)> {
     None
 }
 
-fn chain_of<'a>(alloc: Global, input: &'a str) -> Result<Vec<Ranked<'a>>, AllocError> {
-    let mut chain = Vec::new(alloc);
+fn add_versions<'a>(input: &'a str, chain: &mut Vec<Ranked<'a>>) -> Result<(), AllocError> {
     let mut rank = 0u32;
     for word in input.split(' ') {
         match word {
@@ -49,5 +50,5 @@ fn chain_of<'a>(alloc: Global, input: &'a str) -> Result<Vec<Ranked<'a>>, AllocE
             version => chain.push(Ranked { version, rank })?,
         }
     }
-    Ok(chain)
+    Ok(())
 }
