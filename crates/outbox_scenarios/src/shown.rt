@@ -1,83 +1,78 @@
 //! Changes, outboxes and rows in words.
-use anyhow::Result;
 use change_outbox::{Change, ChangeKind, Outbox};
 use row_batches::{RowChange, StoreRow};
-use std::alloc::Global;
+use row_tables::{add_between, add_none};
+use std::alloc::AllocError;
 
-/// The changes behind their numbers, with commas between them, or `none`.
-pub(crate) fn changes_text(alloc: Global, changes: &[Change]) -> Result<String> {
-    let mut line = String::new(alloc);
+/// Adds the changes behind their numbers, with commas between them, or `none`.
+pub(crate) fn add_changes(changes: &[Change], found: &mut String) -> Result<(), AllocError> {
     for change in changes {
-        let text = change_text(alloc, change)?;
-        push(&mut line, text.as_str())?;
+        add_between(found, ", ")?;
+        add_change(change, found)?;
     }
-    if line.is_empty() {
-        line.push_str("none")?;
-    }
-    Ok(line)
+    add_none(found)
 }
 
-fn change_text(alloc: Global, change: &Change) -> Result<String> {
-    let kind = match change.kind {
+fn add_change(change: &Change, found: &mut String) -> Result<(), AllocError> {
+    write!(found, "{} ", change.number)?;
+    found.push_str(kind_text(change.kind))?;
+    write!(found, " {}", change.slug.text())?;
+    write!(found, " {}", change.branch.text())
+}
+
+fn kind_text(kind: ChangeKind) -> &'static str {
+    match kind {
         ChangeKind::Join => "join",
         ChangeKind::Leave => "leave",
-    };
-    let (slug, branch) = (change.slug.text(), change.branch.text());
-    Ok(format!(in alloc; "{} {kind} {slug} {branch}", change.number)?)
+    }
 }
 
-/// The next number and the entries.
-pub(crate) fn outbox_text(alloc: Global, outbox: &Outbox) -> Result<String> {
-    let entries = changes_text(alloc, outbox.entries())?;
-    Ok(format!(in alloc; "next {}, {entries}", outbox.next())?)
+/// Adds the next number and the entries.
+pub(crate) fn add_outbox(outbox: &Outbox, found: &mut String) -> Result<(), AllocError> {
+    write!(found, "next {}", outbox.next())?;
+    add_entries(outbox.entries(), found)
 }
 
-/// The rows as `KEY=VALUE`, with commas between them, or `none`.
-pub(crate) fn rows_text(alloc: Global, rows: &[StoreRow]) -> Result<String> {
-    let mut line = String::new(alloc);
+fn add_entries(entries: &[Change], found: &mut String) -> Result<(), AllocError> {
+    if entries.is_empty() {
+        return found.push_str(", none");
+    }
+    add_changes(entries, found)
+}
+
+/// Adds the rows as `KEY=VALUE`, with commas between them, or `none`.
+pub(crate) fn add_rows(rows: &[StoreRow], found: &mut String) -> Result<(), AllocError> {
     for row in rows {
-        let text = format!(in alloc;
-            "{}={}",
-            row.key.as_slice().escape_ascii(),
-            row.value.as_slice().escape_ascii()
-        )?;
-        push(&mut line, text.as_str())?;
+        add_between(found, ", ")?;
+        add_row(row, found)?;
     }
-    if line.is_empty() {
-        line.push_str("none")?;
-    }
-    Ok(line)
+    add_none(found)
 }
 
-/// The changes of rows as `put KEY=VALUE` and `delete KEY`, with commas between them, or `none`.
-pub(crate) fn row_changes_text(alloc: Global, changes: &[RowChange]) -> Result<String> {
-    let mut line = String::new(alloc);
+fn add_row(row: &StoreRow, found: &mut String) -> Result<(), AllocError> {
+    let key = row.key.as_slice().escape_ascii();
+    let value = row.value.as_slice().escape_ascii();
+    write!(found, "{key}=")?;
+    write!(found, "{value}")
+}
+
+/// Adds the changes of rows as `put KEY=VALUE` and `delete KEY`, with commas between them, or `none`.
+pub(crate) fn add_row_changes(changes: &[RowChange], found: &mut String) -> Result<(), AllocError> {
     for change in changes {
-        let text = row_change_text(alloc, change)?;
-        push(&mut line, text.as_str())?;
+        add_between(found, ", ")?;
+        add_row_change(change, found)?;
     }
-    if line.is_empty() {
-        line.push_str("none")?;
-    }
-    Ok(line)
+    add_none(found)
 }
 
-fn row_change_text(alloc: Global, change: &RowChange) -> Result<String> {
-    Ok(match change {
-        RowChange::Put(row) => format!(in alloc;
-            "put {}={}",
-            row.key.as_slice().escape_ascii(),
-            row.value.as_slice().escape_ascii()
-        )?,
-        RowChange::Delete(key) => { format!(in alloc; "delete {}", key.as_slice().escape_ascii())? }
-    })
+fn add_row_change(change: &RowChange, found: &mut String) -> Result<(), AllocError> {
+    match change {
+        RowChange::Put(row) => add_put(row, found),
+        RowChange::Delete(key) => write!(found, "delete {}", key.as_slice().escape_ascii()),
+    }
 }
 
-/// Adds a text, behind a comma where it isn't the first.
-pub(crate) fn push(line: &mut String, text: &str) -> Result<()> {
-    if !line.is_empty() {
-        line.push_str(", ")?;
-    }
-    line.push_str(text)?;
-    Ok(())
+fn add_put(row: &StoreRow, found: &mut String) -> Result<(), AllocError> {
+    found.push_str("put ")?;
+    add_row(row, found)
 }

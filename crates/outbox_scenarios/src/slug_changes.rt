@@ -1,79 +1,109 @@
 //! Rows on the changes from one list of enrolment rows to another.
-ghost use Rattle.std.specs.Prelude.{IfOk, IsTrue};
+ghost use Rattle.std.specs.Prelude.{IsTrue};
 ghost use Rattle.enrol_states.specs.Order.{AreAbove, Rise};
 ghost use Rattle.enrol_states.specs.State.{slugs_of};
 
-use crate::inputs::{halves, slug};
-use crate::shown::changes_text;
-use anyhow::{Result, bail};
+use crate::inputs::slug;
+use crate::shown::add_changes;
 use change_outbox::changes_of;
 use enrol_states::{
     DisqualifiedReason, EnrolledReason, ErrorCause, NotEnrolledReason, Row, Status,
 };
+use plain_text::Slug;
+use row_tables::{Fault, cut, parts};
 use std::alloc::Global;
 use std::cmp::Ordering;
 
 /// The changes between rows. Row: the old and the new rows, as `SLUG STATUS` with commas between them, or `none`.
-pub(crate) fn changes_between(alloc: Global, input: &str) -> Result<String> {
-    let (old, new) = halves(input, " | ")?;
+pub(crate) fn find_changes(alloc: Global, input: &str, found: &mut String) -> Result<(), Fault> {
+    let (old, new) = parts(input)?;
     let old = rows_of(alloc, old)?;
-    let new = rows_of(alloc, new)?;
-    let changes = changes_of(alloc, &old, &new)?;
-    changes_text(alloc, changes.as_slice())
+    find_changes_from(alloc, &old, new, found)
 }
 
-// The rows that a text names, which rise by slug.
-fn rows_of(alloc: Global, text: &str) -> Result<Vec<Row>>
-    ensures { IfOk result (λ rows. Rise (slugs_of rows.items)) }
-{
+fn find_changes_from(
+    alloc: Global,
+    old: &[Row],
+    new: &str,
+    found: &mut String,
+) -> Result<(), Fault> {
+    let new = rows_of(alloc, new)?;
+    find_changes_between(alloc, old, &new, found)
+}
+
+fn find_changes_between(
+    alloc: Global,
+    old: &[Row],
+    new: &[Row],
+    found: &mut String,
+) -> Result<(), Fault> {
+    if !rises(old) || !rises(new) {
+        return Err(Fault::NoRow);
+    }
+    let changes = changes_of(alloc, old, new)?;
+    Ok(add_changes(changes.as_slice(), found)?)
+}
+
+// The rows that a text names.
+fn rows_of(alloc: Global, text: &str) -> Result<Vec<Row>, Fault> {
     let mut rows = Vec::new(alloc);
-    if text != "none" {
-        for row in text.split(", ") {
-            rows.push(row_of(alloc, row)?)?;
-        }
-    }
-    if !rises(&rows) {
-        bail!("no order: {text}");
-    }
+    read_rows(alloc, text, &mut rows)?;
     Ok(rows)
 }
 
-fn row_of(alloc: Global, text: &str) -> Result<Row> {
-    let (name, status) = halves(text, " ")?;
-    Ok(Row {
-        slug: slug(alloc, name)?,
-        status: status_of(alloc, status)?,
-    })
+fn read_rows(alloc: Global, text: &str, rows: &mut Vec<Row>) -> Result<(), Fault> {
+    if text == "none" {
+        return Ok(());
+    }
+    for row in text.split(", ") {
+        read_row(alloc, row, rows)?;
+    }
+    Ok(())
+}
+
+fn read_row(alloc: Global, text: &str, rows: &mut Vec<Row>) -> Result<(), Fault> {
+    let (name, rest) = cut(text);
+    let (kind, branch) = cut(rest);
+    let status = status_of(alloc, kind, branch)?;
+    add_row(alloc, name, status, rows)
+}
+
+fn add_row(alloc: Global, name: &str, status: Status, rows: &mut Vec<Row>) -> Result<(), Fault> {
+    let slug = slug(alloc, name)?;
+    Ok(rows.push(Row { slug, status })?)
 }
 
 // A status by the name of its kind, and its branch.
-fn status_of(alloc: Global, text: &str) -> Result<Status> {
-    let (kind, branch) = text.split_once(' ').unwrap_or((text, ""));
-    Ok(match kind {
-        "Enrolled" => Status::Enrolled {
-            reason: EnrolledReason::Qualified,
-            branch: slug(alloc, branch)?,
-        },
-        "OptedIn" => Status::Enrolled {
-            reason: EnrolledReason::OptIn,
-            branch: slug(alloc, branch)?,
-        },
-        "Disqualified" => Status::Disqualified {
-            reason: DisqualifiedReason::OptOut,
-            branch: slug(alloc, branch)?,
-        },
-        "WasEnrolled" => Status::WasEnrolled {
-            branch: slug(alloc, branch)?,
-            ended: 7,
-        },
-        "NotEnrolled" => Status::NotEnrolled {
+fn status_of(alloc: Global, kind: &str, branch: &str) -> Result<Status, Fault> {
+    match kind {
+        "NotEnrolled" => Ok(Status::NotEnrolled {
             reason: NotEnrolledReason::NotTargeted,
-        },
-        "Error" => Status::Error {
+        }),
+        "Error" => Ok(Status::Error {
             cause: ErrorCause::Unparsed,
-        },
-        _ => bail!("no status: {text}"),
-    })
+        }),
+        _ => status_in(kind, slug(alloc, branch)?),
+    }
+}
+
+// A status that has a branch.
+fn status_in(kind: &str, branch: Slug) -> Result<Status, Fault> {
+    match kind {
+        "Enrolled" => Ok(Status::Enrolled {
+            reason: EnrolledReason::Qualified,
+            branch,
+        }),
+        "OptedIn" => Ok(Status::Enrolled {
+            reason: EnrolledReason::OptIn,
+            branch,
+        }),
+        "Disqualified" => Ok(Status::Disqualified {
+            reason: DisqualifiedReason::OptOut,
+            branch,
+        }),
+        "WasEnrolled" => Ok(Status::WasEnrolled { branch, ended: 7 }),
+        _ => Err(Fault::NoRow),
+    }
 }
 
 // Whether the rows rise by slug.

@@ -1,70 +1,158 @@
 //! Rows on the rows of a store that are an outbox's.
-use crate::actions::{act_all, appended, confirmed};
-use crate::inputs::{bytes_of, halves};
-use crate::shown::{outbox_text, row_changes_text, rows_text};
-use anyhow::{Result, bail};
+ghost use Rattle.change_outbox.specs.Contents.{IsMadeOf};
+
+use crate::actions::{act_all, changes_of};
+use crate::inputs::{bytes_of, number};
+use crate::shown::{add_outbox, add_row_changes, add_rows};
 use change_outbox::{Outbox, OutboxFault, outbox_of};
 use row_batches::StoreRow;
+use row_tables::{Fault, parts};
 use sequences::Sequence;
-use std::alloc::Global;
+use std::alloc::{AllocError, Global};
 
 /// The outbox of a store's rows, or `NotAnOutbox`. Row: the store's rows, as `KEY=VALUE` with commas between them, or `none`.
-pub(crate) fn outbox_in(alloc: Global, input: &str) -> Result<String> {
-    let rows = rows_of(alloc, input)?;
-    match outbox_of(alloc, rows.as_slice()) {
-        Ok(outbox) => outbox_text(alloc, &outbox),
-        Err(OutboxFault::NotAnOutbox) => Ok(String::from_str(alloc, "NotAnOutbox")?),
-        Err(OutboxFault::OutOfMemory) => bail!("out of memory"),
+pub(crate) fn find_outbox(
+    alloc: Global,
+    outbox: &mut Outbox,
+    input: &str,
+    found: &mut String,
+) -> Result<(), Fault> {
+    if reopen(alloc, outbox, input)? {
+        return Ok(add_outbox(outbox, found)?);
     }
+    Ok(found.push_str("NotAnOutbox")?)
 }
 
-/// The rows of a new outbox after actions. Row: the actions, with semicolons between them.
-pub(crate) fn rows_after(alloc: Global, input: &str) -> Result<String> {
-    let mut outbox = Outbox::new(alloc);
-    act_all(alloc, &mut outbox, input)?;
+/// The rows of an outbox after actions. Row: the actions, with semicolons between them.
+pub(crate) fn find_rows(
+    alloc: Global,
+    outbox: &mut Outbox,
+    input: &str,
+    found: &mut String,
+) -> Result<(), Fault> {
+    act_all(alloc, outbox, input, found)?;
+    found.clear();
+    Ok(add_rows_of(alloc, outbox, found)?)
+}
+
+fn add_rows_of(alloc: Global, outbox: &Outbox, found: &mut String) -> Result<(), AllocError> {
     let rows = outbox.rows(alloc)?;
-    rows_text(alloc, rows.as_slice())
+    add_rows(rows.as_slice(), found)
 }
 
 /// The changes of rows from the outbox after actions to that after a confirmation and an append more, and how many bytes the puts of
 /// its rows have. Row: the actions with semicolons between them, and behind ` | ` the number that is confirmed and the changes, with
 /// a semicolon between them.
-pub(crate) fn row_changes_after(alloc: Global, given: &str, input: &str) -> Result<String> {
-    let (actions, further) = halves(input, " | ")?;
-    let (number, changes) = halves(further, "; ")?;
-    let mut outbox = given_outbox(alloc, given)?;
-    act_all(alloc, &mut outbox, actions)?;
-    let mut left = confirmed(&outbox, number)?;
-    let Some(next) = appended(alloc, &mut left, changes)? else {
-        bail!("no outbox: {changes}");
-    };
-    let changes = outbox.changes_to(alloc, &next)?;
-    let changes = row_changes_text(alloc, changes.as_slice())?;
-    Ok(format!(in alloc; "{changes}; {} bytes", next.size())?)
+pub(crate) fn find_row_changes(
+    alloc: Global,
+    outbox: &mut Outbox,
+    input: &str,
+    found: &mut String,
+) -> Result<(), Fault> {
+    let (actions, further) = parts(input)?;
+    let (confirmed, changes) = further.split_once("; ").ok_or(Fault::NoRow)?;
+    act_all(alloc, outbox, actions, found)?;
+    found.clear();
+    find_from(alloc, outbox, number(confirmed)?, changes, found)
 }
 
-/// The outbox of the rows that are given, or a new one where nothing is given.
-pub(crate) fn given_outbox(alloc: Global, given: &str) -> Result<Outbox> {
-    if given.is_empty() {
-        return Ok(Outbox::new(alloc));
-    }
-    let rows = rows_of(alloc, given)?;
-    match outbox_of(alloc, rows.as_slice()) {
-        Ok(outbox) => Ok(outbox),
-        Err(_) => bail!("no outbox: {given}"),
+#[tactic(auto, using(change_outbox::proofs::Made::confirmed_made))]
+fn find_from(
+    alloc: Global,
+    outbox: &Outbox,
+    number: u64,
+    changes: &str,
+    found: &mut String,
+) -> Result<(), Fault> {
+    match outbox.confirm(number) {
+        Ok(left) => find_after(alloc, outbox, left, changes, found),
+        Err(_) => Err(Fault::NoRow),
     }
 }
 
-fn rows_of(alloc: Global, text: &str) -> Result<Sequence<StoreRow>> {
-    let mut rows = Sequence::new(alloc);
-    if text != "none" {
-        for row in text.split(", ") {
-            let (key, value) = halves(row, "=")?;
-            rows.push(StoreRow {
-                key: Sequence::from_vec(bytes_of(alloc, key)?),
-                value: Sequence::from_vec(bytes_of(alloc, value)?),
-            })?;
+#[tactic(auto, using(change_outbox::proofs::Made::appended_made))]
+fn find_after(
+    alloc: Global,
+    outbox: &Outbox,
+    left: Outbox,
+    changes: &str,
+    found: &mut String,
+) -> Result<(), Fault>
+    requires { IsMadeOf outbox.now left }
+{
+    let mut left = left;
+    let changes = changes_of(alloc, changes)?;
+    match left.append(changes) {
+        Ok(next) => Ok(add_changes_to(alloc, outbox, &next, found)?),
+        Err(_) => Err(Fault::NoRow),
+    }
+}
+
+fn add_changes_to(
+    alloc: Global,
+    outbox: &Outbox,
+    next: &Outbox,
+    found: &mut String,
+) -> Result<(), AllocError>
+    requires { IsMadeOf outbox.now next.now }
+{
+    let changes = outbox.changes_to(alloc, next)?;
+    add_row_changes(changes.as_slice(), found)?;
+    write!(found, "; {} bytes", next.size())
+}
+
+/// Takes the outbox of the rows that are given, if any are.
+pub(crate) fn take_given(alloc: Global, outbox: &mut Outbox, given: &str) -> Result<(), Fault> {
+    if given.is_empty() || reopen(alloc, outbox, given)? {
+        return Ok(());
+    }
+    Err(Fault::NoRow)
+}
+
+// Takes the outbox of rows; whether they are one's.
+fn reopen(alloc: Global, outbox: &mut Outbox, text: &str) -> Result<bool, Fault> {
+    let mut rows = Vec::new(alloc);
+    read_rows(alloc, text, &mut rows)?;
+    take(alloc, outbox, &rows)
+}
+
+fn take(alloc: Global, outbox: &mut Outbox, rows: &[StoreRow]) -> Result<bool, Fault> {
+    match outbox_of(alloc, rows) {
+        Ok(kept) => {
+            *outbox = kept;
+            Ok(true)
         }
+        Err(OutboxFault::NotAnOutbox) => Ok(false),
+        Err(OutboxFault::OutOfMemory) => Err(Fault::OutOfMemory),
     }
-    Ok(rows)
+}
+
+fn read_rows(alloc: Global, text: &str, rows: &mut Vec<StoreRow>) -> Result<(), Fault> {
+    if text == "none" {
+        return Ok(());
+    }
+    for row in text.split(", ") {
+        read_row(alloc, row, rows)?;
+    }
+    Ok(())
+}
+
+fn read_row(alloc: Global, text: &str, rows: &mut Vec<StoreRow>) -> Result<(), Fault> {
+    let (key, value) = text.split_once('=').ok_or(Fault::NoRow)?;
+    let key = bytes_of(alloc, key)?;
+    add_row(alloc, key, value, rows)
+}
+
+fn add_row(
+    alloc: Global,
+    key: Vec<u8>,
+    value: &str,
+    rows: &mut Vec<StoreRow>,
+) -> Result<(), Fault> {
+    let value = bytes_of(alloc, value)?;
+    let row = StoreRow {
+        key: Sequence::from_vec(key),
+        value: Sequence::from_vec(value),
+    };
+    Ok(rows.push(row)?)
 }
