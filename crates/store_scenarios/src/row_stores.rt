@@ -69,7 +69,10 @@ pub(crate) fn open_state(
 
 fn add_form(alloc: Global, rows: &[StoreRow], answer: &mut Vec<u8>) -> Result<(), AllocError> {
     match state_of(alloc, rows) {
-        Ok(_) => answer.extend_from_slice(b"state"),
+        Ok(state) => {
+            drop(state);
+            answer.extend_from_slice(b"state")
+        }
         Err(CodecFault::NotAState) => answer.extend_from_slice(b"NotAState"),
         Err(CodecFault::OutOfMemory) => Err(AllocError),
     }

@@ -1,5 +1,4 @@
 //! Rows of states, and bytes that are a state's or no state's.
-ghost use Rattle.std.specs.Prelude.{IfOk, IfSome};
 ghost use Rattle.state_codec.specs.Sound.{IsSound};
 
 use crate::batches::add_batch;
@@ -120,18 +119,36 @@ pub(crate) fn spelled(
     spelling: &[u8],
 ) -> Result<&'static str, AllocError> {
     match read_state(alloc, bytes) {
-        Ok(state) if is_spelled(alloc, &state, spelling)? => Ok("state"),
-        Ok(_) => Ok("another state"),
-        Err(CodecFault::NotAState) => Ok("NotAState"),
-        Err(CodecFault::OutOfMemory) => Err(AllocError),
+        Ok(state) => {
+            let word = encoding_word(alloc, &state, spelling);
+            drop(state);
+            word
+        }
+        Err(fault) => fault_word(fault),
     }
 }
 
-fn is_spelled(alloc: Global, state: &State, spelling: &[u8]) -> Result<bool, AllocError>
+fn encoding_word(alloc: Global, state: &State, spelling: &[u8]) -> Result<&'static str, AllocError>
     requires { IsSound state.now }
 {
     let again = write_state(alloc, state)?;
-    Ok(again.as_slice() == spelling && state_size(state) == spelling.len() as u128)
+    Ok(same_word(again.as_slice() == spelling && state_size(state) == spelling.len() as u128))
+}
+
+fn same_word(is_same: bool) -> &'static str {
+    if is_same { "state" } else { "another state" }
+}
+
+// What stands for why there is no state.
+fn fault_word(fault: CodecFault) -> Result<&'static str, AllocError> {
+    match fault {
+        CodecFault::NotAState => Ok("NotAState"),
+        CodecFault::OutOfMemory => Err(AllocError),
+    }
+}
+
+fn add_fault_word(fault: CodecFault, answer: &mut Vec<u8>) -> Result<(), AllocError> {
+    answer.extend_from_slice(fault_word(fault)?.as_bytes())
 }
 
 // The rows of lines.
@@ -148,44 +165,43 @@ fn add_rows(alloc: Global, lines: &[String], rows: &mut Vec<StoreRow>) -> Result
     Ok(())
 }
 
-// The state that has these rows, if there is one.
-fn state_in(alloc: Global, rows: &[StoreRow]) -> Result<Option<State>, AllocError>
-    ensures { IfOk result (λ found. IfSome found IsSound) }
-{
-    match state_of(alloc, rows) {
-        Ok(state) => Ok(Some(state)),
-        Err(CodecFault::NotAState) => Ok(None),
-        Err(CodecFault::OutOfMemory) => Err(AllocError),
-    }
-}
-
 /// What the rows of lines are: `state`, where the state that they make has these rows, or `NotAState`.
 pub(crate) fn state_word(
     alloc: Global,
     lines: &[String],
     rows: &[String],
 ) -> Result<&'static str, AllocError> {
-    match state_of_lines(alloc, lines)? {
-        Some(state) if has_rows(alloc, &state, rows)? => Ok("state"),
-        Some(_) => Ok("another state"),
-        None => Ok("NotAState"),
+    let kept = rows_in(alloc, lines)?;
+    state_word_of(alloc, &kept, rows)
+}
+
+fn state_word_of(
+    alloc: Global,
+    kept: &[StoreRow],
+    rows: &[String],
+) -> Result<&'static str, AllocError> {
+    match state_of(alloc, kept) {
+        Ok(state) => {
+            let word = rows_word(alloc, &state, rows);
+            drop(state);
+            word
+        }
+        Err(fault) => fault_word(fault),
     }
 }
 
-fn has_rows(alloc: Global, state: &State, rows: &[String]) -> Result<bool, AllocError>
+fn rows_word(alloc: Global, state: &State, rows: &[String]) -> Result<&'static str, AllocError>
     requires { IsSound state.now }
 {
     let rows = rows_in(alloc, rows)?;
-    let again = rows_of(alloc, state)?;
-    Ok(same_rows(&rows, again.as_slice()))
+    rows_word_of(alloc, state, &rows)
 }
 
-// The state that has the rows of lines, if there is one.
-fn state_of_lines(alloc: Global, lines: &[String]) -> Result<Option<State>, AllocError>
-    ensures { IfOk result (λ found. IfSome found IsSound) }
+fn rows_word_of(alloc: Global, state: &State, rows: &[StoreRow]) -> Result<&'static str, AllocError>
+    requires { IsSound state.now }
 {
-    let rows = rows_in(alloc, lines)?;
-    state_in(alloc, &rows)
+    let again = rows_of(alloc, state)?;
+    Ok(same_word(same_rows(rows, again.as_slice())))
 }
 
 /// Adds the bytes of the batch from the state of these lines to that of the changed ones, where they are states.
@@ -195,26 +211,63 @@ pub(crate) fn add_change(
     changes: &str,
     answer: &mut Vec<u8>,
 ) -> Result<(), AllocError> {
-    match state_of_lines(alloc, lines)? {
-        Some(old) => add_change_from(alloc, &old, lines, changes, answer),
-        None => answer.extend_from_slice(b"NotAState"),
-    }
+    let old = rows_in(alloc, lines)?;
+    add_change_from(alloc, &old, lines, changes, answer)
 }
 
 fn add_change_from(
     alloc: Global,
-    old: &State,
+    old: &[StoreRow],
     lines: &[String],
     changes: &str,
+    answer: &mut Vec<u8>,
+) -> Result<(), AllocError> {
+    let new = changed_rows(alloc, lines, changes)?;
+    add_change_to(alloc, old, &new, answer)
+}
+
+// The rows of the changed lines.
+fn changed_rows(
+    alloc: Global,
+    lines: &[String],
+    changes: &str,
+) -> Result<Vec<StoreRow>, AllocError> {
+    let mut changed = Vec::new(alloc);
+    add_changed(alloc, lines, changes, &mut changed)?;
+    rows_in(alloc, &changed)
+}
+
+fn add_change_to(
+    alloc: Global,
+    old: &[StoreRow],
+    new: &[StoreRow],
+    answer: &mut Vec<u8>,
+) -> Result<(), AllocError> {
+    match state_of(alloc, old) {
+        Ok(state) => {
+            let added = add_change_after(alloc, &state, new, answer);
+            drop(state);
+            added
+        }
+        Err(fault) => add_fault_word(fault, answer),
+    }
+}
+
+fn add_change_after(
+    alloc: Global,
+    old: &State,
+    new: &[StoreRow],
     answer: &mut Vec<u8>,
 ) -> Result<(), AllocError>
     requires { IsSound old.now }
 {
-    let mut others = Vec::new(alloc);
-    add_changed(alloc, lines, changes, &mut others)?;
-    match state_of_lines(alloc, &others)? {
-        Some(new) => add_change_between(alloc, old, &new, answer),
-        None => answer.extend_from_slice(b"NotAState"),
+    match state_of(alloc, new) {
+        Ok(state) => {
+            let added = add_change_between(alloc, old, &state, answer);
+            drop(state);
+            added
+        }
+        Err(fault) => add_fault_word(fault, answer),
     }
 }
 
@@ -239,27 +292,36 @@ pub(crate) fn add_migration(
     changes: &str,
     answer: &mut Vec<u8>,
 ) -> Result<(), AllocError> {
-    let mut changed = Vec::new(alloc);
-    add_changed(alloc, lines, changes, &mut changed)?;
-    add_migration_of(alloc, &changed, answer)
+    let rows = changed_rows(alloc, lines, changes)?;
+    add_migration_of(alloc, &rows, answer)
 }
 
 fn add_migration_of(
     alloc: Global,
-    lines: &[String],
+    rows: &[StoreRow],
     answer: &mut Vec<u8>,
 ) -> Result<(), AllocError> {
-    let rows = rows_in(alloc, lines)?;
-    match state_in(alloc, &rows)? {
-        Some(state) if needs_migration(&rows) => add_migration_to(alloc, &state, answer),
-        Some(_) => answer.extend_from_slice(b"none"),
-        None => answer.extend_from_slice(b"NotAState"),
+    match state_of(alloc, rows) {
+        Ok(state) => {
+            let added = add_migration_to(alloc, &state, needs_migration(rows), answer);
+            drop(state);
+            added
+        }
+        Err(fault) => add_fault_word(fault, answer),
     }
 }
 
-fn add_migration_to(alloc: Global, state: &State, answer: &mut Vec<u8>) -> Result<(), AllocError>
+fn add_migration_to(
+    alloc: Global,
+    state: &State,
+    is_needed: bool,
+    answer: &mut Vec<u8>,
+) -> Result<(), AllocError>
     requires { IsSound state.now }
 {
+    if !is_needed {
+        return answer.extend_from_slice(b"none");
+    }
     let batch: Batch = migration(alloc, state)?;
     add_batch(alloc, &batch, answer)
 }
@@ -283,6 +345,14 @@ pub(crate) fn add_fresh(alloc: Global, id: &str, found: &mut Vec<u8>) -> Result<
         return found.extend_from_slice(b"no id");
     };
     let state = State::new(alloc, id, NOW);
-    let bytes = write_state(alloc, &state)?;
+    let added = add_encoding(alloc, &state, found);
+    drop(state);
+    added
+}
+
+fn add_encoding(alloc: Global, state: &State, found: &mut Vec<u8>) -> Result<(), AllocError>
+    requires { IsSound state.now }
+{
+    let bytes = write_state(alloc, state)?;
     found.extend_from_slice(&bytes)
 }
