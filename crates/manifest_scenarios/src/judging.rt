@@ -32,8 +32,21 @@ fn judge_all(
 ) -> Result<(), AllocError> {
     let mut scenario = Scenario::new(alloc)?;
     let mut found = String::new(alloc);
+    let outcome = judge_each(alloc, text, &mut scenario, verdict, &mut found, report);
+    drop(scenario);
+    outcome
+}
+
+fn judge_each(
+    alloc: Global,
+    text: &str,
+    scenario: &mut Scenario,
+    verdict: &mut Verdict,
+    found: &mut String,
+    report: &mut String,
+) -> Result<(), AllocError> {
     for line in text.lines() {
-        judge_line(alloc, line, &mut scenario, verdict, &mut found, report)?;
+        judge_line(alloc, line, scenario, verdict, found, report)?;
     }
     Ok(())
 }
@@ -53,14 +66,18 @@ fn judge_line(
     if word == "==" {
         tell(verdict, report)?;
         begin(verdict, rest)?;
-        *scenario = Scenario::new(alloc)?;
-        return Ok(());
+        return renew(alloc, scenario);
     }
     if prepare(alloc, scenario, word, rest)? {
         return Ok(());
     }
     found.clear();
     verdict.passes &= judge(alloc, line, scenario, &verdict.name, found, report)?;
+    Ok(())
+}
+
+fn renew(alloc: Global, scenario: &mut Scenario) -> Result<(), AllocError> {
+    drop(std::mem::replace(scenario, Scenario::new(alloc)?));
     Ok(())
 }
 

@@ -7,7 +7,7 @@ use fml_link::{LinkFault, link};
 use fml_types::{Manifest, coenrolling_features};
 use host_model::MemShelf;
 use row_tables::{Fault, cut};
-use std::alloc::Global;
+use std::alloc::{AllocError, Global};
 
 /// Links a file for a channel, and writes `ok`, or what it is refused for. Row: the names of the file and of the channel.
 pub(crate) fn find_link(
@@ -19,14 +19,28 @@ pub(crate) fn find_link(
 ) -> Result<(), Fault> {
     let (name, channel) = cut(words);
     match link(alloc, shelf, name, channel) {
-        Ok(manifest) => {
-            let is_for_it = manifest.channel.as_str() == channel;
-            *last = Some(manifest);
-            Ok(found.push_str(if is_for_it { "ok" } else { "another channel" })?)
-        }
-        Err(LinkFault::Refused(refusal)) => Ok(add_refusal(&refusal, found)?),
-        Err(LinkFault::ShelfFault) => Ok(found.push_str("ShelfFault")?),
-        Err(LinkFault::OutOfMemory) => Err(Fault::OutOfMemory),
+        Ok(manifest) => Ok(keep(manifest, last, channel, found)?),
+        Err(fault) => add_fault(&fault, found),
+    }
+}
+
+// Keeps a manifest that is linked, and adds whether it is for this channel.
+fn keep(
+    manifest: Manifest,
+    last: &mut Option<Manifest>,
+    channel: &str,
+    found: &mut String,
+) -> Result<(), AllocError> {
+    let is_for_it = manifest.channel.as_str() == channel;
+    drop(std::mem::replace(last, Some(manifest)));
+    found.push_str(if is_for_it { "ok" } else { "another channel" })
+}
+
+fn add_fault(fault: &LinkFault, found: &mut String) -> Result<(), Fault> {
+    match fault {
+        LinkFault::Refused(refusal) => Ok(add_refusal(refusal, found)?),
+        LinkFault::ShelfFault => Ok(found.push_str("ShelfFault")?),
+        LinkFault::OutOfMemory => Err(Fault::OutOfMemory),
     }
 }
 

@@ -13,21 +13,18 @@ pub(crate) fn find_module(alloc: Global, text: &[u8], found: &mut String) -> Res
 }
 
 fn find_module_in(alloc: Global, tree: &Tree, found: &mut String) -> Result<(), Fault> {
-    match read_module(alloc, tree) {
-        Ok(_) => Ok(found.push_str("ok")?),
-        Err(ModuleFault::Refused(ModuleRefusal::BadShape(path))) => {
+    match read_module(alloc, tree).err() {
+        None => Ok(found.push_str("ok")?),
+        Some(ModuleFault::Refused(ModuleRefusal::BadShape(path))) => {
             Ok(add_texts(found, &["at \"", path.as_str(), "\""])?)
         }
-        Err(ModuleFault::OutOfMemory) => Err(Fault::OutOfMemory),
+        Some(ModuleFault::OutOfMemory) => Err(Fault::OutOfMemory),
     }
 }
 
 fn module_of(alloc: Global, text: &[u8]) -> Result<Module, Fault> {
     let tree = tree_of(alloc, text)?;
-    match read_module(alloc, &tree) {
-        Ok(module) => Ok(module),
-        Err(_) => Err(Fault::NoRow),
-    }
+    read_module(alloc, &tree).ok().ok_or(Fault::NoRow)
 }
 
 /// Writes the channels of a default of a feature, each with a stroke before it, or `any`.
@@ -38,6 +35,12 @@ pub(crate) fn find_channels(alloc: Global, entry: &str, found: &mut String) -> R
 
 fn find_channels_in(alloc: Global, text: &[u8], found: &mut String) -> Result<(), Fault> {
     let module = module_of(alloc, text)?;
+    let outcome = find_channels_of(&module, found);
+    drop(module);
+    outcome
+}
+
+fn find_channels_of(module: &Module, found: &mut String) -> Result<(), Fault> {
     match module.features.get("f") {
         Some(feature) => Ok(add_channels(feature.defaults.as_slice(), found)?),
         None => Err(Fault::NoRow),
@@ -58,7 +61,9 @@ fn add_channels(entries: &[DefaultEntry], found: &mut String) -> Result<(), Allo
 /// may have has a star behind it.
 pub(crate) fn find_parts(alloc: Global, text: &[u8], found: &mut String) -> Result<(), Fault> {
     let module = module_of(alloc, text)?;
-    Ok(add_parts(&module, found)?)
+    let outcome = add_parts(&module, found);
+    drop(module);
+    Ok(outcome?)
 }
 
 fn add_parts(module: &Module, found: &mut String) -> Result<(), AllocError> {

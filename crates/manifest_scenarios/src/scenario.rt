@@ -42,9 +42,9 @@
 use crate::chains::add_chain;
 use crate::linked::{find_link, find_linked};
 use crate::modules::{find_channels, find_module, find_parts};
-use crate::tables::{find_grounding, find_height, find_weight, table_of};
+use crate::tables::{empty_table, find_grounding, find_height, find_weight, read_table};
 use crate::values::{find_fit, find_kind, find_laid, find_spaces, find_type};
-use fml_types::Manifest;
+use fml_types::{Manifest, TypeTable};
 use host_model::MemShelf;
 use row_tables::{Fault, Piece, cut, number};
 use std::alloc::{AllocError, Global};
@@ -103,7 +103,7 @@ fn put_file(
 fn empty_shelf(alloc: Global, shelf: &mut MemShelf, call: &str) -> Result<bool, AllocError> {
     match number(call) {
         Some(call) => {
-            *shelf = MemShelf::new(alloc, &[call])?;
+            drop(std::mem::replace(shelf, MemShelf::new(alloc, &[call])?));
             Ok(true)
         }
         None => Ok(false),
@@ -185,11 +185,25 @@ fn find_by_table(
     rest: &str,
     found: &mut String,
 ) -> Result<(), Fault> {
-    let types = table_of(alloc, rows)?;
+    let mut types = empty_table(alloc);
+    let outcome = find_in_table(alloc, rows, &mut types, word, rest, found);
+    drop(types);
+    outcome
+}
+
+fn find_in_table(
+    alloc: Global,
+    rows: &str,
+    types: &mut TypeTable,
+    word: &str,
+    rest: &str,
+    found: &mut String,
+) -> Result<(), Fault> {
+    read_table(alloc, rows, types)?;
     match word {
-        "tree" => find_fit(alloc, &types, rest, found),
-        "value" => find_kind(alloc, &types, rest, found),
-        _ => find_laid(alloc, &types, rest, found),
+        "tree" => find_fit(alloc, types, rest, found),
+        "value" => find_kind(alloc, types, rest, found),
+        _ => find_laid(alloc, types, rest, found),
     }
 }
 

@@ -32,7 +32,9 @@ pub(crate) fn find_rereading(
 
 fn find_again(alloc: Global, text: &str, channel: &str, found: &mut String) -> Result<(), Fault> {
     let again = linked_again(alloc, text, channel)?;
-    find_single(alloc, &again, found)?;
+    let outcome = find_single(alloc, &again, found);
+    drop(again);
+    outcome?;
     if found.as_str() == text {
         found.clear();
         found.push_str("same")?;
@@ -43,8 +45,7 @@ fn find_again(alloc: Global, text: &str, channel: &str, found: &mut String) -> R
 fn linked_again(alloc: Global, text: &str, channel: &str) -> Result<Manifest, Fault> {
     let mut shelf = MemShelf::new(alloc, &[])?;
     shelf.add(alloc, NAME, text.as_bytes())?;
-    match link(alloc, &mut shelf, NAME, channel) {
-        Ok(manifest) => Ok(manifest),
-        Err(_) => Err(Fault::NoRow),
-    }
+    link(alloc, &mut shelf, NAME, channel)
+        .ok()
+        .ok_or(Fault::NoRow)
 }

@@ -8,19 +8,18 @@ use json_tree::Tree;
 use row_tables::{Fault, add_texts, cut, number};
 use std::alloc::{AllocError, Global};
 
-/// The table of objects that the lines are, with the enum `Side` of `left` and `right`.
-pub(crate) fn table_of(alloc: Global, rows: &str) -> Result<TypeTable, Fault> {
-    let objects = objects_of(alloc, rows)?;
-    Ok(TypeTable {
-        enums: sides(alloc)?,
-        objects,
-    })
+/// A table without types.
+pub(crate) fn empty_table(alloc: Global) -> TypeTable {
+    TypeTable {
+        enums: ByName::new(alloc),
+        objects: ByName::new(alloc),
+    }
 }
 
-fn sides(alloc: Global) -> Result<ByName<EnumDefinition>, AllocError> {
-    let mut enums = ByName::new(alloc);
-    add_side(alloc, &mut enums)?;
-    Ok(enums)
+/// Adds the objects that the lines are, and the enum `Side` of `left` and `right`.
+pub(crate) fn read_table(alloc: Global, rows: &str, types: &mut TypeTable) -> Result<(), Fault> {
+    add_side(alloc, &mut types.enums)?;
+    read_objects(alloc, rows, &mut types.objects)
 }
 
 fn add_side(alloc: Global, enums: &mut ByName<EnumDefinition>) -> Result<(), AllocError> {
@@ -37,12 +36,6 @@ fn add_variant(alloc: Global, name: &str, variants: &mut ByName<()>) -> Result<(
 }
 
 // The fields of one object stand one after the other.
-fn objects_of(alloc: Global, rows: &str) -> Result<ByName<ObjectDefinition>, Fault> {
-    let mut objects = ByName::new(alloc);
-    read_objects(alloc, rows, &mut objects)?;
-    Ok(objects)
-}
-
 fn read_objects(
     alloc: Global,
     rows: &str,
@@ -50,7 +43,9 @@ fn read_objects(
 ) -> Result<(), Fault> {
     let mut name = String::new(alloc);
     let mut fields = ByName::new(alloc);
-    read_rows(alloc, rows, objects, &mut name, &mut fields)
+    let outcome = read_rows(alloc, rows, objects, &mut name, &mut fields);
+    drop(fields);
+    outcome
 }
 
 // The object whose fields come now has this name, and these fields are read. Before the first it has no name.
@@ -90,11 +85,12 @@ fn close(
     name: &str,
     fields: &mut ByName<Field>,
 ) -> Result<(), AllocError> {
-    let fields = std::mem::replace(fields, ByName::new(alloc));
     if name.is_empty() {
         return Ok(());
     }
-    objects.insert(Text::new(alloc, name)?, ObjectDefinition { fields })?;
+    let name = Text::new(alloc, name)?;
+    let fields = std::mem::replace(fields, ByName::new(alloc));
+    objects.insert(name, ObjectDefinition { fields })?;
     Ok(())
 }
 
@@ -125,8 +121,20 @@ fn default_of(alloc: Global, text: &str) -> Result<Option<Tree>, Fault> {
 
 /// Writes `ok`, or what the table of these lines is refused for.
 pub(crate) fn find_grounding(alloc: Global, rows: &str, found: &mut String) -> Result<(), Fault> {
-    let types = table_of(alloc, rows)?;
-    match grounded(alloc, &types) {
+    let mut types = empty_table(alloc);
+    let outcome = find_grounding_of(alloc, rows, &mut types, found);
+    drop(types);
+    outcome
+}
+
+fn find_grounding_of(
+    alloc: Global,
+    rows: &str,
+    types: &mut TypeTable,
+    found: &mut String,
+) -> Result<(), Fault> {
+    read_table(alloc, rows, types)?;
+    match grounded(alloc, types) {
         Ok(()) => Ok(found.push_str("ok")?),
         Err(fault) => Ok(add_fault(&fault, found)?),
     }

@@ -81,7 +81,9 @@ pub(crate) fn find_fit(
     found: &mut String,
 ) -> Result<(), Fault> {
     let typed = typed_tree(alloc, row)?;
-    Ok(add_fit(types, &typed.of, &typed.tree, found)?)
+    let outcome = add_fit(types, &typed.of, &typed.tree, found);
+    drop(typed);
+    Ok(outcome?)
 }
 
 fn add_fit(
@@ -104,7 +106,9 @@ pub(crate) fn find_kind(
     found: &mut String,
 ) -> Result<(), Fault> {
     let typed = typed_tree(alloc, row)?;
-    Ok(add_kind(alloc, types, &typed.of, &typed.tree, found)?)
+    let outcome = add_kind(alloc, types, &typed.of, &typed.tree, found);
+    drop(typed);
+    Ok(outcome?)
 }
 
 fn add_kind(
