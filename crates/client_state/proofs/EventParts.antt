@@ -6,7 +6,7 @@ use Rattle.event_counts.proofs.Rising.{rows_rise}
 use Rattle.event_counts.specs.Rows.{row_of, rows_of}
 use Rattle.event_counts.specs.Sound.{IsSound}
 use Rattle.event_counts.specs.declared.name_counts.NameCounts.{NameCounts}
-use Rattle.state_codec.specs.ListParts.{part_of_new, part_of_old}
+use Rattle.sequences.specs.ListParts.{part_of_new, part_of_old}
 use Rattle.state_codec.proofs.ListParts as parts
 use Rattle.client_state.specs.Changes.{IsNextEvents}
 use Rattle.client_state.specs.declared.state_change.NextEvents.{NextEvents}

@@ -13,8 +13,8 @@ use Rattle.enrol_states.proofs.Ordered.{turned_down}
 use Rattle.change_outbox.specs.Changes.{changes_between, join, leave, slug_changes}
 use Rattle.change_outbox.specs.declared.change.Change.{Change}
 use Rattle.change_outbox.proofs.Turns.{all_above, both_told, new_told, none_left, old_told}
-use Rattle.state_codec.specs.ListParts.{IsPart, part_of_new, part_of_old}
-use Rattle.state_codec.specs.declared.list_part.ListPart.{ListPart}
+use Rattle.sequences.specs.ListParts.{IsPart, part_of_new, part_of_old}
+use Rattle.sequences.specs.declared.list_part.ListPart.{ListPart}
 use Rattle.state_codec.proofs.ListParts as parts
 
 -- ---- rows that rise, in parts

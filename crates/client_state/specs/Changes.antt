@@ -11,9 +11,9 @@ use Rattle.change_outbox.specs.Contents.{Contents, IsMadeOf}
 use Rattle.pref_bindings.specs.Changes.{set_by_user}
 use Rattle.pref_bindings.specs.Preferences as preference_lists
 use Rattle.pref_bindings.specs.declared.preference.Preference.{Preference}
-use Rattle.state_codec.specs.ListParts.{IsPart}
+use Rattle.sequences.specs.ListParts.{IsPart}
 use Rattle.state_codec.specs.RecipeLists.{HasLists}
-use Rattle.state_codec.specs.declared.list_part.ListPart.{ListPart}
+use Rattle.sequences.specs.declared.list_part.ListPart.{ListPart}
 use Rattle.state_codec.specs.declared.recipe_lists.RecipeLists.{RecipeLists}
 use Rattle.client_state.specs.Sound.{HaveEnrolledHolders}
 use Rattle.client_state.specs.declared.client_state.ClientState.{ClientState}

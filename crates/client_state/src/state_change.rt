@@ -7,7 +7,8 @@ use change_outbox::Outbox;
 use enrol_states::State;
 use event_counts::Counts;
 use pref_bindings::Prefs;
-use state_codec::{ListPart, RecipeLists};
+use sequences::ListPart;
+use state_codec::RecipeLists;
 
 /// What a command makes of a client's state: each part that it changes. A part that isn't there is as before.
 #[derive(Drop)]

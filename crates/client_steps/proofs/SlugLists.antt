@@ -6,9 +6,9 @@ use Rattle.std.proofs.lemmas.List.{drop-set-lt, length-set, length-take-le, take
 use Rattle.std.proofs.Math.Seq.{drop-append-add, take-append_seam}
 use Rattle.enrol_states.specs.Consistent as states
 use Rattle.enrol_states.specs.declared.state.State.{State}
-use Rattle.state_codec.specs.ListParts.{IsPart}
+use Rattle.sequences.specs.ListParts.{IsPart}
 use Rattle.state_codec.specs.RecipeLists.{HasLists}
-use Rattle.state_codec.specs.declared.list_part.ListPart.{ListPart}
+use Rattle.sequences.specs.declared.list_part.ListPart.{ListPart}
 use Rattle.state_codec.specs.declared.recipe_lists.RecipeLists.{RecipeLists}
 use Rattle.client_state.specs.Changes.{of_enrolment}
 use Rattle.client_state.specs.declared.client_state.ClientState.{ClientState}

@@ -4,7 +4,7 @@ ghost use Rattle.plain_text.specs.Names.{is_name};
 ghost use Rattle.enrol_states.specs.State.{last_moment};
 ghost use Rattle.event_counts.specs.Places.{DifferAt};
 ghost use Rattle.event_counts.specs.declared.name_counts.NameCounts.{NameCounts};
-ghost use Rattle.state_codec.specs.ListParts.{IsPart};
+ghost use Rattle.sequences.specs.ListParts.{IsPart};
 ghost use Rattle.client_steps.specs.declared.session.Session.{Session};
 ghost use Rattle.client_steps.specs.Asked.{asked_outcome, FollowsFrom};
 ghost use Rattle.client_steps.specs.Steps.{counting};
@@ -13,8 +13,7 @@ use crate::asked::Asked;
 use client_state::{ClientState, StateChange};
 use client_words::Answer;
 use event_counts::{CountFault, NamePlace};
-use sequences::Text;
-use state_codec::ListPart;
+use sequences::{ListPart, Text};
 use std::alloc::{AllocError, Global};
 
 /// What `event` asks for at a moment, in whole seconds since 1970.

@@ -10,7 +10,8 @@ use client_state::{ClientState, StateChange};
 use client_words::Answer;
 use enrol_states::reset;
 use event_counts::Counts;
-use state_codec::{ListPart, RecipeLists};
+use sequences::ListPart;
+use state_codec::RecipeLists;
 use std::alloc::{AllocError, Global};
 use uuid::Uuid;
 

@@ -6,12 +6,13 @@ ghost use Rattle.enrol_states.specs.Commands.{after_opt_in, after_opt_out, opted
 ghost use Rattle.enrol_states.specs.Consistent.{IsConsistent};
 ghost use Rattle.enrol_states.specs.Order.{Rise};
 ghost use Rattle.enrol_states.specs.State.{slugs_of};
-ghost use Rattle.state_codec.specs.ListParts.{IsPart};
+ghost use Rattle.sequences.specs.ListParts.{IsPart};
 ghost use Rattle.state_codec.specs.RecipeLists.{HasLists};
 
 use enrol_states::{Row, State};
 use plain_text::Slug;
-use state_codec::{ListPart, RecipeLists};
+use sequences::ListPart;
+use state_codec::RecipeLists;
 
 /// Which lists an opt-out leaves as they are: all but the slug's place among those that are opted out, and its row.
 pub(crate) fn opted_out_lists(state: &State, slug: &Slug) -> RecipeLists

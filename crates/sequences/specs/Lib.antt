@@ -1,3 +1,4 @@
+pub mod ListParts
 pub mod Order
 pub mod Runs
 pub mod Shared

@@ -2,11 +2,13 @@
 //! items.
 #![tactic(auto)]
 
+mod list_part;
 mod predecessor;
 mod sequence;
 mod shared;
 mod text;
 
+pub use list_part::ListPart;
 pub use sequence::Sequence;
 pub use shared::{ExactClone, SharedList};
 pub use text::Text;

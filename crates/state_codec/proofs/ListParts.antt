@@ -11,8 +11,8 @@ use Rattle.row_batches.specs.Between.{changes_between}
 use Rattle.row_batches.specs.Rows.{AreRows}
 use Rattle.row_batches.specs.declared.change.RowChange.{RowChange}
 use Rattle.row_batches.specs.declared.store_row.StoreRow.{StoreRow}
-use Rattle.state_codec.specs.ListParts.{IsPart, part_of_old, part_of_new}
-use Rattle.state_codec.specs.declared.list_part.ListPart.{ListPart}
+use Rattle.sequences.specs.ListParts.{IsPart, part_of_old, part_of_new}
+use Rattle.sequences.specs.declared.list_part.ListPart.{ListPart}
 use Rattle.state_codec.proofs.Joined.{between_itself}
 use Rattle.state_codec.proofs.KeyOrder.{IsBelow}
 

@@ -6,6 +6,5 @@ pub mod Laws
 pub mod Folds
 pub mod Reading
 pub mod RecipeChanges
-pub mod ListParts
 pub mod RecipeLists
 pub mod Sizes

@@ -1,8 +1,8 @@
 -- Which of a new state's lists are those of the state before.
 use Rattle.std.specs.Prelude.{◌≡◌}
 use Rattle.enrol_states.specs.declared.state.State.{State}
-use Rattle.state_codec.specs.ListParts.{IsPart}
-use Rattle.state_codec.specs.declared.list_part.ListPart.{ListPart}
+use Rattle.sequences.specs.ListParts.{IsPart}
+use Rattle.sequences.specs.declared.list_part.ListPart.{ListPart}
 use Rattle.state_codec.specs.declared.recipe_lists.RecipeLists.{RecipeLists}
 use Rattle.state_codec.specs.declared.recipe_lists.RecipeLists.TheVariants.{AsBefore, AllBut, LiveAsBefore, MayDiffer}
 

@@ -4,7 +4,6 @@
 
 mod changes;
 mod laws;
-mod list_part;
 mod old_form;
 mod reading;
 mod recipe_lists;
@@ -20,7 +19,6 @@ mod state_reading;
 
 pub use changes::{change_between, first_changes, later_changes, whole_batch, write_state};
 pub use laws::{one_encoding, one_state};
-pub use list_part::ListPart;
 pub use old_form::{migration, needs_migration};
 pub use reading::read_state;
 pub use recipe_lists::RecipeLists;

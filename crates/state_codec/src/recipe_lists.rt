@@ -1,9 +1,9 @@
 // What is known of a new state's lists.
-ghost use Rattle.state_codec.specs.ListParts.{IsPart};
+ghost use Rattle.sequences.specs.ListParts.{IsPart};
 ghost use Rattle.state_codec.specs.RecipeLists.{HasLists};
 
-use crate::list_part::ListPart;
 use enrol_states::State;
+use sequences::ListPart;
 
 /// Which of a new state's lists are those of the state before.
 #[derive(Clone, Copy)]

@@ -3,7 +3,7 @@ use Rattle.std.proofs.Common.{◌≡◌, List, ◌∙◌}
 use Rattle.row_batches.specs.Between.{changes_between}
 use Rattle.row_batches.specs.declared.change.RowChange.{RowChange}
 use Rattle.event_counts.specs.Rows.{rows_of}
-use Rattle.state_codec.specs.ListParts.{part_of_new, part_of_old}
+use Rattle.sequences.specs.ListParts.{part_of_new, part_of_old}
 use Rattle.state_codec.proofs.Encoded.{if_ok_weaker}
 use Rattle.client_state.proofs.EventParts.{part_told}
 use Rattle.client_state.proofs.changes.next_event_changes.Goals as goal

@@ -7,7 +7,7 @@ use Rattle.enrol_states.specs.declared.state.Row.{Row}
 use Rattle.change_outbox.specs.Changes.{changes_between}
 use Rattle.change_outbox.specs.Contents.{numbered}
 use Rattle.change_outbox.specs.declared.change.Change.{Change}
-use Rattle.state_codec.specs.ListParts.{part_of_new, part_of_old}
+use Rattle.sequences.specs.ListParts.{part_of_new, part_of_old}
 use Rattle.client_state.proofs.PartChanges.{new_part_rises, old_part_rises, part_told}
 use Rattle.client_state.proofs.following.enrolment_changes.Goals as goal
 

@@ -5,8 +5,8 @@ use Rattle.std.specs.List.{insert}
 use Rattle.event_counts.specs.Places.{DifferAt}
 use Rattle.event_counts.specs.declared.counted_event.NamePlace.{NamePlace}
 use Rattle.event_counts.specs.declared.name_counts.NameCounts.{NameCounts}
-use Rattle.state_codec.specs.ListParts.{IsPart}
-use Rattle.state_codec.specs.declared.list_part.ListPart.{ListPart}
+use Rattle.sequences.specs.ListParts.{IsPart}
+use Rattle.sequences.specs.declared.list_part.ListPart.{ListPart}
 use Rattle.client_steps.proofs.SlugLists.{one_comes, one_differs}
 use Rattle.client_steps.proofs.event.counted_part.Goals as goal
 

@@ -2,8 +2,8 @@
 use Rattle.std.proofs.Common.{subst, sym}
 use Rattle.enrol_states.proofs.OptOuts.{insert-again}
 use Rattle.enrol_states.proofs.Ordered.{inserted, is_in-searched, place_missed}
-use Rattle.state_codec.specs.ListParts.{IsPart}
-use Rattle.state_codec.specs.declared.list_part.ListPart.{ListPart}
+use Rattle.sequences.specs.ListParts.{IsPart}
+use Rattle.sequences.specs.declared.list_part.ListPart.{ListPart}
 use Rattle.std.specs.BTreeSet.{insert_key}
 use Rattle.recipe_reader.specs.Payloads.{slug_cmp}
 use Rattle.client_steps.proofs.SlugLists.{none_changes, one_comes}

@@ -2,7 +2,7 @@
 use Rattle.std.proofs.Common.{List, ℕ, refl, subst}
 use Rattle.enrol_states.specs.Commands.{opted_in, with_row, without_text}
 use Rattle.enrol_states.specs.declared.state.Row.{Row}
-use Rattle.state_codec.specs.ListParts.{IsPart}
+use Rattle.sequences.specs.ListParts.{IsPart}
 use Rattle.client_steps.proofs.slug_lists.opted_in_lists.Goals as goal
 
 pub returns : goal.returns

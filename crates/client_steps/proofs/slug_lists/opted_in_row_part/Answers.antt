@@ -5,8 +5,8 @@ use Rattle.enrol_states.proofs.Enrolments.{with_row-at, with_row-place}
 use Rattle.enrol_states.proofs.Lookups.{slug_of}
 use Rattle.enrol_states.proofs.Ordered.{order_by, place_searched}
 use Rattle.enrol_states.specs.Commands.{opted_in, with_row}
-use Rattle.state_codec.specs.ListParts.{IsPart}
-use Rattle.state_codec.specs.declared.list_part.ListPart.{ListPart}
+use Rattle.sequences.specs.ListParts.{IsPart}
+use Rattle.sequences.specs.declared.list_part.ListPart.{ListPart}
 use Rattle.client_steps.proofs.SlugLists.{one_comes, one_differs}
 use Rattle.client_steps.proofs.slug_lists.opted_in_row_part.Goals as goal
 

@@ -4,7 +4,7 @@ use Rattle.std.specs.BTreeSet.{insert_key}
 use Rattle.recipe_reader.specs.Payloads.{slug_cmp}
 use Rattle.enrol_states.specs.Commands.{opted_out_of}
 use Rattle.enrol_states.specs.declared.state.Row.{Row}
-use Rattle.state_codec.specs.ListParts.{IsPart}
+use Rattle.sequences.specs.ListParts.{IsPart}
 use Rattle.client_steps.proofs.slug_lists.opted_out_lists.Goals as goal
 
 pub returns : goal.returns

@@ -8,8 +8,8 @@ use Rattle.enrol_states.specs.Commands.{opted_out_of, row_opted_out}
 use Rattle.enrol_states.specs.declared.state.Row.{Row}
 use Rattle.enrol_states.specs.declared.status.NotEnrolledReason.TheVariants as not_enrolled
 use Rattle.enrol_states.specs.declared.status.Status.TheVariants as statuses
-use Rattle.state_codec.specs.ListParts.{IsPart}
-use Rattle.state_codec.specs.declared.list_part.ListPart.{ListPart}
+use Rattle.sequences.specs.ListParts.{IsPart}
+use Rattle.sequences.specs.declared.list_part.ListPart.{ListPart}
 use Rattle.client_steps.proofs.SlugLists.{none_changes, one_differs}
 use Rattle.client_steps.proofs.slug_lists.opted_out_row_part.Goals as goal
 

@@ -3,8 +3,8 @@ use Rattle.std.proofs.Common.{subst, sym}
 use Rattle.enrol_states.proofs.Enrolments.{without-at, without-place}
 use Rattle.enrol_states.proofs.Ordered.{place_missed}
 use Rattle.enrol_states.specs.Commands.{without_text}
-use Rattle.state_codec.specs.ListParts.{IsPart}
-use Rattle.state_codec.specs.declared.list_part.ListPart.{ListPart}
+use Rattle.sequences.specs.ListParts.{IsPart}
+use Rattle.sequences.specs.declared.list_part.ListPart.{ListPart}
 use Rattle.client_steps.proofs.SlugLists.{none_changes, one_goes}
 use Rattle.client_steps.proofs.slug_lists.removed_slug_part.Goals as goal
 

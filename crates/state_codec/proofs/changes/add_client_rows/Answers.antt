@@ -5,7 +5,7 @@ use Rattle.enrol_states.specs.Statuses.{IsStatus}
 use Rattle.enrol_states.specs.declared.state.Row.{Row}
 use Rattle.row_batches.specs.Between.{changes_between}
 use Rattle.row_batches.specs.declared.change.RowChange.{RowChange}
-use Rattle.state_codec.specs.ListParts.{part_of_old, part_of_new}
+use Rattle.sequences.specs.ListParts.{part_of_old, part_of_new}
 use Rattle.state_codec.specs.Encoding.{status_row}
 use Rattle.state_codec.proofs.KeyOrder.{client_rows_rise}
 use Rattle.state_codec.proofs.ListParts.{part_alone, part_of_all}

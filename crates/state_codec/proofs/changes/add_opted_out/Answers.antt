@@ -3,7 +3,7 @@ use Rattle.std.proofs.Common.{List, ℕ, ◌++◌, ◌∷◌, [], ◌∙◌, ap,
 use Rattle.std.proofs.lemmas.Result.{on_ok_weaker}
 use Rattle.row_batches.specs.Between.{changes_between}
 use Rattle.row_batches.specs.declared.change.RowChange.{RowChange}
-use Rattle.state_codec.specs.ListParts.{part_of_old, part_of_new}
+use Rattle.sequences.specs.ListParts.{part_of_old, part_of_new}
 use Rattle.state_codec.specs.Encoding.{key_row}
 use Rattle.state_codec.proofs.KeyOrder.{opted_out_rise}
 use Rattle.state_codec.proofs.ListParts.{part_alone}

@@ -3,7 +3,7 @@ use Rattle.std.proofs.Common.{◌≡◌, ◌⊎◌, inl, inr, subst}
 use Rattle.std.proofs.lemmas.Result.{on_ok_weaker}
 use Rattle.enrol_states.specs.declared.state.State.{State}
 use Rattle.state_codec.specs.RecipeLists.{HasLists, HasSameBut, HasSameRecipes}
-use Rattle.state_codec.specs.declared.list_part.ListPart.{ListPart}
+use Rattle.sequences.specs.declared.list_part.ListPart.{ListPart}
 use Rattle.state_codec.specs.declared.recipe_lists.RecipeLists.{RecipeLists}
 use Rattle.state_codec.specs.declared.recipe_lists.RecipeLists.TheVariants.{AsBefore, AllBut}
 use Rattle.state_codec.proofs.Joined.{none_added, pending_added}

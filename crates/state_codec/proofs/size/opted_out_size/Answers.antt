@@ -1,6 +1,6 @@
 -- The part's old rows go, and its new ones come.
 use Rattle.std.proofs.Common.{◌∷◌, [], List, ℕ, ◌∙◌, ap}
-use Rattle.state_codec.specs.ListParts.{part_of_new, part_of_old}
+use Rattle.sequences.specs.ListParts.{part_of_new, part_of_old}
 use Rattle.state_codec.specs.Sizes.{slugs_size}
 use Rattle.state_codec.specs.Encoding.{key_row}
 use Rattle.state_codec.proofs.ListParts.{removed_short, size_after}

@@ -1,7 +1,7 @@
 -- The part's old rows go, and its new ones come.
 use Rattle.std.proofs.Common.{List, ◌∙◌, ap}
 use Rattle.enrol_states.specs.declared.state.Row.{Row}
-use Rattle.state_codec.specs.ListParts.{part_of_new, part_of_old}
+use Rattle.sequences.specs.ListParts.{part_of_new, part_of_old}
 use Rattle.state_codec.specs.Sizes.{rows_size}
 use Rattle.state_codec.specs.Encoding.{status_row}
 use Rattle.state_codec.proofs.ListParts.{removed_short, size_after}

@@ -1,6 +1,6 @@
 -- The part of a list in which it may differ from that of before.
 use Rattle.std.specs.Prelude.{◌≡◌, ◌≤◌, ◌+◌, List, length, take, drop, slice_range}
-use Rattle.state_codec.specs.declared.list_part.ListPart.{ListPart}
+use Rattle.sequences.specs.declared.list_part.ListPart.{ListPart}
 
 -- its items of the old list
 abbrev pub part_of_old : {A : Type 0} → ListPart → List A → List A

@@ -1,6 +1,6 @@
 // The part of a list in which it may differ from that of before.
 ghost use Rattle.std.specs.Prelude.{◌≡◌, ◌≤◌, ◌+◌, length};
-ghost use Rattle.state_codec.specs.ListParts.{part_of_new, part_of_old};
+ghost use Rattle.sequences.specs.ListParts.{part_of_new, part_of_old};
 
 /// The part of a list in which it may differ from that of before: what stands in front of it and behind it is as before.
 #[derive(Clone, Copy)]
