@@ -3,7 +3,8 @@ ghost use Rattle.std.specs.Prelude.{◌≡◌, ⊤, IfOk, IsErrOf, IsTrue, Match
 ghost use Rattle.plain_text.specs.Names.{is_name};
 ghost use Rattle.pref_bindings.specs.Preferences.{IsValue, holder_of};
 ghost use Rattle.client_state.specs.Changes.{IsWholeChangeOf, state_after};
-ghost use Rattle.client_words.specs.declared.answer.Answer.TheVariants.{Okay, ChangesSpent};
+ghost use Rattle.client_words.specs.declared.answer.Answer.TheVariants.{Okay};
+ghost use Rattle.client_words.specs.declared.refusal.Refusal.TheVariants.{ChangesSpent};
 ghost use Rattle.client_steps.specs.Asked.{asked_outcome, FollowsFrom};
 ghost use Rattle.client_steps.specs.Steps.{Accepted, Refused, preferring, releasing};
 
@@ -11,7 +12,7 @@ use crate::client::Client;
 use change_outbox::AppendChangesFault;
 use client_state::{StateChange, end_enrolment};
 use client_steps::Asked;
-use client_words::Answer;
+use client_words::{Answer, Refusal};
 use json_tree::Tree;
 use sequences::Text;
 use state_codec::RecipeLists;
@@ -42,7 +43,7 @@ impl Client {
                     answer: Answer::Okay,
                 })
             }
-            Err(AppendChangesFault::ChangesSpent) => Ok(Asked::Refused(Answer::ChangesSpent)),
+            Err(AppendChangesFault::ChangesSpent) => Ok(Asked::Refused(Refusal::ChangesSpent)),
             Err(AppendChangesFault::OutOfMemory) => Err(AllocError),
         }
     }

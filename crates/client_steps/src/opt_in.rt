@@ -8,7 +8,7 @@ ghost use Rattle.client_steps.specs.Steps.{opting_in, enrolling};
 use crate::asked::Asked;
 use crate::slug_lists::opted_in_lists;
 use client_state::ClientState;
-use client_words::Answer;
+use client_words::{Answer, Refusal};
 use enrol_states::{OptInFault, opt_in};
 use plain_text::Slug;
 use std::alloc::{AllocError, Global};
@@ -29,11 +29,11 @@ pub fn opting_in(
     let lists = opted_in_lists(&state.enrolment, slug);
     match opt_in(alloc, &mut state.enrolment, slug, branch) {
         Ok(next) => Ok(Asked::enrolled(next, lists, Answer::Okay)),
-        Err(OptInFault::NoSuchExperiment) => Ok(Asked::Refused(Answer::NoSuchExperiment)),
-        Err(OptInFault::NotParticipating) => Ok(Asked::Refused(Answer::NotParticipating)),
-        Err(OptInFault::NoSuchBranch) => Ok(Asked::Refused(Answer::NoSuchBranch)),
+        Err(OptInFault::NoSuchExperiment) => Ok(Asked::Refused(Refusal::NoSuchExperiment)),
+        Err(OptInFault::NotParticipating) => Ok(Asked::Refused(Refusal::NotParticipating)),
+        Err(OptInFault::NoSuchBranch) => Ok(Asked::Refused(Refusal::NoSuchBranch)),
         Err(OptInFault::FeatureTaken(holder, feature)) => {
-            Ok(Asked::Refused(Answer::FeatureTaken(holder, feature)))
+            Ok(Asked::Refused(Refusal::FeatureTaken(holder, feature)))
         }
         Err(OptInFault::OutOfMemory) => Err(AllocError),
     }

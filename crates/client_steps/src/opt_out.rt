@@ -8,7 +8,7 @@ ghost use Rattle.client_steps.specs.Steps.{opting_out, enrolling};
 use crate::asked::Asked;
 use crate::slug_lists::opted_out_lists;
 use client_state::ClientState;
-use client_words::Answer;
+use client_words::{Answer, Refusal};
 use enrol_states::{OptOutFault, opt_out};
 use plain_text::Slug;
 use std::alloc::{AllocError, Global};
@@ -24,7 +24,7 @@ pub fn opting_out(alloc: Global, state: &mut ClientState, slug: &Slug) -> Result
     let lists = opted_out_lists(&state.enrolment, slug);
     match opt_out(alloc, &mut state.enrolment, slug) {
         Ok(next) => Ok(Asked::enrolled(next, lists, Answer::Okay)),
-        Err(OptOutFault::OptedOutLimit) => Ok(Asked::Refused(Answer::OptedOutLimit)),
+        Err(OptOutFault::OptedOutLimit) => Ok(Asked::Refused(Refusal::OptedOutLimit)),
         Err(OptOutFault::OutOfMemory) => Err(AllocError),
     }
 }

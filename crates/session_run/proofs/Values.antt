@@ -10,7 +10,7 @@ use Rattle.change_outbox.specs.declared.change.Change.{Change}
 use Rattle.pref_bindings.specs.declared.preference.Preference.{Preference}
 use Rattle.client_state.specs.Sound.{IsSound}
 use Rattle.client_words.specs.declared.answer.Answer.{Answer}
-use Rattle.client_words.specs.declared.answer.Answer.TheVariants.{Okay, Fetched, Applied, Value, Shown, Manifest, Changes, Preferences}
+use Rattle.client_words.specs.declared.answer.Answer.TheVariants.{Okay, Fetched, Applied, Value, Shown, Manifest, Changes, Preferences, Refused}
 use Rattle.client_words.specs.declared.command.Command.{Command}
 use Rattle.client_steps.specs.Settings.{Setting}
 use Rattle.client_steps.specs.Steps.{step}
@@ -18,6 +18,7 @@ use Rattle.client_steps.proofs.ServedValues.{values_have_types}
 use Rattle.client_words.specs.declared.line.LineFault.{LineFault}
 use Rattle.client_words.specs.declared.line.LineFault.TheVariants.{Blank, OutOfMemory}
 use Rattle.client_words.specs.Answers.{answer_lines, change_line, changes_lines, fetched_lines, preference_line, preferences_lines, shown_lines}
+use Rattle.client_words.specs.Refusals.{refusal_lines}
 use Rattle.client_words.specs.Commands.{command_of}
 use Rattle.session_run.specs.Runs.{ServesValues}
 use Rattle.session_run.specs.Starts.{Start}
@@ -58,7 +59,7 @@ preferences_apart (preference ∷ preferences) text is = apart 112 (omega arith)
 
 -- no other answer begins with `v`
 value_in : (answer : Answer) (text : List ℕ) → answer_lines answer ≡ value_line text → IsValue answer text
-unfolding answer_lines fetched_lines shown_lines
+unfolding answer_lines fetched_lines shown_lines refusal_lines
 value_in (Value tree) text is = record { tree = tree; is_value = refl; encoded = same_text (text_of (json_of tree)) text is }
 value_in Okay text is = apart 111 (omega arith) (ap first is)
 value_in (Fetched kept skipped) text is = apart 102 (omega arith) (ap first is)
@@ -67,7 +68,7 @@ value_in (Shown id experiments rollouts pending opted_out rows) text is = apart 
 value_in (Manifest tree) text is = apart 109 (omega arith) (ap first is)
 value_in (Changes changes) text is = changes_apart changes text is
 value_in (Preferences preferences) text is = preferences_apart preferences text is
-value_in refusal text is = apart 114 (omega arith) (ap first is)
+value_in (Refused refusal) text is = apart 114 (omega arith) (ap first is)
 
 -- the line has a command that is answered a value
 record IsValueLine (at : Setting) (run : RunState) (read : Result Command LineFault) (text : List ℕ) : Type 0 where

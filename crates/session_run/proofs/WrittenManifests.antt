@@ -8,11 +8,12 @@ use Rattle.json_tree.specs.declared.tree.Tree.{Tree}
 use Rattle.change_outbox.specs.declared.change.Change.{Change}
 use Rattle.pref_bindings.specs.declared.preference.Preference.{Preference}
 use Rattle.client_words.specs.declared.answer.Answer.{Answer}
-use Rattle.client_words.specs.declared.answer.Answer.TheVariants.{Okay, Fetched, Applied, Value, Shown, Manifest, Changes, Preferences}
+use Rattle.client_words.specs.declared.answer.Answer.TheVariants.{Okay, Fetched, Applied, Value, Shown, Manifest, Changes, Preferences, Refused}
 use Rattle.client_words.specs.declared.command.Command.{Command}
 use Rattle.client_words.specs.declared.command.Command.TheVariants.{WriteManifest}
 use Rattle.client_words.specs.declared.line.LineFault.{LineFault}
 use Rattle.client_words.specs.Answers.{answer_lines, change_line, changes_lines, fetched_lines, preference_line, preferences_lines, shown_lines}
+use Rattle.client_words.specs.Refusals.{refusal_lines}
 use Rattle.client_words.specs.Commands.{command_of}
 use Rattle.client_steps.specs.Settings.{Setting}
 use Rattle.client_steps.specs.Soundness.{IsLawful}
@@ -60,7 +61,7 @@ preferences_apart (preference ∷ preferences) text is = higher 112 (omega arith
 
 -- no other answer begins with `m`
 manifest_in : (answer : Answer) (text : List ℕ) → answer_lines answer ≡ manifest_line text → IsManifest answer text
-unfolding answer_lines fetched_lines shown_lines
+unfolding answer_lines fetched_lines shown_lines refusal_lines
 manifest_in (Manifest tree) text is = record { tree = tree; is_manifest = refl; encoded = same_text (text_of (json_of tree)) text is }
 manifest_in Okay text is = higher 111 (omega arith) (ap first is)
 manifest_in (Fetched kept skipped) text is = lower 102 (omega arith) (ap first is)
@@ -69,7 +70,7 @@ manifest_in (Shown id experiments rollouts pending opted_out rows) text is = low
 manifest_in (Value tree) text is = higher 118 (omega arith) (ap first is)
 manifest_in (Changes changes) text is = changes_apart changes text is
 manifest_in (Preferences preferences) text is = preferences_apart preferences text is
-manifest_in refusal text is = higher 114 (omega arith) (ap first is)
+manifest_in (Refused refusal) text is = higher 114 (omega arith) (ap first is)
 
 -- ---- the session of a run
 
