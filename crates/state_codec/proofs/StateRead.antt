@@ -156,4 +156,4 @@ last_read byte s is = rw (installed_read byte s is, updated_read byte s is, vers
 -- the rows of a state are read as the state, where the byte of participation says what its flags are
 pub state_read : (byte : ℕ) (s : State) → participation_in (byte ∷ []) ≡ Some (flags s.experiments s.rollouts) → IsConsistent s → HaveRecords s → state_in (first_rows s) (later_rows byte s) ≡ Some s
 unfolding state_in
-state_read byte s says is records = rw (id_read_again byte s is, participation_read byte s says, lists_read byte s is, recipes_read byte s is records, last_read byte s is) refl
+state_read byte s says is records = rw (id_read_again byte s is, participation_read byte s says, last_read byte s is, lists_read byte s is, recipes_read byte s is records) refl

@@ -136,9 +136,9 @@ unfoldable pub state_in : List StoreRow → List StoreRow → Option State
 state_in first later = do
   id ← id_under later
   participation ← participation_under later
+  last ← last_in later
   lists ← lists_in first later
   recipes ← recipes_in later
-  last ← last_in later
   Some (record { id = id; installed = last.installed; updated = last.updated; version = last.version; experiments = participation.experiments; rollouts = participation.rollouts; opted_out = lists.opted_out; coenrolling = lists.coenrolling; live = recipes.live; pending = recipes.pending; rows = lists.rows })
 
 -- ---- what readers keep

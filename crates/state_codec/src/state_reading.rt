@@ -54,9 +54,9 @@ pub(crate) fn state_in(
 {
     let id = id_under(later)?;
     let participation = participation_under(later)?;
+    let last = last_in(alloc, later)?;
     let lists = lists_in(alloc, first, later)?;
     let recipes = recipes_in(alloc, later)?;
-    let last = last_in(alloc, later)?;
     Ok(State {
         id,
         installed: last.installed,
