@@ -1,4 +1,3 @@
 pub mod Preferring
 pub mod Asking
 pub mod Holding
-mod Judging

@@ -4,7 +4,6 @@
 
 mod choosing;
 mod client;
-mod making;
 mod opening;
 mod prepared;
 mod preparing;
@@ -15,5 +14,5 @@ pub use client_steps::{
     Session, StepFault, events_follow, opt_outs_hold, outbox_follows, preferences_follow,
     steps_stay_sound, values_are_served, values_have_types,
 };
-pub use client_store::{ClientFault, MakeFault, one_state, whole_states_stand};
+pub use client_store::{PairFault, one_state, whole_states_stand};
 pub use prepared::Prepared;

@@ -13,7 +13,7 @@ ghost use Rattle.client_steps.specs.Sessions.{no_session};
 
 use crate::client::Client;
 use client_steps::Session;
-use client_store::{ClientFault, StateStore};
+use client_store::{PairFault, StateStore};
 use host_model::Host;
 use std::alloc::Global;
 
@@ -26,7 +26,7 @@ impl Client {
     ///
     /// Where a checkpoint was cut short, one byte is written then. Where the rows are the old form of a state, the row of
     /// participation is written anew, last, as by a commit. So the store is in one form from then on.
-    pub fn open<H: Host>(alloc: Global, host: &mut H) -> Result<Client, ClientFault>
+    pub fn open<H: Host>(alloc: Global, host: &mut H) -> Result<Client, PairFault>
         // What stands at the end, by the answer, and which answer each pair has.
         ensures ends { H.tells → OpenEnds H.Host host.old host.new result }
         ensures judges { H.tells → OpenJudges (H.reads host.old Left) (H.reads host.old Right) result }
@@ -44,8 +44,8 @@ impl Client {
         // Where the pair that was read has no list of payloads, nothing is written, whatever the answer.
         ensures only_read { H.tells → HasNoList (H.reads host.old Left) (H.reads host.old Right) → IsOnlyRead H.Host host.old host.new }
 
-        ensures cause { IsErrOf result ClientFault.DiskFault → Rose (H.disk_faults host.old) (H.disk_faults host.new) }
-        ensures disk_quiet { ¬ IsErrOf result ClientFault.DiskFault → H.disk_faults host.new ≡ H.disk_faults host.old }
+        ensures cause { IsErrOf result PairFault.DiskFault → Rose (H.disk_faults host.old) (H.disk_faults host.new) }
+        ensures disk_quiet { ¬ IsErrOf result PairFault.DiskFault → H.disk_faults host.new ≡ H.disk_faults host.old }
         ensures disk_faults { H.disk_faults host.old ≤ H.disk_faults host.new }
         ensures say_faults { H.say_faults host.new ≡ H.say_faults host.old }
     {

@@ -1,9 +1,10 @@
 pub mod Holding
-mod Judging
+pub mod Judging
 pub mod Placing
 pub mod Refusing
 pub mod Uniqueness
 mod Repairing
+pub mod Moments
 mod WholeStates
 mod Storing
 mod Migrating

@@ -1,7 +1,8 @@
 -- A store is opened: the pair is read, and its rows are migrated where that is needed.
 use Rattle.std.proofs.Common.{◌≡◌, ◌⊎◌, inl, inr, ℕ, ◌+◌, ◌≤◌, Bool, true, false, List, [], ◌∷◌, length, refl, sym, ap, ◌∙◌, subst, arith, Result, Ok, Err}
-use Rattle.std.specs.Prelude.{IsTrue, IsErrOf}
+use Rattle.std.specs.Prelude.{IfOk, IsTrue, IsErrOf}
 use Rattle.std.proofs.lemmas.Bool.{cases_lt}
+use Rattle.gate_journal.specs.Costs.{HasCost}
 use Rattle.host_model.specs.declared.host.Host.{Ghosts}
 use Rattle.host_model.specs.declared.side.Side.{Side}
 use Rattle.host_model.specs.declared.side.Side.TheVariants.{Left, Right}
@@ -15,23 +16,24 @@ use Rattle.pair_store.proofs.Beside.{both_sides}
 use Rattle.row_batches.specs.declared.store_row.StoreRow.{StoreRow}
 use Rattle.row_store.specs.Rows.{HasRows, HasPlace}
 use Rattle.row_store.specs.Store.{StoredRows, RowsStand, RowsStandWithGate, place}
-use Rattle.row_store.proofs.Folds.{one_map}
+use Rattle.row_store.proofs.Folds.{fault_is, one_map}
 use Rattle.client_state.specs.declared.client_state.ClientState.{ClientState}
 use Rattle.client_state.specs.Forms.{needs_migration}
-use Rattle.client_store.specs.declared.faults.ClientFault.{ClientFault}
-use Rattle.client_store.specs.declared.faults.ClientFault.TheVariants.{NoStore, BadStore, DiskFault, OutOfMemory}
+use Rattle.pair_store.specs.declared.faults.PairFault.{PairFault}
+use Rattle.pair_store.specs.declared.faults.PairFault.TheVariants.{NoStore, BadStore, DiskFault, OutOfMemory}
+use Rattle.client_store.specs.declared.found_store.FoundStore.{FoundStore}
 use Rattle.client_store.specs.Finds.{OpenFinds}
 use Rattle.client_store.specs.Migrations.{opening_bytes, place_opened, OpensWith}
 use Rattle.client_store.specs.Moments.{IsLeftAs, IsLeftAmong}
 use Rattle.client_store.specs.OpenStore.{AllKeptAmong}
-use Rattle.client_store.specs.Openings.{IsMigrating, IsReadOrMigrating, IsLeftOrMigrating, OpensInPhases, OpensInThreePhases, OpensInTwoPhases, ReadsInPhases, IsOpened, IsOnlyRepaired, OpenLeaves, IsUnopened}
+use Rattle.client_store.specs.Openings.{IsMigrating, IsReadOrMigrating, IsLeftOrMigrating, OpensInPhases, OpensInThreePhases, OpensInTwoPhases, IsOpened, IsOnlyRepaired, OpenLeaves, IsUnopened, OpenEnds}
 use Rattle.client_store.specs.Store.{StandsFor, KeptFor, KeptAmong}
 use Rattle.client_store.specs.Stored.{StoredState, IsStored, IsFound}
 use Rattle.client_store.proofs.Holding.{stands_of_kept, rows_settled}
 use Rattle.client_store.proofs.Repairing.{repaired_kept}
 use Rattle.client_store.proofs.Uniqueness.{stands_once, one_place}
 
-not_failed : {T : Type 0} (found : T) → IsErrOf {T = T} {E = ClientFault} (Ok found) DiskFault → ⊥
+not_failed : {T : Type 0} (found : T) → IsErrOf {T = T} {E = PairFault} (Ok found) DiskFault → ⊥
 not_failed found is = absurd cc
 
 -- there is a gate, or there is none
@@ -101,7 +103,7 @@ module _ {H : Type 0} (h : Ghosts H) (start : H) where
   }
 
   -- the disk has failed in the first phase, or there are two
-  pub in_two_phases : {T : Type 0} (new : H) (result : Result T ClientFault) → OpensInPhases h start new result → (IsErrOf result DiskFault × EndsUnsynced h start new) ⊎ OpensInTwoPhases h start new
+  pub in_two_phases : {T : Type 0} (new : H) (result : Result T PairFault) → OpensInPhases h start new result → (IsErrOf result DiskFault × EndsUnsynced h start new) ⊎ OpensInTwoPhases h start new
   in_two_phases new result (inl (failed, inl unsynced)) = inl (failed, unsynced)
   in_two_phases new result (inl (failed, inr both)) = inr (two_of_sides new both)
   in_two_phases new result (inr three) = inr (two_of_three new three)
@@ -118,7 +120,7 @@ module _ {H : Type 0} (h : Ghosts H) (start : H) where
         then_met h.moment h.might start both.synced new (NowOf h start) (IsReadOrMigrating h start) (IsLeftAmong (h.said start) states) both.first both.second now_among phase_among
 
     -- each is kept for one of the states for which each was kept
-    pub phases_left : {T : Type 0} (result : Result T ClientFault) → OpensInPhases h start new result → MeetsAll h start new (IsLeftAmong (h.said start) states)
+    pub phases_left : {T : Type 0} (result : Result T PairFault) → OpensInPhases h start new result → MeetsAll h start new (IsLeftAmong (h.said start) states)
     phases_left result moments = elim (in_two_phases new result moments) [
       | inl failed ↦ met_weaker h.moment h.might start new (NowOf h start) (IsLeftAmong (h.said start) states) failed.1.moments now_among
       | inr both ↦ two_left both
@@ -126,7 +128,7 @@ module _ {H : Type 0} (h : Ghosts H) (start : H) where
 
   -- ---- nothing was opened
 
-  pub unopened : (new : H) (fault : ClientFault) → OpenFinds (h.reads start Left) (h.reads start Right) fault → (fault ≡ NoStore → IsUnwritten h start new) → ((fault ≡ DiskFault → ⊥) → IsLeftByOpening h start new)
+  pub unopened : (new : H) (fault : PairFault) → OpenFinds (h.reads start Left) (h.reads start Right) fault → (fault ≡ NoStore → IsUnwritten h start new) → ((fault ≡ DiskFault → ⊥) → IsLeftByOpening h start new)
       → MeetsAll h start new (IsOpening h start) → h.written new ≤ h.written start + repair_cost (h.reads start Left) (h.reads start Right) → IsUnopened h fault start new
   unopened new fault finds unwritten left moments most = record {
     finds = finds;
@@ -138,17 +140,14 @@ module _ {H : Type 0} (h : Ghosts H) (start : H) where
       only : IsOnlyRepaired h start new
       only = record { moments = moments; most = most }
 
-      leaves : (given : ClientFault) → (given ≡ NoStore → IsUnwritten h start new) → ((given ≡ DiskFault → ⊥) → IsLeftByOpening h start new) → OpenLeaves h start new given
+      leaves : (given : PairFault) → (given ≡ NoStore → IsUnwritten h start new) → ((given ≡ DiskFault → ⊥) → IsLeftByOpening h start new) → OpenLeaves h start new given
       leaves NoStore none rest = none refl
       leaves BadStore none rest = (rest (λ is. absurd cc), only)
       leaves DiskFault none rest = tt
       leaves OutOfMemory none rest = (rest (λ is. absurd cc), only)
 
-  error_is : {T : Type 0} (fault other : ClientFault) → IsErrOf {T = T} (Err fault) other → fault ≡ other
-  error_is fault other is = cc
-
   -- the three phases, behind a reading that didn't fail
-  pub three : (mid new : H) → sides.OpensInTwoPhases h start mid → IsLeftByOpening h start mid → MeetsAll h mid new (IsLeftOrMigrating h start mid) → OpensInThreePhases h start new
+  three : (mid new : H) → sides.OpensInTwoPhases h start mid → IsLeftByOpening h start mid → MeetsAll h mid new (IsLeftOrMigrating h start mid) → OpensInThreePhases h start new
   three mid new both left third = record { synced = both.synced; first = both.first; unwritten = both.unwritten; repaired = mid; second = both.second; left = left; third = third }
 
   -- each image is what reads give, and stays so
@@ -158,9 +157,9 @@ module _ {H : Type 0} (h : Ghosts H) (start : H) where
       (λ l r u now. inl (both_sides (λ (side : Side). on side l r ≡ h.reads mid side) Left (left.durable Left l now.0) (left.durable Right r now.1), now.2 ∙ text))
 
   -- nothing was migrated
-  pub reading_phases : {T U : Type 0} (new : H) (fault : ClientFault) → ReadsInPhases {T = T} h start new (Err fault) → ((fault ≡ DiskFault → ⊥) → IsLeftByOpening h start new) → (IsLeftByOpening h start new → MeetsAll h new new (IsLeftOrMigrating h start new))
+  pub reading_phases : {T U : Type 0} (new : H) (fault : PairFault) → sides.OpensInPhases {T = T} h start new (Err fault) → ((fault ≡ DiskFault → ⊥) → IsLeftByOpening h start new) → (IsLeftByOpening h start new → MeetsAll h new new (IsLeftOrMigrating h start new))
       → OpensInPhases {T = U} h start new (Err fault)
-  reading_phases {T} new fault (inl failed) left still = inl (ap Err (error_is {T = T} fault DiskFault failed.0), inl failed.1)
+  reading_phases {T} new fault (inl failed) left still = inl (ap Err (fault_is {T = T} fault DiskFault failed.0), inl failed.1)
   reading_phases new NoStore (inr both) left still = let is = left (λ is. absurd cc) in inr (three new new both is (still is))
   reading_phases new BadStore (inr both) left still = let is = left (λ is. absurd cc) in inr (three new new both is (still is))
   reading_phases new DiskFault (inr both) left still = inl (refl, inr both)
@@ -168,7 +167,7 @@ module _ {H : Type 0} (h : Ghosts H) (start : H) where
 
   -- ---- what was found
 
-  module _ (found : StoredState) (is : IsFound found) (rows : HasRows (h.reads start Left) (h.reads start Right) found.rows.rows) where
+  module _ (found : FoundStore) (is : IsFound found) (rows : HasRows (h.reads start Left) (h.reads start Right) found.rows.rows) where
     abbrev migrates : Bool
     migrates = needs_migration found.rows.rows
 
@@ -204,7 +203,7 @@ module _ {H : Type 0} (h : Ghosts H) (start : H) where
 
       -- ---- and migrated
 
-      module _ (mid new : H) (text : h.said mid ≡ h.said start) (reading : ReadsInPhases {T = StoredState} h start mid (Ok found)) (stands : RowsStand h found.rows mid) (gate : (s : ClientState) → Kept s → RowsStandWithGate h found.rows mid) (unneeded : (IsTrue migrates → ⊥) → new ≡ mid)
+      module _ (mid new : H) (text : h.said mid ≡ h.said start) (reading : sides.OpensInPhases {T = FoundStore} h start mid (Ok found)) (stands : RowsStand h found.rows mid) (gate : (s : ClientState) → Kept s → RowsStandWithGate h found.rows mid) (unneeded : (IsTrue migrates → ⊥) → new ≡ mid)
           (moments : RowsStandWithGate h found.rows mid → MeetsAll h mid new (IsLeftAs (h.said mid) found.state)) (below : MeetsAll h mid new (StaysBelow h mid)) (left : IsLeftByOpening h start mid) (still : MeetsAll h mid mid (NowOf h mid)) where
         migrating : IsTrue migrates → MeetsAll h mid new (IsMigrating h start)
         unfolding found_stands
@@ -223,7 +222,7 @@ module _ {H : Type 0} (h : Ghosts H) (start : H) where
         third false needed = subst (λ (host : H). MeetsAll h mid host (IsLeftOrMigrating h start mid)) (sym (unneeded (λ is_needed. absurd cc))) (left_still mid text left still)
 
         -- all phases were gone through
-        pub phases : {T : Type 0} (result : Result T ClientFault) → OpensInPhases h start new result
+        pub phases : {T : Type 0} (result : Result T PairFault) → OpensInPhases h start new result
         phases result =
             elim reading [
               | inl failed ↦ absurd (not_failed found failed.0)
@@ -232,7 +231,7 @@ module _ {H : Type 0} (h : Ghosts H) (start : H) where
 
       module _ (mid new : H) (read : h.written mid ≡ h.written start + repair) where
         -- the store is open
-        pub opened : (store : StoredState) → IsStored store → store.state ≡ found.state → RowsStand h store.rows new → ((s : ClientState) → Kept s → RowsStandWithGate h store.rows new)
+        opened : (store : StoredState) → IsStored store → store.state ≡ found.state → RowsStand h store.rows new → ((s : ClientState) → Kept s → RowsStandWithGate h store.rows new)
             → (IsTrue migrates → RowsStandWithGate h store.rows new) → place store.rows ≡ place_opened migrates (place found.rows) found.state → h.written new ≡ h.written mid + cost → IsOpened h store start new
         opened store stored same stands gate gate_made placed wrote = record {
           stands = subst Stands (sym same) found_stands;
@@ -247,7 +246,7 @@ module _ {H : Type 0} (h : Ghosts H) (start : H) where
         }
 
         -- it is not migrated
-        pub unmigrated : (fault : ClientFault) → (fault ≡ NoStore → ⊥) → (fault ≡ BadStore → ⊥) → (fault ≡ OutOfMemory → new ≡ mid) → IsLeftByOpening h start mid → MeetsAll h start mid (IsOpening h start)
+        unmigrated : (fault : PairFault) → (fault ≡ NoStore → ⊥) → (fault ≡ BadStore → ⊥) → (fault ≡ OutOfMemory → new ≡ mid) → IsLeftByOpening h start mid → MeetsAll h start mid (IsOpening h start)
             → h.written new ≤ h.written mid + cost → IsUnopened h fault start new
         unmigrated fault no_store bad_store memory left moments wrote = record {
           finds = finds fault no_store bad_store;
@@ -256,15 +255,25 @@ module _ {H : Type 0} (h : Ghosts H) (start : H) where
           none = λ never. absurd (never found.state found_stands);
         }
           where
-            finds : (given : ClientFault) → (given ≡ NoStore → ⊥) → (given ≡ BadStore → ⊥) → OpenFinds (h.reads start Left) (h.reads start Right) given
+            finds : (given : PairFault) → (given ≡ NoStore → ⊥) → (given ≡ BadStore → ⊥) → OpenFinds (h.reads start Left) (h.reads start Right) given
             finds NoStore absent bad = absurd (absent refl)
             finds BadStore absent bad = absurd (bad refl)
             finds DiskFault absent bad = tt
             finds OutOfMemory absent bad = tt
 
-            leaves : (given : ClientFault) → (given ≡ NoStore → ⊥) → (given ≡ BadStore → ⊥) → (given ≡ OutOfMemory → new ≡ mid) → OpenLeaves h start new given
+            leaves : (given : PairFault) → (given ≡ NoStore → ⊥) → (given ≡ BadStore → ⊥) → (given ≡ OutOfMemory → new ≡ mid) → OpenLeaves h start new given
             leaves NoStore absent bad same = absurd (absent refl)
             leaves BadStore absent bad same = absurd (bad refl)
             leaves DiskFault absent bad same = tt
             leaves OutOfMemory absent bad same =
                 subst (λ (host : H). IsLeftByOpening h start host × IsOnlyRepaired h start host) (sym (same refl)) (left, record { moments = moments; most = omega (arith, read) })
+
+        -- what stands at the end, by the answer
+        pub migrated_ends : (result : Result StoredState PairFault) → IfOk result IsStored → IfOk result (λ store. store.state ≡ found.state) → IfOk result (λ store. RowsStand h store.rows new)
+            → IfOk result (λ store. RowsStandWithGate h found.rows mid → RowsStandWithGate h store.rows new) → IfOk result (λ store. IsTrue migrates → RowsStandWithGate h store.rows new)
+            → IfOk result (λ store. place store.rows ≡ place_opened migrates (place found.rows) found.state) → HasCost cost (h.written mid) (h.written new) result
+            → (IsErrOf result NoStore → ⊥) × (IsErrOf result BadStore → ⊥) → (IsErrOf result OutOfMemory → new ≡ mid)
+            → ((s : ClientState) → Kept s → RowsStandWithGate h found.rows mid) → IsLeftByOpening h start mid → MeetsAll h start mid (IsOpening h start) → OpenEnds h start new result
+        migrated_ends (Ok store) stored same stands gate gate_made placed wrote no_other memory gated left moments = opened store stored same stands (λ s kept. gate (gated s kept)) gate_made placed wrote.exact
+        migrated_ends (Err fault) stored same stands gate gate_made placed wrote no_other memory gated left moments =
+            unmigrated fault (λ is. no_other.0 (ap Err is)) (λ is. no_other.1 (ap Err is)) (λ is. memory (ap Err is)) left moments wrote.most

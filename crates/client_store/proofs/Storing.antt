@@ -1,82 +1,33 @@
 -- The rows of a state are those of its store, before and after a change.
-use Rattle.std.proofs.Common.{◌≡◌, inl, inr, ℕ, Bool, true, false, List, [], ◌∷◌, length, arith, refl, sym, ap, ◌∙◌, subst, Result, Ok, Err, IfOk}
-use Rattle.std.specs.Prelude.{◌==◌, IsErrOf, if◌then◌else◌}
+use Rattle.std.proofs.Common.{◌≡◌, Bool, true, false, List, [], ◌∷◌, length, arith, refl, sym, ap, ◌∙◌, subst, Result, Ok, Err, IfOk}
+use Rattle.std.specs.Prelude.{◌==◌, if◌then◌else◌}
 use Rattle.std.specs.Cmp.{unsigned_Decides}
 use Rattle.host_model.specs.declared.host.Host.{Ghosts}
 use Rattle.host_model.specs.Hosts.{MeetsAll}
-use Rattle.pair_store.specs.Moments.{OpensInPhases}
 use Rattle.pair_store.specs.declared.faults.PairFault.{PairFault}
-use Rattle.pair_store.specs.declared.faults.PairFault.TheVariants as rows_opening
 use Rattle.row_batches.specs.Batch.{ChangeList, applied}
 use Rattle.row_batches.specs.Rows.{after_changes}
 use Rattle.row_batches.specs.declared.change.RowChange.{RowChange}
 use Rattle.row_batches.specs.declared.store_row.StoreRow.{StoreRow}
 use Rattle.row_batches.proofs.Walks.{empty_between}
 use Rattle.row_store.specs.Moments.{KeepsEitherRows}
-use Rattle.row_store.specs.Rows.{HasRows, HasKeptRows, HasPlace}
-use Rattle.row_store.specs.Store.{StoredRows, RowsStandWithGate, place}
+use Rattle.row_store.specs.Store.{StoredRows, RowsStandWithGate}
 use Rattle.client_state.specs.declared.client_state.ClientState.{ClientState}
 use Rattle.client_state.specs.Sound.{IsSound}
 use Rattle.client_state.specs.Encoding.{rows_of}
 use Rattle.client_state.proofs.KeyOrder.{rows_rise}
-use Rattle.client_store.specs.declared.faults.ClientFault.{ClientFault}
-use Rattle.client_store.specs.declared.faults.ClientFault.TheVariants as opening
 use Rattle.client_store.specs.declared.change.Change.{Change}
-use Rattle.client_store.specs.Faults.{opening_fault}
-use Rattle.client_store.specs.Openings.{ReadsInPhases}
+use Rattle.client_store.specs.declared.found_store.FoundStore.{FoundStore}
 use Rattle.client_store.specs.Places.{row_changes}
 use Rattle.client_store.specs.Changes.{IsChangeOf}
-use Rattle.client_store.specs.Store.{KeptFor}
 use Rattle.client_store.specs.Stored.{StoredState, IsStored}
 use Rattle.client_store.proofs.Placing.{change_gives}
 use Rattle.client_store.proofs.Uniqueness.{one_of_rows}
 
--- what was kept still has its gate
-pub gate_in : {H : Type 0} (h : Ghosts H) (l r : List ℕ) (host : H) (rows : StoredRows) (result : Result StoredState ClientFault) → IfOk result (λ found. found.rows ≡ rows)
-    → ((others : List StoreRow) → HasKeptRows l r others → RowsStandWithGate h rows host) → IfOk result (λ found. (s : ClientState) → KeptFor l r s → RowsStandWithGate h found.rows host)
-gate_in h l r host rows (Ok found) is gate = λ s kept. subst (λ (x : StoredRows). RowsStandWithGate h x host) (sym is) (gate kept.stored kept.rows)
-gate_in h l r host rows (Err fault) is gate = tt
-
-pub place_in : (l r : List ℕ) (rows : StoredRows) (result : Result StoredState ClientFault) → IfOk result (λ found. found.rows ≡ rows) → HasPlace l r (place rows) → IfOk result (λ found. HasPlace l r (place found.rows))
-place_in l r rows (Ok found) is has = subst (λ (x : StoredRows). HasPlace l r (place x)) (sym is) has
-place_in l r rows (Err fault) is has = tt
-
-pub rows_in : (l r : List ℕ) (rows : StoredRows) (result : Result StoredState ClientFault) → IfOk result (λ found. found.rows ≡ rows) → HasRows l r rows.rows → IfOk result (λ found. HasRows l r found.rows.rows)
-rows_in l r rows (Ok found) is has = subst (λ (x : StoredRows). HasRows l r x.rows) (sym is) has
-rows_in l r rows (Err fault) is has = tt
-
--- which fault of the rows a damaged store is
-pub bad_fault : {T : Type 0} (fault : PairFault) (given : ClientFault) → given ≡ opening_fault fault → IsErrOf {T = T} (Err given) opening.BadStore → fault ≡ rows_opening.BadStore
-bad_fault rows_opening.NoStore given is bad = absurd cc
-bad_fault rows_opening.BadStore given is bad = refl
-bad_fault rows_opening.DiskFault given is bad = absurd cc
-bad_fault rows_opening.OutOfMemory given is bad = absurd cc
-
-pub none_fault : {T : Type 0} (fault : PairFault) (given : ClientFault) → given ≡ opening_fault fault → IsErrOf {T = T} (Err given) opening.NoStore → fault ≡ rows_opening.NoStore
-none_fault rows_opening.NoStore given is none = refl
-none_fault rows_opening.BadStore given is none = absurd cc
-none_fault rows_opening.DiskFault given is none = absurd cc
-none_fault rows_opening.OutOfMemory given is none = absurd cc
-
--- the disk has failed for the one where it has for the other
-pub left_out : {T U : Type 0} (fault : PairFault) (given : ClientFault) → given ≡ opening_fault fault → IsErrOf {T = T} (Err fault) rows_opening.DiskFault → IsErrOf {T = U} (Err given) opening.DiskFault
-left_out rows_opening.NoStore given is failed = absurd cc
-left_out rows_opening.BadStore given is failed = absurd cc
-left_out rows_opening.DiskFault given is failed = ap Err is
-left_out rows_opening.OutOfMemory given is failed = absurd cc
-
-not_failed : {T : Type 0} (rows : T) → IsErrOf {T = T} {E = PairFault} (Ok rows) rows_opening.DiskFault → ⊥
-not_failed rows is = absurd cc
-
--- the phases of a reading
-module _ {H : Type 0} (h : Ghosts H) (start new : H) where
-  pub phases_in : {T U : Type 0} (rows : T) (result : Result U ClientFault) → OpensInPhases {T = T} h start new (Ok rows) → ReadsInPhases {T = U} h start new result
-  phases_in rows result (inl failed) = absurd (not_failed rows failed.0)
-  phases_in rows result (inr both) = inr both
-
-  pub phases_out : {T U : Type 0} (fault : PairFault) (given : ClientFault) → given ≡ opening_fault fault → OpensInPhases {T = T} h start new (Err fault) → ReadsInPhases {T = U} h start new (Err given)
-  phases_out {T} {U} fault given is (inl failed) = inl (left_out {T = T} {U = U} fault given is failed.0, failed.1)
-  phases_out fault given is (inr both) = inr both
+-- what is so of the rows is so of what is found in them
+pub found_in : (P : StoredRows → Type 0) (rows : StoredRows) (result : Result FoundStore PairFault) → IfOk result (λ found. found.rows ≡ rows) → P rows → IfOk result (λ found. P found.rows)
+found_in P rows (Ok found) same has = subst P (sym same) has
+found_in P rows (Err fault) same has = tt
 
 no_items : (changes : List RowChange) → length changes ≡ 0 → changes ≡ []
 no_items [] is = refl

@@ -8,11 +8,12 @@ use Rattle.host_model.specs.declared.side.Side.{Side}
 use Rattle.pair_store.specs.Moments.{IsOpening, IsReadOrRepaired, EndsUnsynced}
 use Rattle.pair_store.specs.Moments as sides
 use Rattle.pair_store.specs.Repair.{repair_cost, IsUnwritten, IsLeftByOpening}
+use Rattle.pair_store.specs.Store.{HasFailed}
 use Rattle.client_state.specs.declared.client_state.ClientState.{ClientState}
 use Rattle.client_state.specs.Forms.{needs_migration}
-use Rattle.client_store.specs.declared.faults.ClientFault.{ClientFault}
-use Rattle.client_store.specs.declared.faults.ClientFault.TheVariants.{NoStore, BadStore, DiskFault, OutOfMemory}
-use Rattle.client_store.specs.Finds.{OpenFinds, OpenFailed}
+use Rattle.pair_store.specs.declared.faults.PairFault.{PairFault}
+use Rattle.pair_store.specs.declared.faults.PairFault.TheVariants.{NoStore, BadStore, DiskFault, OutOfMemory}
+use Rattle.client_store.specs.Finds.{OpenFinds}
 use Rattle.client_store.specs.Migrations.{OpensWith}
 use Rattle.client_store.specs.OpenStore.{end_of, IsOpenOn, HasGateOn, AreDurable}
 use Rattle.client_store.specs.Store.{StandsFor, KeptFor, IsAbsent, IsBad}
@@ -47,12 +48,8 @@ pub record OpensInThreePhases {H : Type 0} (h : Ghosts H) (start new : H) : Type
   pub third : MeetsAll h repaired new (IsLeftOrMigrating h start repaired)
 
 -- all three; or the first one alone, or the first two, where the disk has failed in the last of them
-abbrev pub OpensInPhases : {H T : Type 0} → Ghosts H → H → H → Result T ClientFault → Type 0
+abbrev pub OpensInPhases : {H T : Type 0} → Ghosts H → H → H → Result T PairFault → Type 0
 OpensInPhases h start new result = (IsErrOf result DiskFault × (EndsUnsynced h start new ⊎ sides.OpensInTwoPhases h start new)) ⊎ OpensInThreePhases h start new
-
--- the same of its reading, where nothing is migrated yet
-abbrev pub ReadsInPhases : {H T : Type 0} → Ghosts H → H → H → Result T ClientFault → Type 0
-ReadsInPhases h start new result = (IsErrOf result DiskFault × EndsUnsynced h start new) ⊎ sides.OpensInTwoPhases h start new
 
 -- the last two phases seen as one: from the syncs on each image is what reads gave, repaired and migrated
 pub record OpensInTwoPhases {H : Type 0} (h : Ghosts H) (start new : H) : Type 0 where
@@ -84,26 +81,26 @@ pub record IsOnlyRepaired {H : Type 0} (h : Ghosts H) (start new : H) : Type 0 w
   pub most : h.written new ≤ h.written start + repair_cost (h.reads start Left) (h.reads start Right)
 
 -- what stands of a pair that wasn't opened, by the fault
-abbrev pub OpenLeaves : {H : Type 0} → Ghosts H → H → H → ClientFault → Type 0
+abbrev pub OpenLeaves : {H : Type 0} → Ghosts H → H → H → PairFault → Type 0
 OpenLeaves h start new NoStore = IsUnwritten h start new
 OpenLeaves h start new BadStore = IsLeftByOpening h start new × IsOnlyRepaired h start new
 OpenLeaves h start new OutOfMemory = IsLeftByOpening h start new × IsOnlyRepaired h start new
 OpenLeaves h start new DiskFault = Unit {0}
 
 -- the store is not open
-pub record IsUnopened {H : Type 0} (h : Ghosts H) (fault : ClientFault) (start new : H) : Type 0 where
+pub record IsUnopened {H : Type 0} (h : Ghosts H) (fault : PairFault) (start new : H) : Type 0 where
   pub finds : OpenFinds (h.reads start Left) (h.reads start Right) fault
   pub leaves : OpenLeaves h start new fault
   -- what the opening would write, at most; and only a repair where no state stands
   pub most : (s : ClientState) (place bytes : ℕ) → OpensWith (h.reads start Left) (h.reads start Right) s place bytes → h.written new ≤ h.written start + bytes
   pub none : ((s : ClientState) → StandsFor (h.reads start Left) (h.reads start Right) s → ⊥) → IsOnlyRepaired h start new
 
-abbrev pub OpenEnds : {H : Type 0} → Ghosts H → H → H → Result StoredState ClientFault → Type 0
+abbrev pub OpenEnds : {H : Type 0} → Ghosts H → H → H → Result StoredState PairFault → Type 0
 OpenEnds h start new (Ok store) = IsOpened h store start new
 OpenEnds h start new (Err fault) = IsUnopened h fault start new
 
 -- which answer each pair has, unless the disk failed or memory was wanting
-pub record OpenJudges {T : Type 0} (l r : List ℕ) (result : Result T ClientFault) : Type 0 where
-  pub opened : (s : ClientState) → StandsFor l r s → IsOk result ⊎ OpenFailed result
-  pub no_store : IsAbsent l r → IsErrOf result NoStore ⊎ OpenFailed result
-  pub bad_store : IsBad l r → IsErrOf result BadStore ⊎ OpenFailed result
+pub record OpenJudges {T : Type 0} (l r : List ℕ) (result : Result T PairFault) : Type 0 where
+  pub opened : (s : ClientState) → StandsFor l r s → IsOk result ⊎ HasFailed result
+  pub no_store : IsAbsent l r → IsErrOf result NoStore ⊎ HasFailed result
+  pub bad_store : IsBad l r → IsErrOf result BadStore ⊎ HasFailed result

@@ -12,7 +12,8 @@ mod sized_state;
 mod state_store;
 
 pub use change::Change;
-pub use faults::{ClientFault, MakeFault};
+pub use faults::MakeFault;
 pub use laws::{one_state, whole_states_stand};
+pub use row_store::PairFault;
 pub use sized_state::SizedState;
 pub use state_store::StateStore;

@@ -14,6 +14,7 @@ ghost use Rattle.row_store.specs.Rows.{HasRows, HasPlace};
 ghost use Rattle.row_batches.specs.Batch.{whole_of, applied, batch_text};
 ghost use Rattle.client_state.specs.Sound.{IsSound};
 ghost use Rattle.client_state.specs.Encoding.{rows_of, encoding};
+ghost use Rattle.client_store.specs.Faults.{refusal};
 ghost use Rattle.client_store.specs.Finds.{MakeFinds, MakeFailed};
 ghost use Rattle.client_store.specs.Makings.{MakePhases};
 ghost use Rattle.client_store.specs.Moments.{IsQuiet, IsLeftAmong};
@@ -22,14 +23,14 @@ ghost use Rattle.client_store.specs.OpenStore.{AllKept, AllKeptAmong, AreDurable
 ghost use Rattle.client_store.specs.Places.{making_bytes, place_made};
 ghost use Rattle.client_store.specs.Store.{IsStore, IsAbsent, IsBad};
 
-use crate::faults::{ClientFault, MakeFault};
+use crate::faults::MakeFault;
 use crate::found_store::FoundStore;
 use crate::state_store::StateStore;
 use client_state::{ClientState, whole_batch};
 use enrol_states::State;
 use host_model::Host;
 use row_batches::Batch;
-use row_store::RowStore;
+use row_store::{PairFault, RowStore};
 use std::alloc::{AllocError, Global};
 use uuid::Uuid;
 
@@ -83,13 +84,26 @@ impl StateStore {
         ensures say_faults { H.say_faults host.new ≡ H.say_faults host.old }
     {
         let first = first_rows(alloc, id, now)?;
-        match FoundStore::open(alloc, host) {
-            Ok(_) => Err(MakeFault::AlreadyStore),
-            Err(ClientFault::NoStore) => Ok(RowStore::make(alloc, host, &first)?),
-            Err(ClientFault::BadStore) => Err(MakeFault::BadStore),
-            Err(ClientFault::DiskFault) => Err(MakeFault::DiskFault),
-            Err(ClientFault::OutOfMemory) => Err(MakeFault::OutOfMemory),
+        match refusal(FoundStore::open(alloc, host)) {
+            None => Ok(RowStore::make(alloc, host, &first)?),
+            Some(fault) => Err(fault),
         }
+    }
+}
+
+// Why no store is made, by the answer of the opening before. Nothing stands in the way where that found no store.
+fn refusal(found: Result<FoundStore, PairFault>) -> Option<MakeFault>
+    ensures { result ≡ refusal found }
+{
+    match found {
+        Ok(found) => {
+            drop(found);
+            Some(MakeFault::AlreadyStore)
+        }
+        Err(PairFault::NoStore) => None,
+        Err(PairFault::BadStore) => Some(MakeFault::BadStore),
+        Err(PairFault::DiskFault) => Some(MakeFault::DiskFault),
+        Err(PairFault::OutOfMemory) => Some(MakeFault::OutOfMemory),
     }
 }
 

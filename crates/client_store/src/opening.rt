@@ -10,10 +10,10 @@ ghost use Rattle.client_state.specs.Sound.{IsSound};
 ghost use Rattle.client_store.specs.Moments.{IsLeftAmong};
 ghost use Rattle.client_store.specs.OpenStore.{AllKeptAmong};
 
-use crate::faults::ClientFault;
 use crate::found_store::FoundStore;
 use crate::state_store::StateStore;
 use host_model::Host;
+use row_store::PairFault;
 use std::alloc::Global;
 
 impl StateStore {
@@ -21,9 +21,12 @@ impl StateStore {
 
     /// Opens the store: both sides are synced and read. Nothing is said.
     ///
+    /// Want of memory and a fault of the disk aside, it answers `Ok` exactly where the pair stands for a state, `NoStore` exactly
+    /// where neither side's first byte is 1, and `BadStore` exactly where neither holds.
+    ///
     /// Where a checkpoint was cut short, one byte is written then. Where the rows are the old form of a state, the row of
     /// participation is written anew, last, as by a commit. So the store is in one form from then on.
-    pub fn open<H: Host>(alloc: Global, host: &mut H) -> Result<StateStore, ClientFault>
+    pub fn open<H: Host>(alloc: Global, host: &mut H) -> Result<StateStore, PairFault>
         // What stands at the end, by the answer, and which answer each pair has.
         ensures ends { H.tells → OpenEnds H.Host host.old host.new result }
         ensures judges { H.tells → OpenJudges (H.reads host.old Left) (H.reads host.old Right) result }
@@ -40,16 +43,13 @@ impl StateStore {
         // Where the pair that was read has no list of payloads, nothing is written, whatever the answer.
         ensures only_read { H.tells → HasNoList (H.reads host.old Left) (H.reads host.old Right) → IsOnlyRead H.Host host.old host.new }
 
-        ensures cause { IsErrOf result ClientFault.DiskFault → Rose (H.disk_faults host.old) (H.disk_faults host.new) }
-        ensures disk_quiet { ¬ IsErrOf result ClientFault.DiskFault → H.disk_faults host.new ≡ H.disk_faults host.old }
+        ensures cause { IsErrOf result PairFault.DiskFault → Rose (H.disk_faults host.old) (H.disk_faults host.new) }
+        ensures disk_quiet { ¬ IsErrOf result PairFault.DiskFault → H.disk_faults host.new ≡ H.disk_faults host.old }
         ensures disk_faults { H.disk_faults host.old ≤ H.disk_faults host.new }
         ensures say_faults { H.say_faults host.new ≡ H.say_faults host.old }
     {
         match FoundStore::open(alloc, host) {
-            Ok(found) => match found.migrated(alloc, host) {
-                Ok(store) => Ok(store),
-                Err(fault) => Err(fault),
-            },
+            Ok(found) => found.migrated(alloc, host),
             Err(fault) => Err(fault),
         }
     }

@@ -5,8 +5,8 @@ use Rattle.host_model.specs.declared.host.Host.{Ghosts}
 use Rattle.pair_store.specs.Repair.{IsLeftByOpening}
 use Rattle.client_state.specs.declared.client_state.ClientState.{ClientState}
 use Rattle.client_store.specs.Finds.{MakeFinds}
-use Rattle.client_store.specs.declared.faults.ClientFault.{ClientFault}
-use Rattle.client_store.specs.declared.faults.ClientFault.TheVariants as client
+use Rattle.pair_store.specs.declared.faults.PairFault.{PairFault}
+use Rattle.pair_store.specs.declared.faults.PairFault.TheVariants as client
 use Rattle.client_store.specs.declared.faults.MakeFault.{MakeFault}
 use Rattle.client_store.specs.declared.faults.MakeFault.TheVariants as make
 use Rattle.session_run.specs.declared.faults.RunFault.{RunFault}
@@ -34,7 +34,7 @@ lines_open run.DiskFault none = none
 lines_open run.SayFault none = none
 lines_open run.OutOfMemory none = none
 
-pub store_is_of : (fault : ClientFault) → IsOfLines (of_store fault)
+pub store_is_of : (fault : PairFault) → IsOfLines (of_store fault)
 store_is_of client.NoStore = tt
 store_is_of client.BadStore = tt
 store_is_of client.DiskFault = tt

@@ -6,9 +6,8 @@ use Rattle.host_model.specs.declared.host.Host.{Ghosts}
 use Rattle.host_model.specs.declared.shelf.Shelf as shelves
 use Rattle.client_steps.specs.declared.faults.StepFault.{StepFault}
 use Rattle.client_steps.specs.declared.faults.StepFault.TheVariants as step
-use Rattle.client_core.specs.declared.client.Client.{Client}
-use Rattle.client_store.specs.declared.faults.ClientFault.{ClientFault}
-use Rattle.client_store.specs.declared.faults.ClientFault.TheVariants as store
+use Rattle.pair_store.specs.declared.faults.PairFault.{PairFault}
+use Rattle.pair_store.specs.declared.faults.PairFault.TheVariants as store
 use Rattle.client_store.specs.declared.faults.MakeFault.{MakeFault}
 use Rattle.client_store.specs.declared.faults.MakeFault.TheVariants as make
 use Rattle.session_run.specs.declared.faults.RunFault.{RunFault}
@@ -42,9 +41,6 @@ the_fault (Err fault) = fault
 status_is : (fault other : RunFault) → IsErrOf {T = Unit {0}} (Err fault) other → IsStatusOf (of_run fault) other
 status_is fault other is = ap (λ (result : Result (Unit {0}) RunFault). of_run (the_fault result)) is
 
-pub store_fault_is : (fault other : ClientFault) → IsErrOf {T = Client} (Err fault) other → fault ≡ other
-store_fault_is fault other is = cc
-
 pub make_fault_is : (fault other : MakeFault) → IsErrOf {T = Unit {0}} (Err fault) other → fault ≡ other
 make_fault_is fault other is = cc
 
@@ -73,7 +69,7 @@ module _ {F : Type 0} (f : shelves.Ghosts F) where
   unasked_causes is shelf none = record { shelf = λ fault. absurd (none fault); quiet = λ other. refl; later = omega arith; files = λ tells name. refl }
 
   -- nor was it where the store was not opened
-  pub unopened_causes : (fault : ClientFault) (shelf : F) → HasShelfCauses f (IsStatusOf (of_store fault)) shelf shelf
+  pub unopened_causes : (fault : PairFault) (shelf : F) → HasShelfCauses f (IsStatusOf (of_store fault)) shelf shelf
   unopened_causes store.NoStore shelf = unasked_causes (IsStatusOf NoStore) shelf (λ is. absurd cc)
   unopened_causes store.BadStore shelf = unasked_causes (IsStatusOf BadStore) shelf (λ is. absurd cc)
   unopened_causes store.DiskFault shelf = unasked_causes (IsStatusOf DiskFault) shelf (λ is. absurd cc)
@@ -140,7 +136,7 @@ module _ {H : Type 0} (h : Ghosts H) where
       quiet_causes status unsaid rose quiet = record { disk = rose; say = λ is. absurd (unsaid is); disk_quiet = quiet; say_quiet = λ other. say; disk_later = disk; say_later = omega (arith, say) }
 
       -- the store was not opened
-      pub opening_causes : (fault : ClientFault) → (fault ≡ store.DiskFault → Rose (h.disk_faults old) (h.disk_faults new)) → (¬ (fault ≡ store.DiskFault) → h.disk_faults new ≡ h.disk_faults old)
+      pub opening_causes : (fault : PairFault) → (fault ≡ store.DiskFault → Rose (h.disk_faults old) (h.disk_faults new)) → (¬ (fault ≡ store.DiskFault) → h.disk_faults new ≡ h.disk_faults old)
           → HasHostCauses h (IsStatusOf (of_store fault)) old new
       opening_causes store.NoStore rose quiet = quiet_causes NoStore (λ is. absurd cc) (λ is. absurd cc) (λ other. quiet (λ is. absurd cc))
       opening_causes store.BadStore rose quiet = quiet_causes BadStore (λ is. absurd cc) (λ is. absurd cc) (λ other. quiet (λ is. absurd cc))

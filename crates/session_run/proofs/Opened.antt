@@ -11,8 +11,8 @@ use Rattle.enrol_states.specs.Statuses.{last_moment}
 use Rattle.client_state.specs.declared.client_state.ClientState.{ClientState}
 use Rattle.client_state.specs.Forms.{needs_migration}
 use Rattle.client_core.specs.declared.client.Client.{Client}
-use Rattle.client_store.specs.declared.faults.ClientFault.{ClientFault}
-use Rattle.client_store.specs.declared.faults.ClientFault.TheVariants.{NoStore, BadStore, DiskFault, OutOfMemory}
+use Rattle.pair_store.specs.declared.faults.PairFault.{PairFault}
+use Rattle.pair_store.specs.declared.faults.PairFault.TheVariants.{NoStore, BadStore, DiskFault, OutOfMemory}
 use Rattle.client_core.specs.Clients.{state_of, end_of, HasGateOn}
 use Rattle.client_store.specs.Finds.{OpenFinds}
 use Rattle.client_store.specs.Moments.{IsLeftAs, IsLeftAmong}
@@ -23,6 +23,7 @@ use Rattle.client_store.specs.OpenStore.{AllKept, AllKeptAmong}
 use Rattle.client_steps.specs.Settings.{setting}
 use Rattle.client_store.specs.Store.{StandsFor, KeptFor, IsStore}
 use Rattle.client_store.proofs.Holding.{stands_of_kept}
+use Rattle.client_store.proofs.Moments.{met_now}
 use Rattle.client_store.proofs.Openings.{phase_kept}
 use Rattle.client_store.proofs.Refusing.{stands_not_absent}
 use Rattle.session_run.specs.declared.faults.RunFault.{RunFault}
@@ -42,18 +43,17 @@ use Rattle.session_run.proofs.Phases.{SyncsAndOpens, Begins, unopened_begins, op
 use Rattle.session_run.proofs.Running.{some_at_start, elsewhere}
 use Rattle.session_run.proofs.Starting.{same_start}
 use Rattle.session_run.proofs.Values.{serves_values}
-use Rattle.session_run.proofs.Writing.{met_now}
 
 -- ---- the store was not opened
 
-pub store_not_done : (fault : ClientFault) → of_store fault ≡ status.Done → ⊥
+pub store_not_done : (fault : PairFault) → of_store fault ≡ status.Done → ⊥
 store_not_done NoStore is = absurd cc
 store_not_done BadStore is = absurd cc
 store_not_done DiskFault is = absurd cc
 store_not_done OutOfMemory is = absurd cc
 
 -- what a run found that wasn't opened
-pub run_finds : (l r : List ℕ) (fault : ClientFault) → OpenFinds l r fault → RunFinds l r (of_store fault)
+pub run_finds : (l r : List ℕ) (fault : PairFault) → OpenFinds l r fault → RunFinds l r (of_store fault)
 run_finds l r NoStore finds = finds
 run_finds l r BadStore finds = finds
 run_finds l r DiskFault finds = tt
@@ -74,7 +74,7 @@ no_less n m = omega arith
 
 module _ {H : Type 0} (h : Ghosts H) (old new : H) where
   -- what it leaves
-  pub unopened_leaves : (fault : ClientFault) → OpenLeaves h old new fault → RunLeaves h old new (of_store fault)
+  pub unopened_leaves : (fault : PairFault) → OpenLeaves h old new fault → RunLeaves h old new (of_store fault)
   unopened_leaves NoStore leaves = leaves
   unopened_leaves BadStore leaves = leaves.0
   unopened_leaves DiskFault leaves = tt
@@ -87,7 +87,7 @@ module _ {H : Type 0} (h : Ghosts H) (old new : H) where
   lines_leave run.OutOfMemory = tt
 
 -- a store that stood for a state is not opened where the disk has failed or memory is wanting
-synced_ends : {H : Type 0} (h : Ghosts H) (asked : List (List ℕ) → Type 0) (states : List ClientState) (start : Start) (old new : H) (l r : List ℕ) → StandsFor l r start.state → (fault : ClientFault) → OpenFinds l r fault → StaysAs h asked start new
+synced_ends : {H : Type 0} (h : Ghosts H) (asked : List (List ℕ) → Type 0) (states : List ClientState) (start : Start) (old new : H) (l r : List ℕ) → StandsFor l r start.state → (fault : PairFault) → OpenFinds l r fault → StaysAs h asked start new
     → RunEnds h asked states start old new (of_store fault)
 synced_ends h asked states start old new l r stands NoStore finds stays = absurd (stands_not_absent l r start.state stands finds)
 synced_ends h asked states start old new l r stands BadStore finds stays = absurd (finds.no_state start.state stands)
@@ -223,7 +223,7 @@ module _ {F H : Type 0} (f : shelves.Ghosts F) (h : Ghosts H) (asked : List (Lis
       (λ is. absurd (subst (EndsEarly h old old) is early))
 
   -- the store was not opened
-  module _ (new : H) (fault : ClientFault) (phases : OpensInPhases {T = Client} h old new (Err fault)) (finds : OpenFinds (h.reads old Left) (h.reads old Right) fault) (text : h.said new ≡ h.said old) (still : MeetsAll h new new (NowOf h new)) where
+  module _ (new : H) (fault : PairFault) (phases : OpensInPhases {T = Client} h old new (Err fault)) (finds : OpenFinds (h.reads old Left) (h.reads old Right) fault) (text : h.said new ≡ h.said old) (still : MeetsAll h new new (NowOf h new)) where
     begins : Begins h old new (of_store fault)
     begins = unopened_begins h old new fault phases
 

@@ -11,14 +11,14 @@ use Rattle.pair_store.specs.Moments.{IsReadOrRepaired}
 use Rattle.pair_store.specs.Moments as sides
 use Rattle.pair_store.specs.Repair.{IsRepaired, IsUnwritten, IsLeftByOpening}
 use Rattle.client_core.specs.declared.client.Client.{Client}
-use Rattle.client_store.specs.declared.faults.ClientFault.{ClientFault}
-use Rattle.client_store.specs.declared.faults.ClientFault.TheVariants.{DiskFault}
+use Rattle.pair_store.specs.declared.faults.PairFault.{PairFault}
+use Rattle.pair_store.specs.declared.faults.PairFault.TheVariants.{DiskFault}
+use Rattle.row_store.proofs.Folds.{fault_is}
 use Rattle.client_store.specs.Openings.{IsReadOrMigrating, IsLeftOrMigrating, OpensInPhases, OpensInThreePhases}
 use Rattle.session_run.specs.declared.status.RunStatus.{RunStatus}
 use Rattle.session_run.specs.declared.status.RunStatus.TheVariants as status
 use Rattle.session_run.specs.Moments.{EndsEarly, OpensBytes}
 use Rattle.session_run.specs.Statuses.{of_store}
-use Rattle.session_run.proofs.Causing.{store_fault_is}
 
 -- both sides were synced
 pub record SyncsAndOpens {H : Type 0} (h : Ghosts H) (old opened : H) (answered : RunStatus) : Type 0 where
@@ -32,10 +32,10 @@ pub record SyncsAndOpens {H : Type 0} (h : Ghosts H) (old opened : H) (answered 
 abbrev pub Begins : {H : Type 0} → Ghosts H → H → H → RunStatus → Type 0
 Begins h old new answered = (EndsEarly h old new answered × MeetsAll h old new (NowOf h old)) ⊎ SyncsAndOpens h old new answered
 
-failed_is : (fault : ClientFault) → IsErrOf {T = Client} {E = ClientFault} (Err fault) DiskFault → of_store fault ≡ status.DiskFault
-failed_is fault is = ap of_store (store_fault_is fault DiskFault is)
+failed_is : (fault : PairFault) → IsErrOf {T = Client} {E = PairFault} (Err fault) DiskFault → of_store fault ≡ status.DiskFault
+failed_is fault is = ap of_store (fault_is fault DiskFault is)
 
-never_failed : (client : Client) (fault : ClientFault) → IsErrOf {T = Client} {E = ClientFault} (Ok client) fault → ⊥
+never_failed : (client : Client) (fault : PairFault) → IsErrOf {T = Client} {E = PairFault} (Ok client) fault → ⊥
 never_failed client fault is = absurd cc
 
 module _ {H : Type 0} (h : Ghosts H) (old new : H) where
@@ -70,7 +70,7 @@ module _ {H : Type 0} (h : Ghosts H) (old new : H) where
   }
 
   -- of a store that was not opened
-  pub unopened_begins : (fault : ClientFault) → OpensInPhases {T = Client} h old new (Err fault) → Begins h old new (of_store fault)
+  pub unopened_begins : (fault : PairFault) → OpensInPhases {T = Client} h old new (Err fault) → Begins h old new (of_store fault)
   unopened_begins fault (inl (failed, inl unsynced)) = inl (subst (EndsEarly h old new) (sym (failed_is fault failed)) unsynced, unsynced.moments)
   unopened_begins fault (inl (failed, inr two)) = inr (of_two (of_store fault) (failed_is fault failed) two)
   unopened_begins fault (inr three) = inr (of_three (of_store fault) three)

@@ -11,11 +11,6 @@ use Rattle.pair_store.specs.declared.mark.TheConstants.{MAX_RECORD_END}
 use Rattle.pair_store.specs.Moments.{IsOpening, SameBehind, StaysBelow}
 use Rattle.session_run.specs.Writes.{IsBelowMark, WritesNoMore}
 
--- what stands at the end of a run is met then
-pub met_now : {H : Type 0} (h : Ghosts H) (old new : H) (P : List ℕ → List ℕ → List ℕ → Type 0) → MeetsAll h old new P → ((t : ℕ) (l r u : List ℕ) → h.tells → t ≤ h.moment new → NowOf h new l r u → h.might new t l r u) → h.tells
-    → (l r : List ℕ) → h.images new Left l → h.images new Right r → P l r (h.said new)
-met_now h old new P run counts tells l r left right = run.each l r (h.said new) (counts (h.moment old) l r (h.said new) tells run.later (left, right, refl))
-
 module _ {H : Type 0} (h : Ghosts H) (old mid new : H) where
   -- of what is so at mid, each image is one of the start behind the mark
   module _ (left : h.images mid Left (h.reads mid Left)) (right : h.images mid Right (h.reads mid Right)) (now_below : (l r : List ℕ) → h.images mid Left l → h.images mid Right r → IsBelowMark h old l r (h.said mid)) where

@@ -1,8 +1,8 @@
 -- The exit number of each status, and the status of each fault.
 use Rattle.std.specs.Prelude.{ℕ, Result, Ok, Err}
 use Rattle.client_core.specs.declared.client.Client.{Client}
-use Rattle.client_store.specs.declared.faults.ClientFault.{ClientFault}
-use Rattle.client_store.specs.declared.faults.ClientFault.TheVariants as store
+use Rattle.pair_store.specs.declared.faults.PairFault.{PairFault}
+use Rattle.pair_store.specs.declared.faults.PairFault.TheVariants as store
 use Rattle.client_store.specs.declared.faults.MakeFault.{MakeFault}
 use Rattle.client_store.specs.declared.faults.MakeFault.TheVariants as make
 use Rattle.client_steps.specs.declared.faults.StepFault.{StepFault}
@@ -33,7 +33,7 @@ of_script script.TooLong = ScriptTooLong
 of_script script.SourceFault = SourceFault
 of_script script.OutOfMemory = OutOfMemory
 
-abbrev pub of_store : ClientFault → RunStatus
+abbrev pub of_store : PairFault → RunStatus
 of_store store.NoStore = NoStore
 of_store store.BadStore = BadStore
 of_store store.DiskFault = DiskFault

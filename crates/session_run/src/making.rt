@@ -7,7 +7,7 @@ ghost use Rattle.session_run.specs.Making.{ready, Made};
 ghost use Rattle.session_run.specs.Statuses.{IsOfMaking};
 
 use crate::status::RunStatus;
-use client_core::Client;
+use client_store::StateStore;
 use client_words::hyphenated;
 use host_model::Host;
 use sequences::Text;
@@ -39,7 +39,7 @@ pub(crate) fn init<H: Host>(alloc: Global, id: [u8; 16], now: u64, host: &mut H)
     let Ok(text) = ready(alloc, id) else {
         return RunStatus::OutOfMemory;
     };
-    match Client::make(alloc, host, Uuid::from_bytes(id), now) {
+    match StateStore::make(alloc, host, Uuid::from_bytes(id), now) {
         Ok(()) => match host.say(text.as_str().as_bytes()) {
             Ok(()) => RunStatus::Done,
             Err(_) => RunStatus::SayFault,

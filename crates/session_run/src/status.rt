@@ -3,7 +3,8 @@ ghost use Rattle.std.specs.Prelude.{◌≡◌};
 
 use crate::faults::RunFault;
 use crate::script::ScriptFault;
-use client_core::{ClientFault, MakeFault};
+use client_core::PairFault;
+use client_store::MakeFault;
 use std::alloc::AllocError;
 use std::fmt;
 
@@ -91,18 +92,18 @@ impl From<ScriptFault> for RunStatus {
     }
 }
 
-impl From<ClientFault> for RunStatus {
+impl From<PairFault> for RunStatus {
     ghost use Rattle.std.specs.Prelude.{◌≡◌};
     ghost use Rattle.session_run.specs.Statuses.{of_store};
 
     ghost from_gives = { λ fault status. status ≡ of_store fault };
 
-    fn from(fault: ClientFault) -> Self {
+    fn from(fault: PairFault) -> Self {
         match fault {
-            ClientFault::NoStore => RunStatus::NoStore,
-            ClientFault::BadStore => RunStatus::BadStore,
-            ClientFault::DiskFault => RunStatus::DiskFault,
-            ClientFault::OutOfMemory => RunStatus::OutOfMemory,
+            PairFault::NoStore => RunStatus::NoStore,
+            PairFault::BadStore => RunStatus::BadStore,
+            PairFault::DiskFault => RunStatus::DiskFault,
+            PairFault::OutOfMemory => RunStatus::OutOfMemory,
         }
     }
 }

@@ -3,6 +3,7 @@ use Rattle.std.proofs.Common.{List, ℕ, refl, subst}
 use Rattle.host_model.specs.declared.side.Side.TheVariants.{Left, Right}
 use Rattle.host_model.specs.Hosts.{NowOf}
 use Rattle.host_model.proofs.Meeting.{started}
+use Rattle.client_store.proofs.Moments.{met_now}
 use Rattle.session_run.specs.declared.status.RunStatus.TheVariants.{Done, OutOfMemory}
 use Rattle.session_run.specs.FaultCauses.{IsStatusOf}
 use Rattle.session_run.specs.Making.{Made}
@@ -11,7 +12,7 @@ use Rattle.session_run.proofs.Causing.{causes_behind}
 use Rattle.session_run.proofs.Drilling.{found_made, drilled_made, drilled_unmade, drilled_unbegun}
 use Rattle.session_run.proofs.Judging.{making_judges}
 use Rattle.session_run.proofs.EncodedStores.{closed_cost}
-use Rattle.session_run.proofs.Writing.{met_now, no_more}
+use Rattle.session_run.proofs.Writing.{no_more}
 use Rattle.session_run.proofs.drill.drill.Goals as goal
 
 pub returns-in-Done-clause-drilled : goal.returns-in-Done-clause-drilled

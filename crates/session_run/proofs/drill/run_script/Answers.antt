@@ -5,6 +5,7 @@ use Rattle.host_model.proofs.Meeting.{met_weaker}
 use Rattle.recipe_drill.specs.Parts.{parts_of}
 use Rattle.client_store.specs.Places.{place_made}
 use Rattle.client_store.proofs.Holding.{stands_of_kept}
+use Rattle.client_store.proofs.Moments.{met_now}
 use Rattle.client_words.specs.Commands.{lines_of}
 use Rattle.session_run.specs.declared.status.RunStatus.TheVariants.{Done, DiskFault, SayFault}
 use Rattle.session_run.specs.DrillEnds.{ScriptEnds, made_start}
@@ -21,7 +22,7 @@ use Rattle.session_run.proofs.Linking.{among_one}
 use Rattle.session_run.proofs.Running.{elsewhere}
 use Rattle.session_run.proofs.EncodedStores.{encoded_ends}
 use Rattle.session_run.proofs.Starting.{begin}
-use Rattle.session_run.proofs.Writing.{met_now, below_then, below_said}
+use Rattle.session_run.proofs.Writing.{below_then, below_said}
 use Rattle.session_run.proofs.drill.run_script.Goals as goal
 
 -- ---- all lines are done and answered

@@ -4,6 +4,7 @@ use Rattle.host_model.specs.declared.side.Side.TheVariants.{Left, Right}
 use Rattle.client_core.specs.Clients.{state_of}
 use Rattle.client_core.specs.Prepared.{next_state}
 use Rattle.client_store.proofs.Holding.{kept_said}
+use Rattle.client_store.proofs.Moments.{met_now}
 use Rattle.client_core.proofs.Holding.{open_said, gate_said}
 use Rattle.session_run.specs.Writes.{IsBelowMark}
 use Rattle.session_run.specs.declared.faults.RunFault.TheVariants.{DiskFault, SayFault}
@@ -12,7 +13,7 @@ use Rattle.session_run.proofs.Causing.{unwritten_causes, unsaid_causes}
 use Rattle.session_run.proofs.Ending.{written_ends, said_ends}
 use Rattle.session_run.proofs.Undone.{err_ok}
 use Rattle.session_run.proofs.Outcomes.{err_cost}
-use Rattle.session_run.proofs.Writing.{met_now, below_of, below_then, below_said}
+use Rattle.session_run.proofs.Writing.{below_of, below_then, below_said}
 use Rattle.session_run.proofs.line.commit.Goals as goal
 
 -- ---- the write has failed

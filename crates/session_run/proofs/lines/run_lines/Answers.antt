@@ -7,6 +7,7 @@ use Rattle.host_model.specs.declared.side.Side.TheVariants.{Left, Right}
 use Rattle.host_model.proofs.Meeting.{started}
 use Rattle.client_core.specs.Clients.{state_of, end_of, HasGateOn}
 use Rattle.client_store.specs.OpenStore.{AllKept, AllStand}
+use Rattle.client_store.proofs.Moments.{met_now}
 use Rattle.client_steps.specs.Settings.{setting}
 use Rattle.client_core.proofs.Holding.{all_kept, all_stand}
 use Rattle.session_run.specs.declared.faults.RunFault.{RunFault}
@@ -27,7 +28,7 @@ use Rattle.session_run.proofs.Placing.{line_within, line_more, line_at}
 use Rattle.session_run.proofs.Running.{some_at_start}
 use Rattle.session_run.proofs.Starting.{begin}
 use Rattle.session_run.proofs.Stepping.{same_setting}
-use Rattle.session_run.proofs.Writing.{met_now, at_each, below_unwritten, below_then}
+use Rattle.session_run.proofs.Writing.{at_each, below_unwritten, below_then}
 use Rattle.session_run.proofs.lines.run_lines.Goals as goal
 
 pub loop-span-init : goal.loop-span-init

@@ -8,6 +8,7 @@ use Rattle.client_store.specs.NewStates.{fresh}
 use Rattle.client_store.specs.Moments.{IsLeftAmong}
 use Rattle.client_store.specs.Places.{making_bytes}
 use Rattle.client_store.proofs.Holding.{kept_said}
+use Rattle.client_store.proofs.Moments.{met_now}
 use Rattle.session_run.specs.declared.status.RunStatus.{RunStatus}
 use Rattle.session_run.specs.FaultCauses.{IsStatusOf, HasHostCauses}
 use Rattle.session_run.specs.Finds.{MakingFound}
@@ -19,7 +20,7 @@ use Rattle.session_run.proofs.Belonging.{making_is_of, making_leaves, making_fin
 use Rattle.session_run.proofs.Causing.{make_fault_is, done_causes, said_causes, making_causes_of}
 use Rattle.session_run.proofs.Judging.{making_judges}
 use Rattle.session_run.proofs.MadeStores.{IsMade, made_said}
-use Rattle.session_run.proofs.Writing.{met_now, below_of, below_then, below_saying, below_unwritten, no_more}
+use Rattle.session_run.proofs.Writing.{below_of, below_then, below_saying, below_unwritten, no_more}
 use Rattle.session_run.proofs.making.init.Goals as goal
 
 -- ---- the store is made

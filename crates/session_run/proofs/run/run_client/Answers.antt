@@ -3,11 +3,13 @@ use Rattle.std.proofs.Common.{◌≡◌, List, ℕ, All, Ok, Err, length, map, r
 use Rattle.host_model.specs.declared.side.Side.TheVariants.{Left, Right}
 use Rattle.host_model.specs.Hosts.{NowOf}
 use Rattle.host_model.proofs.Meeting.{started}
+use Rattle.row_store.proofs.Folds.{fault_is}
 use Rattle.client_core.specs.Clients.{state_of, end_of}
-use Rattle.client_store.specs.declared.faults.ClientFault.TheVariants as opening
+use Rattle.pair_store.specs.declared.faults.PairFault.TheVariants as opening
 use Rattle.client_store.specs.Moments.{IsLeftAmong}
 use Rattle.client_steps.specs.Settings.{setting}
 use Rattle.client_store.specs.Store.{IsStore}
+use Rattle.client_store.proofs.Moments.{met_now}
 use Rattle.client_words.specs.Commands.{IsWithin, bytes_at, lines_of}
 use Rattle.client_words.proofs.Within.{lines-within, lines_at}
 use Rattle.std.proofs.lemmas.Result.{IfErr-at_err}
@@ -28,11 +30,11 @@ use Rattle.session_run.specs.Writes.{IsBelowMark}
 use Rattle.session_run.proofs.Opened.{run_finds, unopened_leaves, lines_find, lines_leave, ran_unreached, ran_unopened, ran_opened}
 use Rattle.session_run.proofs.Asking.{none_asked, lines_unasked}
 use Rattle.session_run.proofs.Belonging.{lines_are_of, lines_open, store_is_of}
-use Rattle.session_run.proofs.Causing.{store_fault_is, unfailed_causes, unopened_causes, shelf_causes_of, host_causes_of, done_causes, opening_causes}
+use Rattle.session_run.proofs.Causing.{unfailed_causes, unopened_causes, shelf_causes_of, host_causes_of, done_causes, opening_causes}
 use Rattle.session_run.proofs.Judging.{run_judges}
 use Rattle.session_run.proofs.Linking.{goes_on_from, goes_on_as}
 use Rattle.session_run.proofs.Starting.{same_start}
-use Rattle.session_run.proofs.Writing.{met_now, below_of, below_then, below_unwritten, no_more}
+use Rattle.session_run.proofs.Writing.{below_of, below_then, below_unwritten, no_more}
 use Rattle.session_run.proofs.run.run_client.Goals as goal
 
 pub run_lines-requires-clause-within : goal.run_lines-requires-clause-within
@@ -283,4 +285,4 @@ pub returns-clause-host_causes : goal.returns-clause-host_causes
 returns-clause-host_causes g c =
     subst (λ (status : RunStatus). HasHostCauses g.H.Host (IsStatusOf status) c.args.host.now c.open.new.host) (sym c.into-in-Err.ensures)
     (opening_causes g.H.Host c.args.host.now c.open.new.host c.open.ensures.disk_faults c.open.ensures.say_faults c.in-Err.fault (λ is. c.in-Err.ensures.cause (ap Err is))
-    (λ other. c.in-Err.ensures.disk_quiet (λ is. other (store_fault_is c.in-Err.fault opening.DiskFault is))))
+    (λ other. c.in-Err.ensures.disk_quiet (λ is. other (fault_is c.in-Err.fault opening.DiskFault is))))

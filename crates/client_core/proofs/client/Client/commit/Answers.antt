@@ -4,8 +4,6 @@ use Rattle.host_model.specs.Hosts.{MeetsAll}
 use Rattle.host_model.specs.declared.side.Side.TheVariants.{Left, Right}
 use Rattle.host_model.proofs.Meeting.{started}
 use Rattle.gate_journal.specs.Costs.{HasCost}
-use Rattle.pair_store.specs.Moments.{StaysBelow}
-use Rattle.pair_store.proofs.Below.{now_below}
 use Rattle.row_store.specs.Moments.{KeepsEitherRows}
 use Rattle.row_store.specs.Rows.{HasRows}
 use Rattle.row_store.specs.Store.{place}
@@ -19,6 +17,7 @@ use Rattle.client_store.specs.Places.{place_after, bytes_for, makes_checkpoint}
 use Rattle.client_store.specs.Changes.{changed, is_whole_in, IsChange}
 use Rattle.client_store.proofs.Holding.{has_rows, has_kept_rows}
 use Rattle.client_core.proofs.Holding.{all_kept, all_stand, settled}
+use Rattle.client_store.proofs.Moments.{still_below}
 use Rattle.client_store.proofs.Placing.{place_same, bytes_same, no_checkpoint}
 use Rattle.client_core.proofs.client.Client.commit.Goals as goal
 
@@ -178,10 +177,7 @@ returns-clause-checkpoint g c =
     subst (λ (o : Option Change). is_whole_in o ≡ makes_checkpoint (place old.rows) old.state (changed old.state o)) (sym c.in-None.is) (no_checkpoint (place old.rows) old.state)
 
 pub returns-clause-below : goal.returns-clause-below
-returns-clause-below g c tells =
-    let h = g.H.Host in
-    let host = c.args.host.now in
-    started h.moment h.might host (StaysBelow h host) (λ l r u met. now_below h host l r u (g.met.H.Host.only_now host l r u tells met))
+returns-clause-below g c tells = still_below g.H.Host c.args.host.now tells (g.met.H.Host.only_now c.args.host.now)
 
 pub returns-clause-settled : goal.returns-clause-settled
 returns-clause-settled g c tells = settled g.H.Host c.args.self.now c.args.host.now (c.requires.holds tells)

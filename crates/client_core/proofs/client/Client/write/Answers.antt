@@ -1,7 +1,8 @@
 -- A change is written.
-use Rattle.std.proofs.Common.{◌∙◌, inl, refl, ap, subst, arith}
+use Rattle.std.proofs.Common.{◌∙◌, inl, ap, subst, arith}
 use Rattle.std.proofs.lemmas.Result.{err_from_is_err_and}
 use Rattle.host_model.specs.declared.side.Side.TheVariants.{Left, Right}
+use Rattle.client_store.proofs.Moments.{met_now, text_below}
 use Rattle.row_store.specs.Rows.{HasRows}
 use Rattle.client_state.specs.Encoding.{rows_of}
 use Rattle.client_store.proofs.Holding.{rows_settled, rows_read, rows_stand, rows_kept, ungated, while_written}
@@ -18,31 +19,21 @@ returns-in_err-commit-clause-any_moment g c tells gate =
 
 pub returns-clause-kept_either : goal.returns-clause-kept_either
 returns-clause-kept_either g c tells gate l r left right =
-    let h = g.H.Host in
-    let new = c.commit.new.host in
-    let run = returns-clause-any_moment g c tells gate in
-    (run.each l r (h.said new) (g.met.H.Host.counts_now new (h.moment c.args.host.now) l r (h.said new) tells run.later (left, right, refl))).0
+    (met_now g.H.Host c.args.host.now c.commit.new.host _ (returns-clause-any_moment g c tells gate) (g.met.H.Host.counts_now c.commit.new.host) tells l r left right).0
 
 pub returns-in_err-commit-clause-kept_either : goal.returns-in_err-commit-clause-kept_either
 returns-in_err-commit-clause-kept_either g c tells gate l r left right =
-    let h = g.H.Host in
-    let new = c.commit.new.host in
-    let run = returns-in_err-commit-clause-any_moment g c tells gate in
-    (run.each l r (h.said new) (g.met.H.Host.counts_now new (h.moment c.args.host.now) l r (h.said new) tells run.later (left, right, refl))).0
+    (met_now g.H.Host c.args.host.now c.commit.new.host _ (returns-in_err-commit-clause-any_moment g c tells gate) (g.met.H.Host.counts_now c.commit.new.host) tells l r left right).0
 
 pub returns-clause-text : goal.returns-clause-text
 returns-clause-text g c tells =
-    let h = g.H.Host in
     let new = c.commit.new.host in
-    let run = c.commit.ensures.below tells in
-    (run.each (h.reads new Left) (h.reads new Right) (h.said new) (g.met.H.Host.counts_now new (h.moment c.args.host.now) (h.reads new Left) (h.reads new Right) (h.said new) tells run.later (g.met.H.Host.read_is_image new Left tells, g.met.H.Host.read_is_image new Right tells, refl))).1
+    text_below g.H.Host c.args.host.now new tells (g.met.H.Host.counts_now new) (g.met.H.Host.read_is_image new) (c.commit.ensures.below tells)
 
 pub returns-in_err-commit-clause-text : goal.returns-in_err-commit-clause-text
 returns-in_err-commit-clause-text g c tells =
-    let h = g.H.Host in
     let new = c.commit.new.host in
-    let run = c.commit.ensures.below tells in
-    (run.each (h.reads new Left) (h.reads new Right) (h.said new) (g.met.H.Host.counts_now new (h.moment c.args.host.now) (h.reads new Left) (h.reads new Right) (h.said new) tells run.later (g.met.H.Host.read_is_image new Left tells, g.met.H.Host.read_is_image new Right tells, refl))).1
+    text_below g.H.Host c.args.host.now new tells (g.met.H.Host.counts_now new) (g.met.H.Host.read_is_image new) (c.commit.ensures.below tells)
 
 pub returns-clause-holds : goal.returns-clause-holds
 returns-clause-holds g c tells = record { stored = c.commit.ensures.stored; stands = ungated g.H.Host c.commit.new.self.rows c.commit.new.host (c.in_ok-commit.ensures.acknowledged tells) }

@@ -1,77 +1,113 @@
 -- Rows that are the old form are written anew, and others are left.
-use Rattle.std.proofs.Common.{◌≡◌, ◌≤◌, ◌+◌, ◌∙◌, ℕ, Bool, true, Result, Ok, Err, OnOk, sym, ap, subst}
-use Rattle.std.proofs.lemmas.Result.{err_from_is_err_and}
-use Rattle.gate_journal.specs.Costs.{HasCost}
+use Rattle.std.proofs.Common.{◌≡◌, ◌∙◌, sym, ap, subst, arith}
+use Rattle.std.specs.Prelude.{IsTrue}
 use Rattle.host_model.specs.Hosts.{MeetsAll}
-use Rattle.host_model.proofs.Meeting.{started}
-use Rattle.pair_store.specs.Moments.{StaysBelow}
-use Rattle.pair_store.proofs.Below.{now_below}
-use Rattle.row_store.specs.Store.{StoredRows, RowsStandWithGate, place}
+use Rattle.row_store.specs.Ready.{commit_cost}
+use Rattle.row_store.specs.Store.{StoredRows, RowsStand, RowsStandWithGate, place}
 use Rattle.client_state.specs.Forms.{needs_migration}
-use Rattle.client_store.specs.declared.faults.ClientFault.{ClientFault}
-use Rattle.client_store.specs.Migrations.{migration_bytes, opening_bytes}
+use Rattle.client_store.specs.Migrations.{IsMigration, IsMigrationOf, opening_bytes}
 use Rattle.client_store.specs.Moments.{IsLeftAs}
-use Rattle.client_store.specs.Stored.{IsFound, StoredState}
-use Rattle.client_store.proofs.Holding.{rows_kept}
-use Rattle.client_store.proofs.Judging.{fault_is}
+use Rattle.client_store.proofs.Migrating.{stands_again, gate_stays, left_unwritten, place_stays, no_bytes, was_needed, bytes_written, place_moves, left_written}
+use Rattle.client_store.proofs.Moments.{still_now, still_below}
+use Rattle.client_store.proofs.found_store.FoundStore.migrated.Given.{Over}
+use Rattle.client_store.proofs.found_store.FoundStore.migrated.Goals.{After-migration_of, After-commit}
 use Rattle.client_store.proofs.found_store.FoundStore.migrated.Goals as goal
 
-pub returns-then-not-are_old_form-clause-any_moment : goal.returns-then-not-are_old_form-clause-any_moment
-returns-then-not-are_old_form-clause-any_moment g c tells gated =
+-- ---- nothing is written
+
+unwritten : (g : Over) (c : After-migration_of g) → g.H.Host.tells → RowsStandWithGate g.H.Host c.args.self.rows c.args.host.now → MeetsAll g.H.Host c.args.host.now c.args.host.now (IsLeftAs (g.H.Host.said c.args.host.now) c.args.self.state)
+unwritten g c tells =
+    let old = c.args.host.now in
+    let same = c.migration_of.ensures in
+    left_unwritten g.H.Host c.args.self c.requires.found c.migration_of.new.rows same.records same.rows old (still_now g.H.Host old tells (g.met.H.Host.only_now old))
+
+-- memory is wanting
+pub returns-in-Err-clause-any_moment : goal.returns-in-Err-clause-any_moment
+returns-in-Err-clause-any_moment g c = unwritten g (goal.at.returns-in-Err-clause-any_moment g c).After-migration_of
+
+pub returns-in-Err-clause-below : goal.returns-in-Err-clause-below
+returns-in-Err-clause-below g c tells = still_below g.H.Host c.args.host.now tells (g.met.H.Host.only_now c.args.host.now)
+
+-- the rows are the state's
+pub returns-in-Ok-None-clause-any_moment : goal.returns-in-Ok-None-clause-any_moment
+returns-in-Ok-None-clause-any_moment g c = unwritten g (goal.at.returns-in-Ok-None-clause-any_moment g c).After-migration_of
+
+pub returns-in-Ok-None-clause-below : goal.returns-in-Ok-None-clause-below
+returns-in-Ok-None-clause-below g c tells = still_below g.H.Host c.args.host.now tells (g.met.H.Host.only_now c.args.host.now)
+
+pub returns-in-Ok-None-clause-stands : goal.returns-in-Ok-None-clause-stands
+returns-in-Ok-None-clause-stands g c tells =
     let h = g.H.Host in
-    let host = c.args.host.now in
-    let found = subst IsFound c.self.view_is c.self.invariant in
-    started h.moment h.might host (IsLeftAs (h.said host) c.args.self.state) (λ l r u met.
-    let now = g.met.H.Host.only_now host l r u tells met in
-    (rows_kept h c.args.self.rows host c.args.self.state found.sound found.form gated l r now.0 now.1, now.2))
+    let old = c.args.host.now in
+    let same = c.migration_of.ensures in
+    subst (λ (stored : StoredRows). RowsStand h stored old) (sym c.new.ensures.rows) (stands_again h c.args.self c.requires.found c.migration_of.new.rows same.records same.rows old (c.requires.stands tells))
 
-pub returns-then-not-are_old_form-clause-below : goal.returns-then-not-are_old_form-clause-below
-returns-then-not-are_old_form-clause-below g c tells =
+pub returns-in-Ok-None-clause-gate : goal.returns-in-Ok-None-clause-gate
+returns-in-Ok-None-clause-gate g c tells gated =
     let h = g.H.Host in
-    let host = c.args.host.now in
-    started h.moment h.might host (StaysBelow h host) (λ l r u met. now_below h host l r u (g.met.H.Host.only_now host l r u tells met))
+    let old = c.args.host.now in
+    let same = c.migration_of.ensures in
+    subst (λ (stored : StoredRows). RowsStandWithGate h stored old) (sym c.new.ensures.rows) (gate_stays h c.args.self c.requires.found c.migration_of.new.rows same.records same.rows old gated)
 
-pub returns-in_err-migrate-clause-disk_quiet : goal.returns-in_err-migrate-clause-disk_quiet
-returns-in_err-migrate-clause-disk_quiet g c sound =
-    let p = err_from_is_err_and c.from_residual.result c.from_residual.ensures.1 in
-    let e : ClientFault = c.in_err-migrate.field-0.0 in
-    let is : c.from_residual.result ≡ Err e = cc (p.1, p.2) in
-    c.in_err-migrate.ensures.disk_quiet (λ failed. sound (is ∙ ap (λ (x : ClientFault). Err x) (fault_is e _ failed)))
+pub returns-in-Ok-None-clause-place : goal.returns-in-Ok-None-clause-place
+returns-in-Ok-None-clause-place g c =
+    let same = c.migration_of.ensures in
+    ap place c.new.ensures.rows ∙ place_stays g.H.Host c.args.self c.requires.found c.migration_of.new.rows same.records same.rows c.args.host.now (subst (IsMigration c.args.self.state c.migration_of.new.rows) c.in-Ok-None.field-0-is c.in-Ok-None.ensures.migration).0
 
-no_ok : {T E : Type 0} (r : Result T E) (e : E) (P : Type 0) → r ≡ Err e → OnOk r P
-no_ok (Err x) e P is = tt
-no_ok (Ok x) e P is = absurd cc
+pub returns-in-Ok-None-clause-cost : goal.returns-in-Ok-None-clause-cost
+returns-in-Ok-None-clause-cost g c tells =
+    let same = c.migration_of.ensures in
+    let none = no_bytes g.H.Host c.args.self c.requires.found c.migration_of.new.rows same.records same.rows c.args.host.now (subst (IsMigration c.args.self.state c.migration_of.new.rows) c.in-Ok-None.field-0-is c.in-Ok-None.ensures.migration).0 in
+    record { exact = omega (arith, none); least = omega arith; most = omega arith }
 
-pub returns-in_err-migrate-clause-any_moment : goal.returns-in_err-migrate-clause-any_moment
-returns-in_err-migrate-clause-any_moment g c tells =
-    let h = g.H.Host in
-    let host = c.args.host.now in
-    subst (λ (s : StoredState). RowsStandWithGate h s.rows host → MeetsAll h host c.migrate.new.host (IsLeftAs (h.said host) s.state)) c.self.view_is
-    (λ gated. c.in_err-migrate.ensures.any_moment tells (subst (λ (rows : StoredRows). RowsStandWithGate h rows host) (sym c.are_old_form.ensures.same) gated))
+-- ---- they are written anew
 
-pub returns-in_err-migrate-clause-cost : goal.returns-in_err-migrate-clause-cost
-returns-in_err-migrate-clause-cost g c tells =
-    let h = g.H.Host in
-    let host = c.args.host.now in
-    let p = err_from_is_err_and c.from_residual.result c.from_residual.ensures.1 in
-    let e : ClientFault = c.in_err-migrate.field-0.0 in
-    let is : c.from_residual.result ≡ Err e = cc (p.1, p.2) in
-    let rows = c.self.inside.rows in
-    let state = c.self.inside.state in
-    let needs : needs_migration rows.rows ≡ true = sym c.are_old_form.ensures.row ∙ c.if-not-are_old_form.false in
-    let bytes : migration_bytes (place c.are_old_form.new.rows) state ≡ opening_bytes (needs_migration rows.rows) (place rows) state =
-    ap (λ (it : StoredRows). migration_bytes (place it) state) c.are_old_form.ensures.same ∙ sym (ap (λ (b : Bool). opening_bytes b (place rows) state) needs) in
-    let cost = c.in_err-migrate.ensures.cost tells in
-    subst (λ (s : StoredState). HasCost (opening_bytes (needs_migration s.rows.rows) (place s.rows) s.state) (h.written host) (h.written c.migrate.new.host) c.from_residual.result) c.self.view_is
-    (record {
-      exact = no_ok c.from_residual.result e _ is;
-      least = cost.least;
-      most = subst (λ (n : ℕ). h.written c.migrate.new.host ≤ h.written host + n) bytes cost.most;
-    })
+pub commit-requires-clause-stands : goal.commit-requires-clause-stands
+commit-requires-clause-stands g c tells =
+    let same = c.migration_of.ensures in
+    stands_again g.H.Host c.args.self c.requires.found c.migration_of.new.rows same.records same.rows c.args.host.now (c.requires.stands tells)
 
-pub returns-clause-any_moment : goal.returns-clause-any_moment
-returns-clause-any_moment g c tells =
-    let h = g.H.Host in
-    let host = c.args.host.now in
-    subst (λ (s : StoredState). RowsStandWithGate h s.rows host → MeetsAll h host c.migrate.new.host (IsLeftAs (h.said host) s.state)) c.self.view_is
-    (λ gated. c.in_ok-migrate.ensures.any_moment tells (subst (λ (rows : StoredRows). RowsStandWithGate h rows host) (sym c.are_old_form.ensures.same) gated))
+module _ (g : Over) (c : After-commit g) where
+  of : IsMigrationOf c.args.self.state c.migration_of.new.rows c.in-Ok-Some.ready
+  of = subst (IsMigration c.args.self.state c.migration_of.new.rows) c.in-Ok-Some.field-0-is c.in-Ok-Some.ensures.migration
+
+  needed : IsTrue (needs_migration c.args.self.rows.rows)
+  needed = let same = c.migration_of.ensures in was_needed g.H.Host c.args.self c.requires.found c.migration_of.new.rows same.records same.rows c.args.host.now c.in-Ok-Some.ready of
+
+  bytes : commit_cost c.in-Ok-Some.ready ≡ opening_bytes (needs_migration c.args.self.rows.rows) (place c.args.self.rows) c.args.self.state
+  bytes = let same = c.migration_of.ensures in bytes_written g.H.Host c.args.self c.requires.found c.migration_of.new.rows same.records same.rows c.args.host.now c.in-Ok-Some.ready of
+
+  moments : g.H.Host.tells → RowsStandWithGate g.H.Host c.args.self.rows c.args.host.now → MeetsAll g.H.Host c.args.host.now c.commit.new.host (IsLeftAs (g.H.Host.said c.args.host.now) c.args.self.state)
+  moments tells =
+      let same = c.migration_of.ensures in
+      left_written g.H.Host c.args.self c.requires.found c.migration_of.new.rows same.records same.rows c.args.host.now c.in-Ok-Some.ready of c.commit.new.host (c.commit.ensures.any_moment tells)
+
+pub returns-in-Ok-clause-any_moment : goal.returns-in-Ok-clause-any_moment
+returns-in-Ok-clause-any_moment g c = moments g (goal.at.returns-in-Ok-clause-any_moment g c).After-commit
+
+pub returns-in-Err-commit-clause-any_moment : goal.returns-in-Err-commit-clause-any_moment
+returns-in-Err-commit-clause-any_moment g c = moments g (goal.at.returns-in-Err-commit-clause-any_moment g c).After-commit
+
+pub returns-in-Ok-clause-unneeded : goal.returns-in-Ok-clause-unneeded
+returns-in-Ok-clause-unneeded g c never = absurd (never (needed g (goal.at.returns-in-Ok-clause-unneeded g c).After-commit))
+
+pub returns-in-Err-commit-clause-unneeded : goal.returns-in-Err-commit-clause-unneeded
+returns-in-Err-commit-clause-unneeded g c never = absurd (never (needed g (goal.at.returns-in-Err-commit-clause-unneeded g c).After-commit))
+
+pub returns-in-Ok-clause-place : goal.returns-in-Ok-clause-place
+returns-in-Ok-clause-place g c =
+    let same = c.migration_of.ensures in
+    ap place c.new-in-Ok.ensures.rows ∙ c.in-Ok.ensures.place
+    ∙ place_moves g.H.Host c.args.self c.requires.found c.migration_of.new.rows same.records same.rows c.args.host.now c.in-Ok-Some.ready (of g (goal.at.returns-in-Ok-clause-place g c).After-commit)
+
+pub returns-in-Ok-clause-cost : goal.returns-in-Ok-clause-cost
+returns-in-Ok-clause-cost g c tells =
+    let is = bytes g (goal.at.returns-in-Ok-clause-cost g c).After-commit in
+    let cost = c.in-Ok.ensures.cost tells in
+    record { exact = omega (arith, cost.exact, is); least = cost.least; most = omega (arith, cost.most, is) }
+
+pub returns-in-Err-commit-clause-cost : goal.returns-in-Err-commit-clause-cost
+returns-in-Err-commit-clause-cost g c tells =
+    let is = bytes g (goal.at.returns-in-Err-commit-clause-cost g c).After-commit in
+    let cost = c.in-Err-commit.ensures.cost tells in
+    record { exact = tt; least = cost.least; most = omega (arith, cost.most, is) }

@@ -1,5 +1,6 @@
 -- The rows that are written are those of the new state.
-use Rattle.std.proofs.Common.{◌≡◌, OnErr, Result, Ok, Err, ap, ◌∙◌}
+use Rattle.std.proofs.Common.{OnErr, Result, Ok, Err, ap, ◌∙◌}
+use Rattle.std.proofs.lemmas.Result.{err_from_is_err_and}
 use Rattle.row_store.specs.Store.{StoredRows}
 use Rattle.client_state.specs.declared.client_state.ClientState.{ClientState}
 use Rattle.client_store.specs.Stored.{StoredState}
@@ -31,3 +32,13 @@ with_rows s rows = record { rows = rows; state = s }
 pub returns-in_err-commit-clause-same : goal.returns-in_err-commit-clause-same
 returns-in_err-commit-clause-same g c =
     on_err c.from_residual.result (ap (with_rows c.self.inside.state) c.in_err-commit.ensures.same ∙ c.self.view_is)
+
+-- nothing is promised of `Ok` there
+pub returns-in_err-commit-clause-acknowledged : goal.returns-in_err-commit-clause-acknowledged
+returns-in_err-commit-clause-acknowledged g c tells = let p = err_from_is_err_and c.from_residual.result c.from_residual.ensures.1 in rw p.1 tt
+
+pub returns-in_err-commit-clause-state : goal.returns-in_err-commit-clause-state
+returns-in_err-commit-clause-state g c = let p = err_from_is_err_and c.from_residual.result c.from_residual.ensures.1 in rw p.1 tt
+
+pub returns-in_err-commit-clause-place : goal.returns-in_err-commit-clause-place
+returns-in_err-commit-clause-place g c = let p = err_from_is_err_and c.from_residual.result c.from_residual.ensures.1 in rw p.1 tt

@@ -1,232 +1,186 @@
 -- A store is made where there is none.
-use Rattle.std.proofs.Common.{Err, ap, refl, subst, inl, ℕ, List, length, ◌+◌, ◌∙◌}
+use Rattle.std.proofs.Common.{◌≡◌, Err, Result, IsErrOf, ap, refl, sym, subst, ℕ, List, length, ◌+◌, ◌∙◌, ⊎_elim}
 use Rattle.host_model.specs.declared.side.Side.TheVariants.{Left, Right}
-use Rattle.host_model.specs.Hosts.{NowOf}
-use Rattle.host_model.proofs.Meeting.{started}
+use Rattle.host_model.specs.Hosts.{MeetsAll}
+use Rattle.pair_store.specs.declared.faults.PairFault.TheVariants as opening
 use Rattle.pair_store.specs.Moments.{StaysBelow}
-use Rattle.pair_store.proofs.Below.{now_below}
+use Rattle.client_store.proofs.Moments.{below_quiet, still_below, still_now, text_below, then_below}
 use Rattle.row_store.specs.Rows.{HasRows, HasPlace}
-use Rattle.client_store.specs.declared.faults.MakeFault.TheVariants.{BadStore}
+use Rattle.client_state.specs.declared.client_state.ClientState.{ClientState}
+use Rattle.client_store.specs.declared.faults.MakeFault.{MakeFault}
+use Rattle.client_store.specs.declared.faults.MakeFault.TheVariants.{DiskFault}
+use Rattle.client_store.specs.Makings.{MakePhases}
+use Rattle.client_store.specs.Moments.{IsLeftAmong}
 use Rattle.client_store.specs.NewStates.{fresh}
-use Rattle.client_store.proofs.Judging.{already_store_where, bad_making_where}
-use Rattle.client_store.proofs.NewStores.{kept_not_absent, below_twice, below_quiet, opening_phases, making_phases}
-use Rattle.client_store.proofs.Openings.{found_stands}
-use Rattle.client_store.proofs.Repairing.{opening_left, opening_quiet}
+use Rattle.client_store.specs.OpenStore.{AllKeptAmong}
+use Rattle.client_store.specs.Store.{IsAbsent}
+use Rattle.client_store.proofs.Judging.{unmade_judges}
+use Rattle.client_store.proofs.NewStores.{not_refused, refused_finds, failed_alike, make_fault_is, opening_phases, making_phases}
+use Rattle.client_store.proofs.Refusing.{among_not_absent}
+use Rattle.client_store.proofs.Repairing.{opening_left}
+use Rattle.client_store.proofs.state_store.StateStore.make.Given.{Over}
+use Rattle.client_store.proofs.state_store.StateStore.make.Goals.{After-make}
 use Rattle.client_store.proofs.state_store.StateStore.make.Goals as goal
 
+-- ---- memory is wanting
+
 pub returns-in_err-first-clause-below : goal.returns-in_err-first-clause-below
-returns-in_err-first-clause-below g c tells =
-    let h = g.H.Host in
-    let host = c.args.host.now in
-    started h.moment h.might host (StaysBelow h host) (λ l r u met. now_below h host l r u (g.met.H.Host.only_now host l r u tells met))
+returns-in_err-first-clause-below g c tells = still_below g.H.Host c.args.host.now tells (g.met.H.Host.only_now c.args.host.now)
 
-pub returns-in-Ok-clause-finds : goal.returns-in-Ok-clause-finds
-returns-in-Ok-clause-finds g c tells =
-    let found = c.in-Ok.field-0 in
-    (found.state, found_stands g.H.Host c.args.host.now found c.in-Ok.ensures.found (c.in-Ok.ensures.rows tells))
+pub returns-in_err-first-clause-only_read : goal.returns-in_err-first-clause-only_read
+returns-in_err-first-clause-only_read g c tells there none = record { moments = still_now g.H.Host c.args.host.now tells (g.met.H.Host.only_now c.args.host.now); cost = refl }
 
-pub returns-in-Ok-clause-left : goal.returns-in-Ok-clause-left
-returns-in-Ok-clause-left g c tells states all =
-    let h = g.H.Host in
-    let start = c.args.host.now in
-    opening_left h start c.open.new.host states (g.met.H.Host.read_is_image start Left tells) (g.met.H.Host.read_is_image start Right tells) all (c.open.ensures.any_moment tells)
+-- ---- there is none, and one is made
 
-pub returns-in-Ok-clause-text : goal.returns-in-Ok-clause-text
-returns-in-Ok-clause-text g c tells =
-    let h = g.H.Host in
-    let start = c.args.host.now in
-    let new = c.open.new.host in
-    let l = h.reads new Left in
-    let r = h.reads new Right in
-    let run = c.open.ensures.any_moment tells in
-    opening_quiet h start l r (h.said new)
-    (run.each l r (h.said new) (g.met.H.Host.counts_now new (h.moment start) l r (h.said new) tells run.later (g.met.H.Host.read_is_image new Left tells, g.met.H.Host.read_is_image new Right tells, refl)))
+pub make-requires-clause-closed : goal.make-requires-clause-closed
+make-requires-clause-closed g c tells = c.open.ensures.none_open tells (not_refused c.open.result (sym c.refusal.ensures ∙ c.in-None.is))
 
-pub returns-in_err-make-in-Err-NoStore-clause-left : goal.returns-in_err-make-in-Err-NoStore-clause-left
-returns-in_err-make-in-Err-NoStore-clause-left g c tells states all =
-    let h = g.H.Host in
-    let start = c.args.host.now in
-    let l = h.reads start Left in
-    let r = h.reads start Right in
-    absurd (kept_not_absent l r states (all l r (g.met.H.Host.read_is_image start Left tells) (g.met.H.Host.read_is_image start Right tells)) (c.in-Err-NoStore.ensures.no_store tells (ap Err c.in-Err-NoStore.field-0-is)))
+module _ (g : Over) (c : After-make g) where
+  none : IsErrOf c.open.result opening.NoStore
+  none = not_refused c.open.result (sym c.refusal.ensures ∙ c.in-None.is)
 
-pub returns-in_err-make-in-Err-NoStore-clause-below : goal.returns-in_err-make-in-Err-NoStore-clause-below
-returns-in_err-make-in-Err-NoStore-clause-below g c tells =
-    let h = g.H.Host in
-    let start = c.args.host.now in
-    let mid = c.open.new.host in
-    let first = c.open.ensures.below tells in
-    below_twice h start mid c.make.new.host (λ l r left right. first.each l r (h.said mid) (g.met.H.Host.counts_now mid (h.moment start) l r (h.said mid) tells first.later (left, right, refl))) (c.make.ensures.below tells) first
+  module _ (tells : g.H.Host.tells) where
+    absent : IsAbsent (g.H.Host.reads c.args.host.now Left) (g.H.Host.reads c.args.host.now Right)
+    absent = c.open.ensures.no_store tells none
 
-pub returns-in_err-make-in-Err-NoStore-clause-any_moment : goal.returns-in_err-make-in-Err-NoStore-clause-any_moment
-returns-in_err-make-in-Err-NoStore-clause-any_moment g c tells = below_quiet g.H.Host c.args.host.now c.make.new.host (returns-in_err-make-in-Err-NoStore-clause-below g c tells)
+    below : MeetsAll g.H.Host c.args.host.now c.make.new.host (StaysBelow g.H.Host c.args.host.now)
+    below =
+        let mid = c.open.new.host in
+        then_below g.H.Host c.args.host.now mid tells (g.met.H.Host.counts_now mid) (g.met.H.Host.read_is_image mid) (c.open.ensures.below tells) c.make.new.host (c.make.ensures.below tells)
 
-pub returns-in_err-make-in-Err-NoStore-clause-text : goal.returns-in_err-make-in-Err-NoStore-clause-text
-returns-in_err-make-in-Err-NoStore-clause-text g c tells =
-    let h = g.H.Host in
-    let start = c.args.host.now in
-    let new = c.make.new.host in
-    let l = h.reads new Left in
-    let r = h.reads new Right in
-    let run = returns-in_err-make-in-Err-NoStore-clause-below g c tells in
-    (run.each l r (h.said new) (g.met.H.Host.counts_now new (h.moment start) l r (h.said new) tells run.later (g.met.H.Host.read_is_image new Left tells, g.met.H.Host.read_is_image new Right tells, refl))).1
+    text : g.H.Host.said c.make.new.host ≡ g.H.Host.said c.args.host.now
+    text = let new = c.make.new.host in text_below g.H.Host c.args.host.now new tells (g.met.H.Host.counts_now new) (g.met.H.Host.read_is_image new) below
 
-pub returns-in-Err-NoStore-clause-left : goal.returns-in-Err-NoStore-clause-left
-returns-in-Err-NoStore-clause-left g c tells states all =
-    let h = g.H.Host in
-    let start = c.args.host.now in
-    let l = h.reads start Left in
-    let r = h.reads start Right in
-    absurd (kept_not_absent l r states (all l r (g.met.H.Host.read_is_image start Left tells) (g.met.H.Host.read_is_image start Right tells)) (c.in-Err-NoStore.ensures.no_store tells (ap Err c.in-Err-NoStore.field-0-is)))
+    left : (states : List ClientState) → AllKeptAmong g.H.Host c.args.host.now states → MeetsAll g.H.Host c.args.host.now c.make.new.host (IsLeftAmong (g.H.Host.said c.args.host.now) states)
+    left states all =
+        let h = g.H.Host in
+        let start = c.args.host.now in
+        absurd (among_not_absent (h.reads start Left) (h.reads start Right) states (all (h.reads start Left) (h.reads start Right) (g.met.H.Host.read_is_image start Left tells) (g.met.H.Host.read_is_image start Right tells)) absent)
 
-pub returns-in-Err-NoStore-clause-below : goal.returns-in-Err-NoStore-clause-below
-returns-in-Err-NoStore-clause-below g c tells =
-    let h = g.H.Host in
-    let start = c.args.host.now in
-    let mid = c.open.new.host in
-    let first = c.open.ensures.below tells in
-    below_twice h start mid c.make.new.host (λ l r left right. first.each l r (h.said mid) (g.met.H.Host.counts_now mid (h.moment start) l r (h.said mid) tells first.later (left, right, refl))) (c.make.ensures.below tells) first
+    phases : {T : Type 0} (made : Result T MakeFault) → MakePhases g.H.Host (fresh c.args.id c.args.now) c.args.host.now c.make.new.host made
+    phases made =
+        making_phases g.H.Host (fresh c.args.id c.args.now) c.args.host.now c.open.new.host c.make.new.host _ made c.in_ok-first.ensures.text absent (c.open.ensures.only_read tells) (c.open.ensures.none_written tells none)
+        (c.make.ensures.any_moment tells)
 
-pub returns-in-Err-NoStore-clause-any_moment : goal.returns-in-Err-NoStore-clause-any_moment
-returns-in-Err-NoStore-clause-any_moment g c tells = below_quiet g.H.Host c.args.host.now c.make.new.host (returns-in-Err-NoStore-clause-below g c tells)
+pub returns-in_err-make-in-None-clause-below : goal.returns-in_err-make-in-None-clause-below
+returns-in_err-make-in-None-clause-below g c tells = below g (goal.at.returns-in_err-make-in-None-clause-below g c).After-make tells
 
-pub returns-in-Err-NoStore-clause-text : goal.returns-in-Err-NoStore-clause-text
-returns-in-Err-NoStore-clause-text g c tells =
-    let h = g.H.Host in
-    let start = c.args.host.now in
-    let new = c.make.new.host in
-    let l = h.reads new Left in
-    let r = h.reads new Right in
-    let run = returns-in-Err-NoStore-clause-below g c tells in
-    (run.each l r (h.said new) (g.met.H.Host.counts_now new (h.moment start) l r (h.said new) tells run.later (g.met.H.Host.read_is_image new Left tells, g.met.H.Host.read_is_image new Right tells, refl))).1
+pub returns-in_err-make-in-None-clause-any_moment : goal.returns-in_err-make-in-None-clause-any_moment
+returns-in_err-make-in-None-clause-any_moment g c tells = below_quiet g.H.Host c.args.host.now c.make.new.host (below g (goal.at.returns-in_err-make-in-None-clause-any_moment g c).After-make tells)
 
-pub returns-in-Err-BadStore-clause-left : goal.returns-in-Err-BadStore-clause-left
-returns-in-Err-BadStore-clause-left g c tells states all =
-    let h = g.H.Host in
-    let start = c.args.host.now in
-    opening_left h start c.open.new.host states (g.met.H.Host.read_is_image start Left tells) (g.met.H.Host.read_is_image start Right tells) all (c.open.ensures.any_moment tells)
+pub returns-in_err-make-in-None-clause-text : goal.returns-in_err-make-in-None-clause-text
+returns-in_err-make-in-None-clause-text g c tells = text g (goal.at.returns-in_err-make-in-None-clause-text g c).After-make tells
 
-pub returns-in-Err-BadStore-clause-text : goal.returns-in-Err-BadStore-clause-text
-returns-in-Err-BadStore-clause-text g c tells =
-    let h = g.H.Host in
-    let start = c.args.host.now in
-    let new = c.open.new.host in
-    let l = h.reads new Left in
-    let r = h.reads new Right in
-    let run = c.open.ensures.any_moment tells in
-    opening_quiet h start l r (h.said new)
-    (run.each l r (h.said new) (g.met.H.Host.counts_now new (h.moment start) l r (h.said new) tells run.later (g.met.H.Host.read_is_image new Left tells, g.met.H.Host.read_is_image new Right tells, refl)))
+pub returns-in_err-make-in-None-clause-left : goal.returns-in_err-make-in-None-clause-left
+returns-in_err-make-in-None-clause-left g c tells = left g (goal.at.returns-in_err-make-in-None-clause-left g c).After-make tells
 
-pub returns-in-Err-DiskFault-clause-left : goal.returns-in-Err-DiskFault-clause-left
-returns-in-Err-DiskFault-clause-left g c tells states all =
-    let h = g.H.Host in
-    let start = c.args.host.now in
-    opening_left h start c.open.new.host states (g.met.H.Host.read_is_image start Left tells) (g.met.H.Host.read_is_image start Right tells) all (c.open.ensures.any_moment tells)
+pub returns-in_err-make-in-None-clause-phases : goal.returns-in_err-make-in-None-clause-phases
+returns-in_err-make-in-None-clause-phases g c tells = phases g (goal.at.returns-in_err-make-in-None-clause-phases g c).After-make tells _
 
-pub returns-in-Err-DiskFault-clause-text : goal.returns-in-Err-DiskFault-clause-text
-returns-in-Err-DiskFault-clause-text g c tells =
-    let h = g.H.Host in
-    let start = c.args.host.now in
-    let new = c.open.new.host in
-    let l = h.reads new Left in
-    let r = h.reads new Right in
-    let run = c.open.ensures.any_moment tells in
-    opening_quiet h start l r (h.said new)
-    (run.each l r (h.said new) (g.met.H.Host.counts_now new (h.moment start) l r (h.said new) tells run.later (g.met.H.Host.read_is_image new Left tells, g.met.H.Host.read_is_image new Right tells, refl)))
+pub returns-in_err-make-in-None-clause-opening : goal.returns-in_err-make-in-None-clause-opening
+returns-in_err-make-in-None-clause-opening g c tells there = absurd (there (absent g (goal.at.returns-in_err-make-in-None-clause-opening g c).After-make tells))
 
-pub returns-clause-left : goal.returns-clause-left
-returns-clause-left g c tells states all =
-    let h = g.H.Host in
-    let start = c.args.host.now in
-    opening_left h start c.open.new.host states (g.met.H.Host.read_is_image start Left tells) (g.met.H.Host.read_is_image start Right tells) all (c.open.ensures.any_moment tells)
+pub returns-in_err-make-in-None-clause-quiet : goal.returns-in_err-make-in-None-clause-quiet
+returns-in_err-make-in-None-clause-quiet g c tells there = absurd (there (absent g (goal.at.returns-in_err-make-in-None-clause-quiet g c).After-make tells))
 
-pub returns-clause-text : goal.returns-clause-text
-returns-clause-text g c tells =
-    let h = g.H.Host in
-    let start = c.args.host.now in
-    let new = c.open.new.host in
-    let l = h.reads new Left in
-    let r = h.reads new Right in
-    let run = c.open.ensures.any_moment tells in
-    opening_quiet h start l r (h.said new)
-    (run.each l r (h.said new) (g.met.H.Host.counts_now new (h.moment start) l r (h.said new) tells run.later (g.met.H.Host.read_is_image new Left tells, g.met.H.Host.read_is_image new Right tells, refl)))
+pub returns-in_err-make-in-None-clause-only_read : goal.returns-in_err-make-in-None-clause-only_read
+returns-in_err-make-in-None-clause-only_read g c tells there none_listed = absurd (there (absent g (goal.at.returns-in_err-make-in-None-clause-only_read g c).After-make tells))
 
-pub returns-in-Err-NoStore-clause-encoded : goal.returns-in-Err-NoStore-clause-encoded
-returns-in-Err-NoStore-clause-encoded g c tells =
+pub returns-in-None-clause-below : goal.returns-in-None-clause-below
+returns-in-None-clause-below g c tells = below g (goal.at.returns-in-None-clause-below g c).After-make tells
+
+pub returns-in-None-clause-any_moment : goal.returns-in-None-clause-any_moment
+returns-in-None-clause-any_moment g c tells = below_quiet g.H.Host c.args.host.now c.make.new.host (below g (goal.at.returns-in-None-clause-any_moment g c).After-make tells)
+
+pub returns-in-None-clause-text : goal.returns-in-None-clause-text
+returns-in-None-clause-text g c tells = text g (goal.at.returns-in-None-clause-text g c).After-make tells
+
+pub returns-in-None-clause-left : goal.returns-in-None-clause-left
+returns-in-None-clause-left g c tells = left g (goal.at.returns-in-None-clause-left g c).After-make tells
+
+pub returns-in-None-clause-phases : goal.returns-in-None-clause-phases
+returns-in-None-clause-phases g c tells = phases g (goal.at.returns-in-None-clause-phases g c).After-make tells _
+
+pub returns-in-None-clause-opening : goal.returns-in-None-clause-opening
+returns-in-None-clause-opening g c tells there = absurd (there (absent g (goal.at.returns-in-None-clause-opening g c).After-make tells))
+
+pub returns-in-None-clause-quiet : goal.returns-in-None-clause-quiet
+returns-in-None-clause-quiet g c tells there = absurd (there (absent g (goal.at.returns-in-None-clause-quiet g c).After-make tells))
+
+pub returns-in-None-clause-only_read : goal.returns-in-None-clause-only_read
+returns-in-None-clause-only_read g c tells there none_listed = absurd (there (absent g (goal.at.returns-in-None-clause-only_read g c).After-make tells))
+
+pub returns-in-None-clause-finds : goal.returns-in-None-clause-finds
+returns-in-None-clause-finds g c tells = absent g (goal.at.returns-in-None-clause-finds g c).After-make tells
+
+pub returns-in-None-clause-encoded : goal.returns-in-None-clause-encoded
+returns-in-None-clause-encoded g c tells =
     let h = g.H.Host in
     let new = c.make.new.host in
-    let kept = (c.in_ok-make-in-Err-NoStore.ensures.made tells).each (h.reads new Left) (h.reads new Right) (g.met.H.Host.read_is_image new Left tells) (g.met.H.Host.read_is_image new Right tells) in
+    let kept = (c.in_ok-make-in-None.ensures.made tells).each (h.reads new Left) (h.reads new Right) (g.met.H.Host.read_is_image new Left tells) (g.met.H.Host.read_is_image new Right tells) in
     subst (HasRows (h.reads new Left) (h.reads new Right)) c.in_ok-first.ensures.gives (kept.0, (kept.1.0, kept.1.1), kept.2)
 
-pub returns-in-Err-NoStore-clause-place : goal.returns-in-Err-NoStore-clause-place
-returns-in-Err-NoStore-clause-place g c tells =
+pub returns-in-None-clause-place : goal.returns-in-None-clause-place
+returns-in-None-clause-place g c tells =
     let h = g.H.Host in
     let new = c.make.new.host in
-    subst (λ (text : List ℕ). HasPlace (h.reads new Left) (h.reads new Right) (length text + 14)) c.in_ok-first.ensures.text (c.in_ok-make-in-Err-NoStore.ensures.place tells)
+    subst (λ (text : List ℕ). HasPlace (h.reads new Left) (h.reads new Right) (length text + 14)) c.in_ok-first.ensures.text (c.in_ok-make-in-None.ensures.place tells)
 
-pub returns-in-Ok-clause-bad_store_where : goal.returns-in-Ok-clause-bad_store_where
-returns-in-Ok-clause-bad_store_where g c tells bad = bad_making_where (g.H.Host.reads c.args.host.now Left) (g.H.Host.reads c.args.host.now Right) _ (returns-in-Ok-clause-finds g c tells) bad
+pub returns-in-None-clause-disk_quiet : goal.returns-in-None-clause-disk_quiet
+returns-in-None-clause-disk_quiet g c sound =
+    let none_found = none g (goal.at.returns-in-None-clause-disk_quiet g c).After-make in
+    c.in_ok-make-in-None.ensures.disk_quiet (λ is. absurd cc) ∙ c.open.ensures.disk_quiet (λ is. absurd cc)
 
-pub returns-in-Err-BadStore-clause-already_store_where : goal.returns-in-Err-BadStore-clause-already_store_where
-returns-in-Err-BadStore-clause-already_store_where g c tells store =
-    already_store_where (g.H.Host.reads c.args.host.now Left) (g.H.Host.reads c.args.host.now Right) (Err BadStore) (c.in-Err-BadStore.ensures.bad_store tells (ap Err c.in-Err-BadStore.field-0-is)) store
+-- ---- it is refused
 
--- ---- its phases
+pub returns-clause-finds : goal.returns-clause-finds
+returns-clause-finds g c tells =
+    let h = g.H.Host in
+    let start = c.args.host.now in
+    refused_finds (h.reads start Left) (h.reads start Right) c.open.result c.in-Some.fault (sym c.refusal.ensures ∙ c.in-Some.is) c.open.ensures.found (c.open.ensures.rows tells)
+    (c.open.ensures.bad_store tells)
 
-pub returns-in-Ok-clause-phases : goal.returns-in-Ok-clause-phases
-returns-in-Ok-clause-phases g c tells = opening_phases g.H.Host (fresh c.args.id c.args.now) c.args.host.now c.open.new.host _ _ (c.in-Ok.ensures.phases tells) (λ is. absurd cc)
+pub returns-clause-made_where : goal.returns-clause-made_where
+returns-clause-made_where g c tells = (unmade_judges {T = Unit {0}} (g.H.Host.reads c.args.host.now Left) (g.H.Host.reads c.args.host.now Right) c.in-Some.fault (returns-clause-finds g c tells)).made
 
-pub returns-in_err-make-in-Err-NoStore-clause-phases : goal.returns-in_err-make-in-Err-NoStore-clause-phases
-returns-in_err-make-in-Err-NoStore-clause-phases g c tells =
-    let absent = c.in-Err-NoStore.ensures.no_store tells (ap Err c.in-Err-NoStore.field-0-is) in
-    let unwritten = c.in-Err-NoStore.ensures.none_written tells (ap Err c.in-Err-NoStore.field-0-is) in
-    inl (making_phases g.H.Host (fresh c.args.id c.args.now) c.args.host.now c.open.new.host c.make.new.host _ c.in_ok-first.ensures.text absent (c.open.ensures.only_read tells) unwritten (c.make.ensures.any_moment tells))
+pub returns-clause-already_store_where : goal.returns-clause-already_store_where
+returns-clause-already_store_where g c tells = (unmade_judges {T = Unit {0}} (g.H.Host.reads c.args.host.now Left) (g.H.Host.reads c.args.host.now Right) c.in-Some.fault (returns-clause-finds g c tells)).already_store
 
-pub returns-in-Err-NoStore-clause-phases : goal.returns-in-Err-NoStore-clause-phases
-returns-in-Err-NoStore-clause-phases g c tells =
-    let absent = c.in-Err-NoStore.ensures.no_store tells (ap Err c.in-Err-NoStore.field-0-is) in
-    let unwritten = c.in-Err-NoStore.ensures.none_written tells (ap Err c.in-Err-NoStore.field-0-is) in
-    inl (making_phases g.H.Host (fresh c.args.id c.args.now) c.args.host.now c.open.new.host c.make.new.host _ c.in_ok-first.ensures.text absent (c.open.ensures.only_read tells) unwritten (c.make.ensures.any_moment tells))
+pub returns-clause-bad_store_where : goal.returns-clause-bad_store_where
+returns-clause-bad_store_where g c tells = (unmade_judges {T = Unit {0}} (g.H.Host.reads c.args.host.now Left) (g.H.Host.reads c.args.host.now Right) c.in-Some.fault (returns-clause-finds g c tells)).bad_store
 
-pub returns-in-Err-BadStore-clause-phases : goal.returns-in-Err-BadStore-clause-phases
-returns-in-Err-BadStore-clause-phases g c tells =
-    opening_phases g.H.Host (fresh c.args.id c.args.now) c.args.host.now c.open.new.host _ _ (c.in-Err-BadStore.ensures.phases tells) (λ is. let other = c.in-Err-BadStore.field-0-is in absurd cc)
-
-pub returns-in-Err-DiskFault-clause-phases : goal.returns-in-Err-DiskFault-clause-phases
-returns-in-Err-DiskFault-clause-phases g c tells = opening_phases g.H.Host (fresh c.args.id c.args.now) c.args.host.now c.open.new.host _ _ (c.in-Err-DiskFault.ensures.phases tells) (λ is. refl)
+pub returns-clause-left_as_read : goal.returns-clause-left_as_read
+returns-clause-left_as_read g c tells is =
+    let alike = failed_alike c.open.result c.in-Some.fault (sym c.refusal.ensures ∙ c.in-Some.is) in
+    c.open.ensures.left tells (λ failed. let disk = alike.0 failed in ⊎_elim (λ already. absurd cc) (λ bad. absurd cc) is)
 
 pub returns-clause-phases : goal.returns-clause-phases
 returns-clause-phases g c tells =
-    opening_phases g.H.Host (fresh c.args.id c.args.now) c.args.host.now c.open.new.host _ _ (c.in-Err-OutOfMemory.ensures.phases tells) (λ is. let other = c.in-Err-OutOfMemory.field-0-is in absurd cc)
+    let alike = failed_alike c.open.result c.in-Some.fault (sym c.refusal.ensures ∙ c.in-Some.is) in
+    opening_phases g.H.Host (fresh c.args.id c.args.now) c.args.host.now c.open.new.host c.open.result _ (c.open.ensures.phases tells) (λ failed. ap Err (alike.0 failed))
 
--- ---- nothing is written where the pair has no list
+pub returns-clause-only_read : goal.returns-clause-only_read
+returns-clause-only_read g c tells there none = c.open.ensures.only_read tells none
 
-pub returns-in_err-first-clause-only_read : goal.returns-in_err-first-clause-only_read
-returns-in_err-first-clause-only_read g c tells there none =
-    let h = g.H.Host in
-    let host = c.args.host.now in
-    record { moments = started h.moment h.might host (NowOf h host) (λ l r u met. g.met.H.Host.only_now host l r u tells met); cost = refl }
+pub returns-clause-left : goal.returns-clause-left
+returns-clause-left g c tells states all =
+    let start = c.args.host.now in
+    opening_left g.H.Host start c.open.new.host states (g.met.H.Host.read_is_image start Left tells) (g.met.H.Host.read_is_image start Right tells) all (c.open.ensures.any_moment tells)
 
-pub returns-in-Ok-clause-only_read : goal.returns-in-Ok-clause-only_read
-returns-in-Ok-clause-only_read g c tells there none = let rows = c.in-Ok.ensures.rows tells in absurd (none rows.0 rows.1)
+pub returns-clause-any_moment : goal.returns-clause-any_moment
+returns-clause-any_moment g c tells = below_quiet g.H.Host c.args.host.now c.open.new.host (c.open.ensures.below tells)
 
-pub returns-in_err-make-in-Err-NoStore-clause-only_read : goal.returns-in_err-make-in-Err-NoStore-clause-only_read
-returns-in_err-make-in-Err-NoStore-clause-only_read g c tells there none = absurd (there (c.in-Err-NoStore.ensures.no_store tells (ap Err c.in-Err-NoStore.field-0-is)))
+pub returns-clause-text : goal.returns-clause-text
+returns-clause-text g c tells =
+    let new = c.open.new.host in
+    text_below g.H.Host c.args.host.now new tells (g.met.H.Host.counts_now new) (g.met.H.Host.read_is_image new) (c.open.ensures.below tells)
 
-pub returns-in-Err-NoStore-clause-only_read : goal.returns-in-Err-NoStore-clause-only_read
-returns-in-Err-NoStore-clause-only_read g c tells there none = absurd (there (c.in-Err-NoStore.ensures.no_store tells (ap Err c.in-Err-NoStore.field-0-is)))
-
--- ---- the disk has not failed
-
-pub returns-in-Ok-clause-disk_quiet : goal.returns-in-Ok-clause-disk_quiet
-returns-in-Ok-clause-disk_quiet g c sound = c.in-Ok.ensures.disk_quiet (λ is. absurd cc)
-
-pub returns-in-Err-NoStore-clause-disk_quiet : goal.returns-in-Err-NoStore-clause-disk_quiet
-returns-in-Err-NoStore-clause-disk_quiet g c sound =
-    c.in_ok-make-in-Err-NoStore.ensures.disk_quiet (λ is. absurd cc) ∙ c.in-Err-NoStore.ensures.disk_quiet (λ is. let other = c.in-Err-NoStore.field-0-is in absurd cc)
-
-pub returns-in-Err-BadStore-clause-disk_quiet : goal.returns-in-Err-BadStore-clause-disk_quiet
-returns-in-Err-BadStore-clause-disk_quiet g c sound = c.in-Err-BadStore.ensures.disk_quiet (λ is. let other = c.in-Err-BadStore.field-0-is in absurd cc)
+pub returns-clause-cause : goal.returns-clause-cause
+returns-clause-cause g c is =
+    let alike = failed_alike c.open.result c.in-Some.fault (sym c.refusal.ensures ∙ c.in-Some.is) in
+    c.open.ensures.cause (alike.1 (make_fault_is c.in-Some.fault DiskFault is))
 
 pub returns-clause-disk_quiet : goal.returns-clause-disk_quiet
-returns-clause-disk_quiet g c sound = c.in-Err-OutOfMemory.ensures.disk_quiet (λ is. let other = c.in-Err-OutOfMemory.field-0-is in absurd cc)
+returns-clause-disk_quiet g c sound =
+    let alike = failed_alike c.open.result c.in-Some.fault (sym c.refusal.ensures ∙ c.in-Some.is) in
+    c.open.ensures.disk_quiet (λ failed. sound (ap Err (alike.0 failed)))
