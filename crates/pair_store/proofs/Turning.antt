@@ -10,7 +10,7 @@ use Rattle.gate_journal.specs.Journal.{StandsWithGate, IsShutOrHas, SameButFirst
 use Rattle.gate_journal.specs.OpenSide.{OpenSide}
 use Rattle.gate_journal.specs.Records.{made_on, place_of, IsKept, IsOpen, IsShut}
 use Rattle.pair_store.specs.Moments.{HasEither, KeepsEither}
-use Rattle.pair_store.specs.Pair.{generation_after, HasKeptList, IsEarlier}
+use Rattle.pair_store.specs.Pair.{generation_after, Counts, HasKeptList, IsEarlier}
 use Rattle.pair_store.specs.Store.{PairStands, PairStandsWithGate, IsTurned}
 use Rattle.gate_journal.proofs.Standing.{kept_of_stands}
 use Rattle.pair_store.proofs.Beside.{on_other_twice}
@@ -78,18 +78,13 @@ module _ {H : Type 0} (h : Ghosts H) (side : Side) (generation : ℕ) (payloads 
     turned_met first second = then_met h.moment h.might start mid new _ _ _ first second while_made while_closed
 
   -- in the pair's own words
+  counts_before : (l r : List ℕ) → h.images start side (on side l r) → IsShut (on (other side) l r) → Counts payloads (on side l r) (on (other side) l r)
+  counts_before l r image shut = record { generation = generation; side = subst (IsOpen generation payloads) (sym (only (on side l r) image)) here; some = some; rest = inl shut }
+
   pub has_either : (new : H) → MeetsAll h start new (IsTurning h side start whole) → MeetsAll h start new (HasEither h start payloads (whole ∷ []))
   has_either new run = met_weaker h.moment h.might start new _ _ run (λ l r u met. (
     elim met.0 [
-      | inl before ↦ inl (
-        side,
-        record {
-          generation = generation;
-          side = subst (IsOpen generation payloads) (sym (only (on side l r) before.0)) here;
-          some = some;
-          rest = inl before.1;
-        },
-      )
+      | inl before ↦ inl (side, counts_before l r before.0 before.1)
       | inr after ↦ inr after
     ],
     met.1,
@@ -98,16 +93,7 @@ module _ {H : Type 0} (h : Ghosts H) (side : Side) (generation : ℕ) (payloads 
   pub keeps_either : (new : H) → place_of payloads < length (h.reads start side) → MeetsAll h start new (IsTurning h side start whole) → MeetsAll h start new (KeepsEither h start payloads (whole ∷ []))
   keeps_either new gate run = met_weaker h.moment h.might start new _ _ run (λ l r u met. (
     elim met.0 [
-      | inl before ↦ inl (
-        side,
-        record {
-          generation = generation;
-          side = subst (IsOpen generation payloads) (sym (only (on side l r) before.0)) here;
-          some = some;
-          rest = inl before.1;
-        },
-        subst (λ (c : List ℕ). place_of payloads < length c) (sym (only (on side l r) before.0)) gate,
-      )
+      | inl before ↦ inl (side, counts_before l r before.0 before.1, subst (λ (c : List ℕ). place_of payloads < length c) (sym (only (on side l r) before.0)) gate)
       | inr after ↦ inr after
     ],
     met.1,

@@ -6,7 +6,7 @@ use host_model::DiskFailed;
 pub enum PairFault {
     /// Neither side's first byte is 1.
     NoStore,
-    /// A side's first byte is 1, and the two sides have no list of payloads.
+    /// A side's first byte is 1, and what is opened isn't there: a list of payloads, or what a crate above keeps in one.
     BadStore,
     /// The disk has failed.
     DiskFault,

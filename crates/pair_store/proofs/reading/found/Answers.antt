@@ -1,8 +1,11 @@
 use Rattle.std.proofs.Common.{inr, ℕ, List, Err, refl, sym, ◌∙◌, ap, subst}
 use Rattle.host_model.specs.declared.side.Side.{Side}
+use Rattle.gate_journal.specs.Opening.{SyncsAndReads}
 use Rattle.gate_journal.specs.Records.{IsOpen}
 use Rattle.gate_journal.specs.declared.faults.OpenFault.{OpenFault}
 use Rattle.pair_store.proofs.Synced.{side_read, synced_and_read, then_still}
+use Rattle.pair_store.proofs.reading.found.Given.{Over}
+use Rattle.pair_store.proofs.reading.found.Goals.{After-found_closed}
 use Rattle.pair_store.proofs.reading.found.Goals as goal
 
 pub returns-in-Ok-clause-found : goal.returns-in-Ok-clause-found
@@ -44,20 +47,15 @@ returns-in-Err-OutOfMemory-clause-phases g c tells =
     let is = c.in-Err-OutOfMemory.is ∙ ap (λ (e : OpenFault). Err e) c.in-Err-OutOfMemory.field-0-is in
     side_read g.H.Host c.args.side c.args.host.now c.open.new.host c.open.result _ (λ failed. let both = sym is ∙ failed in cc) (c.open.ensures.phases tells)
 
-pub returns-in_err-found_closed-in-Err-Closed-clause-phases : goal.returns-in_err-found_closed-in-Err-Closed-clause-phases
-returns-in_err-found_closed-in-Err-Closed-clause-phases g c tells =
-    let h = g.H.Host in
-    let start = c.args.host.now in
-    let mid = c.open.new.host in
+still_read : (g : Over) (c : After-found_closed g) → g.H.Host.tells → SyncsAndReads g.H.Host c.args.side c.args.host.now c.found_closed.new.host
+still_read g c tells =
     let is = c.in-Err-Closed.is ∙ ap (λ (e : OpenFault). Err e) c.in-Err-Closed.field-0-is in
-    inr (then_still h c.args.side start mid c.found_closed.new.host (synced_and_read h c.args.side start mid c.open.result (λ failed. let both = sym is ∙ failed in cc) (c.open.ensures.phases tells))
-    (c.found_closed.ensures.still tells) (c.found_closed.ensures.any_moment tells))
+    then_still g.H.Host c.args.side c.args.host.now c.open.new.host c.found_closed.new.host
+    (synced_and_read g.H.Host c.args.side c.args.host.now c.open.new.host c.open.result (λ failed. let both = sym is ∙ failed in cc) (c.open.ensures.phases tells))
+    (c.found_closed.ensures.still tells) (c.found_closed.ensures.any_moment tells)
+
+pub returns-in_err-found_closed-in-Err-Closed-clause-phases : goal.returns-in_err-found_closed-in-Err-Closed-clause-phases
+returns-in_err-found_closed-in-Err-Closed-clause-phases g c tells = inr (still_read g (goal.at.returns-in_err-found_closed-in-Err-Closed-clause-phases g c).After-found_closed tells)
 
 pub returns-in_ok-found_closed-in-Err-Closed-clause-phases : goal.returns-in_ok-found_closed-in-Err-Closed-clause-phases
-returns-in_ok-found_closed-in-Err-Closed-clause-phases g c tells =
-    let h = g.H.Host in
-    let start = c.args.host.now in
-    let mid = c.open.new.host in
-    let is = c.in-Err-Closed.is ∙ ap (λ (e : OpenFault). Err e) c.in-Err-Closed.field-0-is in
-    inr (then_still h c.args.side start mid c.found_closed.new.host (synced_and_read h c.args.side start mid c.open.result (λ failed. let both = sym is ∙ failed in cc) (c.open.ensures.phases tells))
-    (c.found_closed.ensures.still tells) (c.found_closed.ensures.any_moment tells))
+returns-in_ok-found_closed-in-Err-Closed-clause-phases g c tells = inr (still_read g (goal.at.returns-in_ok-found_closed-in-Err-Closed-clause-phases g c).After-found_closed tells)
