@@ -5,7 +5,7 @@ use Rattle.std.proofs.lemmas.List.{set-get_or}
 use Rattle.enrol_states.specs.Consistent.{IsConsistent}
 use Rattle.enrol_states.specs.Equal.{row_eq}
 use Rattle.enrol_states.specs.Equals.{row_Decides}
-use Rattle.enrol_states.specs.declared.next_list.NextList.{NextList}
+use Rattle.sequences.specs.declared.next_list.NextList.{NextList}
 use Rattle.enrol_states.specs.declared.next_state.NextState.{NextState}
 use Rattle.enrol_states.specs.declared.state.Row.{Row}
 use Rattle.enrol_states.specs.declared.state.State.{State}

@@ -1,5 +1,4 @@
 pub mod Fresh
-pub mod ListParts
 pub mod Ordered
 pub mod Lookups
 pub mod OptingOut

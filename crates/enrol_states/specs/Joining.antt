@@ -5,7 +5,7 @@ use Rattle.recipe_reader.specs.Payloads.{slug_cmp}
 use Rattle.enrol_states.specs.Choices.{has_no_room}
 use Rattle.enrol_states.specs.declared.choices.OptOutFault.{OptOutFault}
 use Rattle.enrol_states.specs.declared.choices.OptOutFault.TheVariants as out_faults
-use Rattle.enrol_states.specs.declared.next_list.NextList.{NextList}
+use Rattle.sequences.specs.declared.next_list.NextList.{NextList}
 
 -- the slugs with one more, if there is room; want of memory is the one free answer
 abbrev pub Joins : List (List ℕ) → List ℕ → Result (NextList (List ℕ)) OptOutFault → Type 0

@@ -5,10 +5,10 @@ ghost use Rattle.enrol_states.specs.Consistent.{IsConsistent};
 ghost use Rattle.enrol_states.specs.NextStates.{HasParts};
 
 use crate::joining::rows_opted_out_of;
-use crate::next_list::NextList;
 use crate::next_state::NextState;
 use crate::state::State;
 use plain_text::Slug;
+use sequences::NextList;
 use std::alloc::AllocError;
 
 /// The state in which the client takes part in the slug's recipe no more: where it did, the enrolment ends as an opt-out. The slug

@@ -6,12 +6,11 @@ ghost use Rattle.enrol_states.specs.State.{slugs_of};
 ghost use Rattle.enrol_states.specs.Commands.{after_opt_in, without_text, with_row, opted_in};
 ghost use Rattle.enrol_states.specs.NextStates.{HasParts};
 
-use crate::next_list::NextList;
 use crate::next_state::NextState;
 use crate::state::{Row, State};
 use crate::status::{EnrolledReason, Status};
 use plain_text::Slug;
-use sequences::SharedList;
+use sequences::{NextList, SharedList};
 use std::alloc::AllocError;
 
 /// The state in which the client is enrolled in the branch that its user chose.
@@ -40,7 +39,7 @@ fn without_slug(slugs: &mut SharedList<Slug>, slug: &Slug) -> Result<NextList<Sl
     ensures part { IfOk result (λ next. IsPart next.part slugs.old next.list) }
 {
     match slugs.as_slice().binary_search(slug) {
-        Ok(place) => NextList::removal(slugs, place),
+        Ok(place) => slugs.removed(place),
         Err(_) => NextList::same(slugs),
     }
 }
@@ -69,7 +68,7 @@ fn with_row(rows: &mut SharedList<Row>, row: Row) -> Result<NextList<Row>, Alloc
         .binary_search_by(|other| other.slug.cmp(&row.slug))
     {
         Ok(place) => with_row_at(rows, place, row),
-        Err(place) => NextList::insertion(rows, place, row),
+        Err(place) => rows.inserted(place, row),
     }
 }
 
@@ -88,5 +87,5 @@ pub(crate) fn with_row_at(
     if items[place] == row {
         return NextList::same(rows);
     }
-    NextList::replacement(rows, place, row)
+    rows.replaced(place, row)
 }

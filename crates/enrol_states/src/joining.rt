@@ -8,10 +8,9 @@ ghost use Rattle.enrol_states.specs.Joining.{Joins};
 
 use crate::choices::OptOutFault;
 use crate::enrolling::with_row_at;
-use crate::next_list::NextList;
 use crate::state::{MAX_OPTED_OUT, Row};
 use plain_text::Slug;
-use sequences::SharedList;
+use sequences::{NextList, SharedList};
 use std::alloc::AllocError;
 
 /// The slugs with one more at its place, unless it is there.
@@ -45,7 +44,7 @@ fn with_slug_at(
     if slugs.len() >= MAX_OPTED_OUT {
         return Err(OptOutFault::OptedOutLimit);
     }
-    Ok(NextList::insertion(slugs, place, slug.clone()?)?)
+    Ok(slugs.inserted(place, slug.clone()?)?)
 }
 
 /// The rows after an opt-out of the slug.

@@ -10,7 +10,6 @@ mod exclusive;
 mod features;
 mod joining;
 mod laws;
-mod next_list;
 mod next_state;
 mod participation;
 mod soundness;

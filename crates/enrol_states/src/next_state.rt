@@ -3,10 +3,9 @@ ghost use Rattle.std.specs.Prelude.{◌≡◌, IfOk};
 ghost use Rattle.sequences.specs.ListParts.{IsPart};
 ghost use Rattle.enrol_states.specs.NextStates.{HasParts};
 
-use crate::next_list::NextList;
 use crate::state::{Row, State};
 use plain_text::Slug;
-use sequences::ListPart;
+use sequences::{ListPart, NextList};
 use std::alloc::AllocError;
 
 /// The state after a change, and the parts of its opt-outs and of its rows in which these may differ from those of before. No

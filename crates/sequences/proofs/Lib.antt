@@ -1,3 +1,4 @@
 pub mod Texts
 pub mod Searching
 pub mod Rising
+pub mod ListParts

@@ -3,12 +3,14 @@
 #![tactic(auto)]
 
 mod list_part;
+mod next_list;
 mod predecessor;
 mod sequence;
 mod shared;
 mod text;
 
 pub use list_part::ListPart;
+pub use next_list::NextList;
 pub use sequence::Sequence;
 pub use shared::{ExactClone, SharedList};
 pub use text::Text;

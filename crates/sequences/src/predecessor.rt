@@ -25,17 +25,22 @@ pub(crate) struct Predecessor<T> {
     pub(crate) change: ItemChange,
 }
 
-impl<T: ExactClone + Drop> Predecessor<T> {
-    /// The items of the list that was made of this one, in a sequence of their own. Where this list has no other owner, the change
-    /// is done in it, and no other item is copied.
-    pub(crate) fn brought_to(self, alloc: Global, made: &[T]) -> Result<Sequence<T>, AllocError>
-        requires { Makes self.change self.items.value made.now }
-        ensures { IfOk result (λ items. items ≡ made.now) }
-    {
-        match Rc::try_unwrap(self.items) {
-            Ok(items) => changed(items, self.change, made),
+/// The items of the list that was made of the predecessor, in a sequence of their own. Where the predecessor has no other owner, and
+/// its list none, the change is done in that list, and no other item is copied.
+pub(crate) fn brought_to<T: ExactClone + Drop>(
+    alloc: Global,
+    predecessor: Rc<Predecessor<T>>,
+    made: &[T],
+) -> Result<Sequence<T>, AllocError>
+    requires { Makes predecessor.value.change predecessor.value.items.value made.now }
+    ensures { IfOk result (λ items. items ≡ made.now) }
+{
+    match Rc::try_unwrap(predecessor) {
+        Ok(Predecessor { items, change }) => match Rc::try_unwrap(items) {
+            Ok(items) => changed(items, change, made),
             Err(_) => copies(alloc, made),
-        }
+        },
+        Err(_) => copies(alloc, made),
     }
 }
 

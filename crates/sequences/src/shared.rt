@@ -2,10 +2,13 @@
 ghost use Rattle.std.specs.Prelude.{◌≡◌, ◌<◌, ◌≤◌, ◌↔◌, [], ◌∷◌, ◌++◌, length, IsTrue, IfOk, OnOk, OnErr, slice_get, slice_set, option_map};
 ghost use Rattle.std.specs.List.{insert, remove};
 ghost use Rattle.std.specs.Cmp.Lexicographic.{pointwise, lists_per};
+ghost use Rattle.sequences.specs.ListParts.{IsPart};
 ghost use Rattle.sequences.specs.Shared.{shared_items};
 ghost use Rattle.sequences.specs.Succession.{Makes, Succeeds};
 
-use crate::predecessor::{ItemChange, Predecessor, copies};
+use crate::list_part::ListPart;
+use crate::next_list::NextList;
+use crate::predecessor::{ItemChange, Predecessor, brought_to, copies};
 use crate::sequence::Sequence;
 use std::alloc::{AllocError, Global};
 use std::marker::Model;
@@ -25,7 +28,7 @@ pub struct SharedList<T> {
     alloc: Global,
     list: Option<Rc<Sequence<T>>>,
     // The list that this one was made of by the change of one item, for the next one to be made in its place.
-    predecessor: Option<Predecessor<T>>,
+    predecessor: Option<Rc<Predecessor<T>>>,
 }
 
 impl<T> Model for SharedList<T> {
@@ -149,36 +152,48 @@ impl<T: ExactClone + Drop> SharedList<T> {
 impl<T: ExactClone + Drop> SharedList<T> {
     /// The list with an item before the one at `place`. This one stays the same. Where it was made by such a call itself, and the
     /// list that it was made of has no other owner, the new one is made in the place of that, and the items aren't copied.
-    pub fn inserted(&mut self, place: usize, item: T) -> Result<SharedList<T>, AllocError>
+    pub fn inserted(&mut self, place: usize, item: T) -> Result<NextList<T>, AllocError>
         requires { place ≤ length self.old }
         ensures same { self.new ≡ self.old }
-        ensures list { IfOk result (λ l. l ≡ insert self.old place item) }
+        ensures list { IfOk result (λ next. next.list ≡ insert self.old place item) }
+        ensures part { IfOk result (λ next. IsPart next.part self.old next.list) }
     {
         let mut items = self.own_items()?;
         items.insert(place, item)?;
-        self.successor(items, ItemChange::Insertion(place))
+        Ok(NextList {
+            list: self.successor(items, ItemChange::Insertion(place))?,
+            part: ListPart::insertion(place),
+        })
     }
 
     /// The list with an item in the place of the one at `place`. This one stays the same. The items are copied as by `inserted`.
-    pub fn replaced(&mut self, place: usize, item: T) -> Result<SharedList<T>, AllocError>
+    pub fn replaced(&mut self, place: usize, item: T) -> Result<NextList<T>, AllocError>
         requires { place < length self.old }
         ensures same { self.new ≡ self.old }
-        ensures list { IfOk result (λ l. l ≡ slice_set self.old place item) }
+        ensures list { IfOk result (λ next. next.list ≡ slice_set self.old place item) }
+        ensures part { IfOk result (λ next. IsPart next.part self.old next.list) }
     {
         let mut items = self.own_items()?;
         items.replace(place, item);
-        self.successor(items, ItemChange::Replacement(place))
+        Ok(NextList {
+            list: self.successor(items, ItemChange::Replacement(place))?,
+            part: ListPart::replacement(place),
+        })
     }
 
     /// The list without the item at `place`. This one stays the same. The items are copied as by `inserted`.
-    pub fn removed(&mut self, place: usize) -> Result<SharedList<T>, AllocError>
+    pub fn removed(&mut self, place: usize) -> Result<NextList<T>, AllocError>
         requires { place < length self.old }
         ensures same { self.new ≡ self.old }
-        ensures list { IfOk result (λ l. l ≡ remove self.old place) }
+        ensures list { IfOk result (λ next. next.list ≡ remove self.old place) }
+        ensures part { IfOk result (λ next. IsPart next.part self.old next.list) }
     {
         let mut items = self.own_items()?;
         drop(items.remove(place));
-        self.successor(items, ItemChange::Removal(place))
+        Ok(NextList {
+            list: self.successor(items, ItemChange::Removal(place))?,
+            part: ListPart::removal(place),
+        })
     }
 
     // The items in a sequence of their own. The predecessor is used up for that.
@@ -187,7 +202,7 @@ impl<T: ExactClone + Drop> SharedList<T> {
         ensures items { IfOk result (λ items. items ≡ self.old) }
     {
         match self.predecessor.take() {
-            Some(predecessor) => predecessor.brought_to(self.alloc, self.as_slice()),
+            Some(predecessor) => brought_to(self.alloc, predecessor, self.as_slice()),
             None => copies(self.alloc, self.as_slice()),
         }
     }
@@ -200,23 +215,24 @@ impl<T: ExactClone + Drop> SharedList<T> {
         Ok(SharedList {
             alloc: self.alloc,
             list: Some(Rc::new(self.alloc, items)?),
-            predecessor: predecessor_in(&self.list, change)?,
+            predecessor: predecessor_in(self.alloc, &self.list, change)?,
         })
     }
 }
 
 // The list, where there is one, as the predecessor of each that the change makes of it.
 fn predecessor_in<T: Drop>(
+    alloc: Global,
     list: &Option<Rc<Sequence<T>>>,
     change: ItemChange,
-) -> Result<Option<Predecessor<T>>, AllocError>
+) -> Result<Option<Rc<Predecessor<T>>>, AllocError>
     ensures { IfOk result (λ p. (made : _) → Makes change (shared_items list.now) made → Succeeds p made) }
 {
     match list {
-        Some(items) => Ok(Some(Predecessor {
-            items: items.clone()?,
-            change,
-        })),
+        Some(items) => {
+            let items = items.clone()?;
+            Ok(Some(Rc::new(alloc, Predecessor { items, change })?))
+        }
         None => Ok(None),
     }
 }
@@ -288,15 +304,12 @@ fn same_list<T: Drop>(list: &Option<Rc<Sequence<T>>>) -> Result<Option<Rc<Sequen
 }
 
 fn same_predecessor<T: Drop>(
-    predecessor: &Option<Predecessor<T>>,
-) -> Result<Option<Predecessor<T>>, AllocError>
+    predecessor: &Option<Rc<Predecessor<T>>>,
+) -> Result<Option<Rc<Predecessor<T>>>, AllocError>
     ensures { IfOk result (λ same. (made : _) → Succeeds predecessor.now made → Succeeds same made) }
 {
     match predecessor {
-        Some(predecessor) => Ok(Some(Predecessor {
-            items: predecessor.items.clone()?,
-            change: predecessor.change,
-        })),
+        Some(predecessor) => Ok(Some(predecessor.clone()?)),
         None => Ok(None),
     }
 }

@@ -83,9 +83,9 @@ fn made_of(
 ) -> Result<SharedList<Text>, Fail> {
     let item = Text::new(alloc, item)?;
     match change {
-        "insert" if place <= list.len() => Ok(list.inserted(place, item)?),
-        "replace" if place < list.len() => Ok(list.replaced(place, item)?),
-        "remove" if place < list.len() => Ok(list.removed(place)?),
+        "insert" if place <= list.len() => Ok(list.inserted(place, item)?.list),
+        "replace" if place < list.len() => Ok(list.replaced(place, item)?.list),
+        "remove" if place < list.len() => Ok(list.removed(place)?.list),
         _ => Err(Fail::new("no such change")),
     }
 }

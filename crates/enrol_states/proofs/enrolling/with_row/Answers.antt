@@ -27,4 +27,4 @@ returns-in-Err-clause-rows c =
     let nowhere = c.in-Err.ensures.position (order_by slug_of row.slug) (always_returns_same _ _ _ (λ a r g called. search rules)) in
     let rise = subst (λ rs. Rise (slugs_of rs)) (sym c.as_slice.ensures) c.requires in
     let placed = with_row-place row rows c.in-Err.place (place_searched slug_of row.slug rows c.in-Err.place rise nowhere) in
-    if_listed c.insertion.result _ _ (subst (λ rs. insert rs c.in-Err.place row ≡ with_row row rs) c.as_slice.ensures placed) c.insertion.ensures.list
+    if_listed c.inserted.result _ _ (subst (λ rs. insert rs c.in-Err.place row ≡ with_row row rs) c.as_slice.ensures placed) c.inserted.ensures.list

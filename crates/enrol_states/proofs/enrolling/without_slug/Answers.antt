@@ -13,7 +13,7 @@ returns-in-Ok-clause-others c =
     let slugs = c.as_slice.result.now in
     let rise = subst Rise (sym c.as_slice.ensures) c.requires in
     let left = without-at slug slugs c.in-Ok.place slug c.in-Ok.ensures.bound rise (c.in-Ok.ensures.ok slug) in
-    if_listed c.removal.result _ _ (subst (λ ts. remove ts c.in-Ok.place ≡ without_text slug ts) c.as_slice.ensures left) c.removal.ensures.list
+    if_listed c.removed.result _ _ (subst (λ ts. remove ts c.in-Ok.place ≡ without_text slug ts) c.as_slice.ensures left) c.removed.ensures.list
 
 pub returns-in-Err-clause-others : goal.returns-in-Err-clause-others
 returns-in-Err-clause-others c =

@@ -13,6 +13,6 @@ pub returns-clause-slugs : goal.returns-clause-slugs
 returns-clause-slugs c =
     let slugs = c.args.slugs.now in
     let copy = c.in_ok-clone.ensures in
-    let grown = c.in_ok-insertion.ensures.list in
-    let placed : c.in_ok-insertion.field-0.list ≡ insert slugs c.args.place c.args.slug.now = cc in
+    let grown = c.in_ok-inserted.ensures.list in
+    let placed : c.in_ok-inserted.field-0.list ≡ insert slugs c.args.place c.args.slug.now = cc in
     (free_at c.args.slug.now slugs (omega (arith, c.if-len-ge-MAX_OPTED_OUT.false, c.len.ensures)), placed ∙ inserted c.args.slug.now slugs c.args.place c.requires.place)
