@@ -1,5 +1,6 @@
 -- The keys of items' rows, and when their values are the same.
-use Rattle.std.proofs.Common.{◌≡◌, ◌∷◌, [], List, ℕ, Bool, true, false, IsTrue, Some, All, refl, sym, ap, ◌∙◌}
+use Rattle.std.proofs.Common.{◌≡◌, ◌∷◌, [], List, ℕ, Bool, true, false, IsTrue, Option, Some, All, refl, sym, ap, ◌∙◌}
+use Rattle.std.specs.Bool.{Decides}
 use Rattle.std.specs.Prelude.{◌↔◌}
 use Rattle.std.proofs.lemmas.Bool.{false≢true}
 use Rattle.std.proofs.lemmas.List.Elements.{All-cons, All-nil}
@@ -38,17 +39,21 @@ tagged Version a b = refl
 
 -- ---- values
 
-some_same : {A : Type 0} (x y : A) → Some x ≡ Some y → x ≡ y
+pub some_same : {A : Type 0} (x y : A) → Some x ≡ Some y → x ≡ y
 some_same x y same = cc
 
-status_told : (s t : Status) → IsStatus s → IsStatus t → status_bytes s ≡ status_bytes t → s ≡ t
-status_told s t s_is t_is same = some_same s t (sym (status_read s s_is) ∙ ap status_in same ∙ status_read t t_is)
+-- what is read of its text is one where the texts are
+one_text : {A : Type 0} (text : A → List ℕ) (read : List ℕ → Option A) (x y : A) → read (text x) ≡ Some x → read (text y) ≡ Some y → text x ≡ text y → x ≡ y
+one_text text read x y x_read y_read same = some_same x y (sym x_read ∙ ap read same ∙ y_read)
+
+pub values_told : {A : Type 0} (text : A → List ℕ) (read : List ℕ → Option A) (x y : A) (test : Bool) → Decides test (x ≡ y) → read (text x) ≡ Some x → read (text y) ≡ Some y → IsTrue test ↔ (text x ≡ text y)
+values_told text read x y test decides x_read y_read = (λ e. ap text (decides.0 e), λ same. decides.1 (one_text text read x y x_read y_read same))
 
 pub statuses_told : (s t : Status) → IsStatus s → IsStatus t → IsTrue (status_eq s t) ↔ (status_bytes s ≡ status_bytes t)
-statuses_told s t s_is t_is = (λ e. ap status_bytes ((status_Decides s t).0 e), λ same. (status_Decides s t).1 (status_told s t s_is t_is same))
+statuses_told s t s_is t_is = values_told status_bytes status_in s t (status_eq s t) (status_Decides s t) (status_read s s_is) (status_read t t_is)
 
 recipe_told : (r q : Recipe) → IsValid r → IsValid q → json.IsSound (record_json r) → json.IsSound (record_json q) → recipe_text r ≡ recipe_text q → r ≡ q
-recipe_told r q r_is q_is r_sound q_sound same = some_same r q (sym (recipe_read r r_is r_sound) ∙ ap recipe_in same ∙ recipe_read q q_is q_sound)
+recipe_told r q r_is q_is r_sound q_sound = one_text recipe_text recipe_in r q (recipe_read r r_is r_sound) (recipe_read q q_is q_sound)
 
 pub equal_texts : (r q : Recipe) → recipe_eq r q ≡ true → IsTrue true ↔ (recipe_text r ≡ recipe_text q)
 equal_texts r q e = (λ _. ap recipe_text ((recipe_Decides r q).0 e), λ _. refl)

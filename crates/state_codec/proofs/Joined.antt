@@ -13,6 +13,7 @@ use Rattle.row_batches.proofs.Joining.{Precede, between-append}
 use Rattle.row_batches.proofs.Turns as turns
 use Rattle.state_codec.specs.Encoding.{row, key_row, recipe_row, status_row, status_rows, last_rows, pending_recipes, first_rows, later_rows, rows_with}
 use Rattle.state_codec.specs.RecipeChanges.{live_changes, pending_changes}
+use Rattle.state_values.specs.Statuses.{number}
 use Rattle.state_values.specs.Values.{hyphenated, bit}
 use Rattle.std.specs.Option.{is_some}
 use Rattle.state_codec.proofs.Added.{follow}
@@ -87,9 +88,20 @@ module _ (b c : ℕ) (s t : State) where
   pub all_added : (c0 c1 : List RowChange) → c0 ≡ changes_between (first_rows s) (first_rows t) → c1 ≡ c0 ++ changes_between (later_rows b s) (later_rows c t) → c1 ≡ changes_between (rows_with b s) (rows_with c t)
   all_added c0 c1 first later = later ∙ ap (λ l. l ++ changes_between (later_rows b s) (later_rows c t)) first ∙ sym all_between
 
--- ---- recipes
-
 module _ (s t : State) where
+  pub last_added : (c0 c1 c2 c3 : List RowChange)
+      → c1 ≡ c0 ++ put_where_differs (row (116 ∷ []) (number s.installed)) (row (116 ∷ []) (number t.installed))
+      → c2 ≡ c1 ++ put_where_differs (row (117 ∷ []) (number s.updated)) (row (117 ∷ []) (number t.updated))
+      → c3 ≡ c2 ++ put_where_differs (row (118 ∷ []) s.version) (row (118 ∷ []) t.version)
+      → c3 ≡ c0 ++ changes_between (last_rows s) (last_rows t)
+  last_added c0 c1 c2 c3 e1 e2 e3 =
+      let of_updated : List RowChange = put_where_differs (row (117 ∷ []) (number s.updated)) (row (117 ∷ []) (number t.updated)) in
+      let of_version : List RowChange = put_where_differs (row (118 ∷ []) s.version) (row (118 ∷ []) t.version) in
+      let behind : c3 ≡ c2 ++ (of_version ++ []) = e3 ∙ ap (λ l. c2 ++ l) (sym (append-nil of_version)) in
+      follow (put_where_differs (row (116 ∷ []) (number s.installed)) (row (116 ∷ []) (number t.installed))) (of_updated ++ (of_version ++ [])) c0 e1 (follow of_updated (of_version ++ []) c1 e2 behind)
+
+  -- ---- recipes
+
   same_live : s.live ≡ t.live → live_changes s t ≡ []
   same_live same = subst (λ (rs : List Recipe). changes_between (map (recipe_row (108 ∷ [])) s.live) (map (recipe_row (108 ∷ [])) rs) ≡ []) same (between_itself (map (recipe_row (108 ∷ [])) s.live))
 

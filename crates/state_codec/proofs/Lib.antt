@@ -16,6 +16,7 @@ pub mod Added
 pub mod KeyOrder
 pub mod Letters
 pub mod Items
+pub mod SingleRows
 pub mod Joined
 pub mod ListParts
 pub mod SameRows

@@ -51,7 +51,7 @@ unfolding IsStrictlySortedBy
 last_rise [] ss rise = rise
 last_rise (r ∷ rs) ss rise = last_rise rs ss rise.1
 
-middle_alone : (front olds news behind : List StoreRow) → AreRows (front ++ (olds ++ behind)) → AreRows (front ++ (news ++ behind))
+pub middle_alone : (front olds news behind : List StoreRow) → AreRows (front ++ (olds ++ behind)) → AreRows (front ++ (news ++ behind))
     → changes_between (front ++ (olds ++ behind)) (front ++ (news ++ behind)) ≡ changes_between olds news
 middle_alone front olds news behind old_rise new_rise =
     let old_behind = last_rise front (olds ++ behind) old_rise in

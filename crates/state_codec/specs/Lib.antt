@@ -8,3 +8,4 @@ pub mod Reading
 pub mod RecipeChanges
 pub mod RecipeLists
 pub mod Sizes
+pub mod SingleRows

@@ -7,16 +7,17 @@ ghost use Rattle.row_batches.specs.Between.{put_where_differs, changes_between, 
 ghost use Rattle.state_codec.specs.RecipeLists.{HasLists};
 ghost use Rattle.state_codec.specs.Sound.{IsSound};
 ghost use Rattle.state_values.specs.Values.{participation_byte};
-ghost use Rattle.state_codec.specs.Encoding.{status_rows, last_rows, pending_recipes, rows_behind_recipes, first_rows, later_rows, rows_of, encoding};
+ghost use Rattle.state_codec.specs.Encoding.{pending_recipes, first_rows, later_rows, rows_of, encoding};
 ghost use Rattle.state_codec.specs.RecipeChanges.{client_row_changes, live_changes, opted_out_changes, pending_changes};
+ghost use Rattle.state_codec.specs.SingleRows.{single_row};
 
 use crate::recipe_lists::RecipeLists;
 use crate::row_kind::RowKind;
-use crate::row_making::{flag_row, id_row, moment_row, participation_row, version_row};
 use crate::rows::rows_of;
+use crate::single_row::SingleRow;
 use enrol_states::State;
 use recipe_reader::{Recipe, Recipes};
-use row_batches::{Batch, RowChange, StoreRow, add_changes};
+use row_batches::{Batch, RowChange, add_changes};
 use sequences::Sequence;
 use std::alloc::{AllocError, Global};
 
@@ -58,48 +59,9 @@ pub fn change_between(alloc: Global, old: &State, new: &State) -> Result<Batch, 
     ensures whole { IfOk result (λ batch. batch_text (whole_of (applied batch (rows_of old.now))) ≡ encoding new.now) }
     ensures size { IfOk result (λ batch. length (batch_text batch) ≤ length (encoding old.now) + length (encoding new.now)) }
 {
-    change_after(alloc, old, new, RecipeLists::MayDiffer)
-}
-
-// The batch of `change_between`, where it is known which lists are as before, and in which parts others may differ. What is as
-// before isn't looked at, so the cost is that of the rest, which is walked once.
-fn change_after(
-    alloc: Global,
-    old: &State,
-    new: &State,
-    recipes: RecipeLists,
-) -> Result<Batch, AllocError>
-    requires old_state { IsConsistent old.now }
-    requires new_state { IsConsistent new.now }
-    requires old_size { length (encoding old.now) < 2 ^ 32 }
-    requires new_size { length (encoding new.now) < 2 ^ 32 }
-    requires recipes { HasLists recipes old.now new.now }
-    ensures between { IfOk result (λ batch. batch ≡ between (rows_of old.now) (rows_of new.now)) }
-    ensures gives { IfOk result (λ batch. applied batch (rows_of old.now) ≡ rows_of new.now) }
-
-    // The bytes of a clear and of a put of each row that stands after the batch are the encoding of the next state.
-    ensures whole { IfOk result (λ batch. batch_text (whole_of (applied batch (rows_of old.now))) ≡ encoding new.now) }
-    ensures size { IfOk result (λ batch. length (batch_text batch) ≤ length (encoding old.now) + length (encoding new.now)) }
-{
-    let changes = changes_of(alloc, old, new, recipes)?;
-    Ok(Batch::of_changes(changes))
-}
-
-// The changes from the rows of a state to those of the next.
-fn changes_of(
-    alloc: Global,
-    old: &State,
-    new: &State,
-    recipes: RecipeLists,
-) -> Result<Sequence<RowChange>, AllocError>
-    requires old_state { IsConsistent old.now }
-    requires new_state { IsConsistent new.now }
-    requires recipes { HasLists recipes old.now new.now }
-    ensures { IfOk result (λ changes. changes ≡ changes_between (rows_of old.now) (rows_of new.now)) }
-{
     let mut changes = first_changes(alloc, old, new)?;
-    add_later(alloc, &mut changes, old, new, recipes)?;
-    Ok(changes)
+    add_later(alloc, &mut changes, old, new, RecipeLists::MayDiffer)?;
+    Ok(Batch::of_changes(changes))
 }
 
 /// The changes from the first rows of a state to those of the next, as `change_between` has them of all rows.
@@ -122,7 +84,9 @@ pub fn first_changes(
     Ok(changes)
 }
 
-/// The changes from the later rows of a state to those of the next, as `change_after` has them of all rows.
+/// The changes from the later rows of a state to those of the next, as `change_between` has them of all rows, where it is known
+/// which lists are as before, and in which parts others may differ. What is as before isn't looked at, so the cost is that of the
+/// rest, which is walked once.
 pub fn later_changes(
     alloc: Global,
     old: &State,
@@ -152,9 +116,15 @@ fn add_later(
     requires recipes { HasLists recipes old.now new.now }
     ensures { OnOk result (changes.new ≡ changes.old ++ changes_between (later_rows (participation_byte old.now) old.now) (later_rows (participation_byte new.now) new.now)) }
 {
-    add_row(changes, id_row(alloc, old.id)?, id_row(alloc, new.id)?)?;
+    add_single(alloc, changes, SingleRow::Id, old, new)?;
     add_recipes(alloc, changes, old, new, recipes)?;
-    add_behind_recipes(alloc, changes, old, new, recipes)
+    add_opted_out(alloc, changes, old, new, recipes)?;
+    add_single(alloc, changes, SingleRow::Participation, old, new)?;
+    add_single(alloc, changes, SingleRow::IsPending, old, new)?;
+    add_client_rows(alloc, changes, old, new, recipes)?;
+    add_single(alloc, changes, SingleRow::Installed, old, new)?;
+    add_single(alloc, changes, SingleRow::Updated, old, new)?;
+    add_single(alloc, changes, SingleRow::Version, old, new)
 }
 
 // Adds the changes of the rows of recipes.
@@ -208,24 +178,6 @@ fn add_pending(
     )
 }
 
-// Adds the changes of the rows behind those of recipes.
-fn add_behind_recipes(
-    alloc: Global,
-    changes: &mut Sequence<RowChange>,
-    old: &State,
-    new: &State,
-    recipes: RecipeLists,
-) -> Result<(), AllocError>
-    requires old_state { IsConsistent old.now }
-    requires new_state { IsConsistent new.now }
-    requires recipes { HasLists recipes old.now new.now }
-    ensures { OnOk result (changes.new ≡ changes.old ++ changes_between (rows_behind_recipes (participation_byte old.now) old.now) (rows_behind_recipes (participation_byte new.now) new.now)) }
-{
-    add_opted_out(alloc, changes, old, new, recipes)?;
-    add_statuses(alloc, changes, old, new, recipes)?;
-    add_last(alloc, changes, old, new)
-}
-
 // Adds the changes of the rows of the slugs that are opted out.
 #[tactic(auto, using(row_batches::proofs::ItemWalks::all_fit))]
 fn add_opted_out(
@@ -248,28 +200,6 @@ fn add_opted_out(
         part.of_old(old.opted_out.as_slice()),
         part.of_new(new.opted_out.as_slice()),
     )
-}
-
-// Adds the changes of the rows of participation, of whether recipes are pending, and of the statuses.
-fn add_statuses(
-    alloc: Global,
-    changes: &mut Sequence<RowChange>,
-    old: &State,
-    new: &State,
-    recipes: RecipeLists,
-) -> Result<(), AllocError>
-    requires old_state { IsConsistent old.now }
-    requires new_state { IsConsistent new.now }
-    requires recipes { HasLists recipes old.now new.now }
-    ensures { OnOk result (changes.new ≡ changes.old ++ changes_between (status_rows (participation_byte old.now) old.now) (status_rows (participation_byte new.now) new.now)) }
-{
-    let old_participation = participation_row(alloc, old)?;
-    let participation = participation_row(alloc, new)?;
-    add_row(changes, old_participation, participation)?;
-    let was_pending = flag_row(alloc, RowKind::IsPending, old.pending.is_some())?;
-    let is_pending = flag_row(alloc, RowKind::IsPending, new.pending.is_some())?;
-    add_row(changes, was_pending, is_pending)?;
-    add_client_rows(alloc, changes, old, new, recipes)
 }
 
 // Adds the changes of the rows of the statuses.
@@ -295,38 +225,23 @@ fn add_client_rows(
     )
 }
 
-// Adds the changes of the rows of the moments and of the version.
-fn add_last(
+// Adds a put of the new state's row, where its value differs. Else no row is made.
+#[tactic(auto, using(crate::proofs::SingleRows::put_none, crate::proofs::SingleRows::put_other))]
+fn add_single(
     alloc: Global,
     changes: &mut Sequence<RowChange>,
+    single: SingleRow,
     old: &State,
     new: &State,
 ) -> Result<(), AllocError>
-    ensures { OnOk result (changes.new ≡ changes.old ++ changes_between (last_rows old.now) (last_rows new.now)) }
+    requires old_state { IsConsistent old.now }
+    requires new_state { IsConsistent new.now }
+    ensures { OnOk result (changes.new ≡ changes.old ++ put_where_differs (single_row single old.now) (single_row single new.now)) }
 {
-    let old_installed = moment_row(alloc, RowKind::Installed, old.installed)?;
-    let installed = moment_row(alloc, RowKind::Installed, new.installed)?;
-    add_row(changes, old_installed, installed)?;
-    let old_updated = moment_row(alloc, RowKind::Updated, old.updated)?;
-    let updated = moment_row(alloc, RowKind::Updated, new.updated)?;
-    add_row(changes, old_updated, updated)?;
-    let old_version = version_row(alloc, &old.version)?;
-    let version = version_row(alloc, &new.version)?;
-    add_row(changes, old_version, version)
-}
-
-// Adds a put of the new row of a key, where its value differs.
-fn add_row(
-    changes: &mut Sequence<RowChange>,
-    old: StoreRow,
-    new: StoreRow,
-) -> Result<(), AllocError>
-    ensures { OnOk result (changes.new ≡ changes.old ++ put_where_differs old new) }
-{
-    if old.value == new.value {
+    if single.has_same_value(old, new) {
         return Ok(());
     }
-    changes.push(RowChange::Put(new))
+    changes.push(RowChange::Put(single.of(alloc, new)?))
 }
 
 /// The recipes that are pending, if any are.

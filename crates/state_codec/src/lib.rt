@@ -14,6 +14,7 @@ mod row_making;
 mod row_reading;
 mod rows;
 mod sections;
+mod single_row;
 mod size;
 mod state_reading;
 
