@@ -1,9 +1,10 @@
 -- Outboxes that have one list of rows are one.
-use Rattle.std.proofs.Common.{◌≡◌, ℕ, ◌+◌, ◌-◌, ◌<◌, ◌≤◌, Bool, true, false, List, [], ◌∷◌, ◌++◌, map, length, take, drop, refl, sym, ap, ap₂, ◌∙◌, arith}
+use Rattle.std.proofs.Common.{◌≡◌, ℕ, ◌+◌, ◌-◌, ◌<◌, ◌≤◌, Bool, true, false, List, [], ◌∷◌, ◌++◌, map, length, refl, sym, ap, ap₂, ◌∙◌, arith}
 use Rattle.std.specs.Prelude.{nat_lt, if◌then◌else◌}
 use Rattle.std.proofs.lemmas.Bool.{ltb-true, ltb-false}
-use Rattle.std.proofs.lemmas.List.{length-map, take_at, drop_at}
+use Rattle.std.proofs.lemmas.List.{length-map}
 use Rattle.row_batches.specs.declared.store_row.StoreRow.{StoreRow}
+use Rattle.row_batches.proofs.Fields.{front_same, rest_same}
 use Rattle.change_outbox.specs.declared.change.Change.{Change}
 use Rattle.change_outbox.specs.declared.change.ChangeKind.{ChangeKind}
 use Rattle.change_outbox.specs.declared.change.ChangeKind.TheVariants.{Join, Leave}
@@ -31,11 +32,7 @@ same_text k l s t a b same =
     let kinds : kind_letter k ≡ kind_letter l = cc in
     let lens : length s ≡ length t = cc in
     let texts : s ++ a ≡ t ++ b = cc in
-    record {
-      kind = same_kind k l kinds;
-      slug_is = sym (take_at s a (length s) refl) ∙ ap (λ (u : List ℕ). take (length s) u) texts ∙ take_at t b (length s) (sym lens);
-      branch_is = sym (drop_at s a (length s) refl) ∙ ap (λ (u : List ℕ). drop (length s) u) texts ∙ drop_at t b (length s) (sym lens);
-    }
+    record { kind = same_kind k l kinds; slug_is = front_same s t a b lens texts; branch_is = rest_same s t a b lens texts }
 
 pub text_of_parts : (k l : ChangeKind) (s t a b : List ℕ) → k ≡ l → s ≡ t → a ≡ b → change_text k s a ≡ change_text l t b
 text_of_parts k l s t a b kinds slugs branches = λ i. change_text (kinds i) (slugs i) (branches i)

@@ -2,16 +2,17 @@
 use Rattle.std.proofs.Common.{Less, Equal, Greater, ◌≡◌, ℕ, List, [], ◌∷◌, ◌++◌, Option, None, Some, ◌<◌, length, get_or, arith, refl, sym, ap, ap₂, ◌∙◌, subst}
 use Rattle.std.specs.Prelude.{fold, option_and_then, if◌then◌else◌}
 use Rattle.std.specs.BTreeSet.{insert_key}
-use Rattle.std.specs.Cmp.Lexicographic.{bytes_decides, nat_list_cmp_total}
+use Rattle.std.specs.Cmp.Lexicographic.{bytes_decides}
 use Rattle.std.specs.List.{flat_map}
 use Rattle.std.specs.List.Sorted.{IsStrictlySortedBy}
-use Rattle.std.specs.Ordering.{match_ordering, ordering_reverse}
+use Rattle.std.specs.Ordering.{match_ordering}
 use Rattle.recipe_reader.specs.Payloads.{slug_cmp}
 use Rattle.enrol_states.specs.Order.{Rise, AreAbove}
 use Rattle.enrol_states.specs.State.{slugs_of, status_of}
 use Rattle.enrol_states.specs.Statuses.{enrolled_branch}
 use Rattle.enrol_states.specs.declared.state.Row.{Row}
 use Rattle.enrol_states.proofs.Ordered.{same_texts, lesser_texts, greater_texts, turned_up, above_trans}
+use Rattle.sequences.proofs.Texts.{turned_even}
 use Rattle.change_outbox.specs.declared.change.Change.{Change}
 use Rattle.change_outbox.specs.Changes.{branch_of, slug_changes, all_slugs, changes_between}
 
@@ -96,9 +97,6 @@ new_told n olds news before after is_before is_after rise above =
     first_told n.slug olds (n ∷ news) olds news before after
     (ap (λ (l : List (List ℕ)). fold (insert_key slug_cmp) l (slugs_of news)) (insert_first n.slug (slugs_of olds) above) ∙ fold_first n.slug (slugs_of olds) (slugs_of news) rise.0)
     (is_before ∙ sym (no_branch n.slug olds above)) (is_after ∙ sym (first_branch n.slug n news refl)) above rise.0 (λ t less. refl) (branch_behind n news)
-
-turned_even : (a b : List ℕ) → slug_cmp a b ≡ Equal → slug_cmp b a ≡ Equal
-turned_even a b e = nat_list_cmp_total.antisymm b a ∙ ap ordering_reverse e
 
 pub both_told : (o n : Row) (olds news : List Row) (before after : Option (List ℕ)) → slug_cmp o.slug n.slug ≡ Equal → before ≡ enrolled_branch o.status → after ≡ enrolled_branch n.status
     → Rise (slugs_of (o ∷ olds)) → Rise (slugs_of (n ∷ news)) → changes_between (o ∷ olds) (n ∷ news) ≡ slug_changes o.slug before after ++ changes_between olds news

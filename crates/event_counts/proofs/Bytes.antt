@@ -1,18 +1,11 @@
 -- The bytes of numbers tell the numbers.
-use Rattle.std.proofs.Common.{◌≡◌, ◌<◌, ◌*◌, ◌^◌, ◌++◌, ◌∷◌, [], List, ℕ, length, get_or, take, drop, ◌∙◌, ap, sym, refl, length-append, arith, w32, w64}
-use Rattle.std.proofs.lemmas.List.{take_at, drop_at}
+pub use Rattle.row_batches.proofs.Fields.{front_same, rest_same}
+use Rattle.std.proofs.Common.{◌≡◌, ◌<◌, ◌*◌, ◌^◌, ◌++◌, ◌∷◌, [], List, ℕ, length, get_or, ◌∙◌, ap, sym, refl, length-append, arith, w32, w64}
 use Rattle.std.proofs.lemmas.List.Concat.{flat_map-cons}
 use Rattle.std.proofs.lemmas.Nat.{be_bytes_4, be_bytes_8, from_be_bytes-to_be_bytes_4, from_be_bytes-to_be_bytes_8}
 use Rattle.std.specs.Int.{from_be_bytes}
 use Rattle.std.specs.List.{AllByRecursion}
 use Rattle.event_counts.specs.Rows.{count_bytes, list_bytes, moment_bytes}
-
--- lists that are one, where these parts of them are equally long
-pub front_same : (v w r t : List ℕ) → length v ≡ length w → v ++ r ≡ w ++ t → v ≡ w
-front_same v w r t len same = sym (take_at v r (length v) refl) ∙ ap (take (length v)) same ∙ take_at w t (length v) (sym len)
-
-pub rest_same : (v w r t : List ℕ) → length v ≡ length w → v ++ r ≡ w ++ t → r ≡ t
-rest_same v w r t len same = sym (drop_at v r (length v) refl) ∙ ap (drop (length v)) same ∙ drop_at w t (length v) (sym len)
 
 pub length-count_bytes : (n : ℕ) → length (count_bytes n) ≡ 4
 unfolding count_bytes

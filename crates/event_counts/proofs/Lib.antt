@@ -10,7 +10,6 @@ pub mod SameRows
 pub mod Values
 pub mod RowsRead
 pub mod RowSizes
-pub mod InOrder
 pub mod NameTexts
 pub mod Sums
 pub mod Adding

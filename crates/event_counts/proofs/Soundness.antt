@@ -1,6 +1,6 @@
 -- Counts stay sound.
-use Rattle.std.proofs.Common.{◌≡◌, ℕ, zero, suc, ◌<◌, ◌≤◌, ◌^◌, List, [], ◌∷◌, ◌++◌, length, get_or, take, max, IsTrue, refl, sym, ap, ◌∙◌, subst, arith, length-append}
-use Rattle.std.proofs.lemmas.List.{length-replicate, length-take-le}
+use Rattle.std.proofs.Common.{◌≡◌, ℕ, zero, suc, ◌<◌, ◌≤◌, ◌^◌, List, [], ◌∷◌, ◌++◌, length, get_or, take, max, IsTrue, refl, sym, ap, ◌∙◌, subst, arith}
+use Rattle.std.proofs.lemmas.List.{length-replicate}
 use Rattle.std.specs.Prelude.{slice_set, replicate}
 use Rattle.std.specs.List.{AllByRecursion, insert}
 use Rattle.std.specs.List.Sorted.{IsStrictlySortedBy}
@@ -14,6 +14,7 @@ use Rattle.event_counts.specs.Lists.{turned, raised}
 use Rattle.event_counts.specs.Sound.{AreCounts, AreInOrder, IsSoundName, IsSound}
 use Rattle.event_counts.specs.Places.{HasNameAt, BelongsAt}
 use Rattle.event_counts.proofs.Found.{put_there, put_new, order-with, all-with, all-found}
+use Rattle.event_counts.proofs.Turning.{length_of_turned}
 
 abbrev Fits : ℕ → Type 0
 Fits x = x < 2 ^ 32
@@ -33,14 +34,10 @@ fit-take zero xs fit = tt
 fit-take (suc n) [] fit = tt
 fit-take (suc n) (x ∷ xs) fit = (fit.0, fit-take n xs fit.1)
 
-pub length-turned : (steps : ℕ) (xs : List ℕ) → length (turned steps xs) ≡ length xs
-unfolding turned
-length-turned steps xs = length-take-le (length xs) (replicate steps 0 ++ xs) (omega (arith, length-append (replicate steps 0) xs))
-
 counts-turned : (i : Interval) (steps : ℕ) (xs : List ℕ) → AreCounts i xs → AreCounts i (turned steps xs)
 unfolding turned
 counts-turned i steps xs counts = record {
-  full = length-turned steps xs ∙ counts.full;
+  full = length_of_turned steps xs ∙ counts.full;
   room = fit-take (length xs) (replicate steps 0 ++ xs) (fit-append (replicate steps 0) xs (zeros_fit steps) counts.room);
 }
 

@@ -13,7 +13,8 @@ use Rattle.event_counts.specs.declared.interval.Interval.TheVariants.{Hours, Day
 use Rattle.event_counts.specs.History.{Event, has_name, belongs, count_of, entry_sum, sums}
 use Rattle.event_counts.specs.Intervals.{seconds, entry_count, turns}
 use Rattle.event_counts.specs.Lists.{capped, turned, raised}
-use Rattle.event_counts.proofs.Soundness.{length-turned, length-raised}
+use Rattle.event_counts.proofs.Soundness.{length-raised}
+use Rattle.event_counts.proofs.Turning.{length_of_turned}
 
 -- each entry of the list is the sum of the events that belong to it
 pub record HasSums (i : Interval) (name : List ℕ) (moment : ℕ) (es : List Event) (xs : List ℕ) : Type 0 where
@@ -136,7 +137,7 @@ turned_entry i name t m es xs d k is before later has less =
 
 pub sums-turned : (i : Interval) (name : List ℕ) (t m : ℕ) (es : List Event) (xs : List ℕ) → AreBefore name t es → t ≤ m → HasSums i name t es xs → HasSums i name m es (turned (turns i t m) xs)
 sums-turned i name t m es xs before later has = record {
-  full = length-turned (turns i t m) xs ∙ has.full;
+  full = length_of_turned (turns i t m) xs ∙ has.full;
   each = λ k less. turned_entry i name t m es xs (turns i t m) k refl before later has less;
 }
 

@@ -10,9 +10,11 @@ use Rattle.json_tree.specs.declared.tree.Tree.{Tree}
 use Rattle.plain_text.specs.Names.{is_name}
 use Rattle.recipe_reader.specs.Outcome.{only_if}
 use Rattle.enrol_states.specs.Order.{is_in}
+use Rattle.enrol_states.proofs.Ordered.{bytes_turned}
+use Rattle.row_batches.proofs.Keeping.{all_push}
 use Rattle.pref_bindings.specs.declared.bindings.Binding.{Binding}
 use Rattle.pref_bindings.specs.Bindings.{AreBindings, Differ, or_at_fault, preferences_of, with_feature, with_features, with_variable, with_variables}
-use Rattle.pref_bindings.proofs.FoundBindings.{in_pushed, left_false, right_false, turned}
+use Rattle.pref_bindings.proofs.FoundBindings.{in_pushed, left_false, right_false}
 
 here : (xs : Seq (Seq ℕ × Tree)) (i : ℕ) (x : Seq ℕ × Tree) → i < length xs → x ≡ get_or xs i x → drop i xs ≡ x ∷ drop (i + 1) xs
 here xs i x h is = rw add-one (drop-cons xs i x h ∙ ap (λ y. y ∷ drop (suc i) xs) (sym is))
@@ -61,10 +63,6 @@ features_end bs xs i all h so_far = sym so_far ∙ ap (λ ys. with_features bs (
 
 -- ---- what is read are bindings
 
-named_pushed : (bs : Seq Binding) (b : Binding) → AllByRecursion (λ c. IsTrue (is_name c.preference)) bs → IsTrue (is_name b.preference) → AllByRecursion (λ c. IsTrue (is_name c.preference)) (bs ++ b ∷ [])
-named_pushed [] b all one = (one, tt)
-named_pushed (c ∷ bs) b all one = (all.0, named_pushed bs b all.1 one)
-
 differ_pushed : (ts : Seq (Seq ℕ)) (k : Seq ℕ) → Differ ts → is_in ts k ≡ false → Differ (ts ++ k ∷ [])
 differ_pushed [] k differ new = (refl, tt)
 differ_pushed (t ∷ ts) k differ new =
@@ -73,13 +71,13 @@ differ_pushed (t ∷ ts) k differ new =
       both a b h k = ap (λ c. c || b) h ∙ k
 
       turned_false : (a b : Seq ℕ) → bytes_eq a b ≡ false → bytes_eq b a ≡ false
-      turned_false a b h = turned b a ∙ h
+      turned_false a b h = bytes_turned b a ∙ h
 
 are_pushed : (bs cs : Seq Binding) (b : Binding) (named taken : Bool) → named ≡ is_name b.preference → taken ≡ is_in (preferences_of bs) b.preference → only_if (named && not taken) (bs ++ b ∷ []) ≡ Some cs → AreBindings bs → AreBindings cs
 are_pushed bs cs b true false is_named is_new one are =
     let same : bs ++ b ∷ [] ≡ cs = cc in
     subst AreBindings same (record {
-      names = named_pushed bs b are.names (sym is_named);
+      names = all_push (λ c. IsTrue (is_name c.preference)) bs b are.names (sym is_named);
       once = subst Differ (sym (map-append (λ (c : Binding). c.preference) bs (b ∷ []))) (differ_pushed (preferences_of bs) b.preference are.once (sym is_new));
     })
 are_pushed bs cs b true true is_named is_new one are = absurd cc

@@ -4,13 +4,13 @@ use Rattle.std.specs.Prelude.{◌||◌, ◌&&◌, not, bytes_eq}
 use Rattle.std.specs.BTreeMap.{is_at}
 use Rattle.std.specs.BTreeSet.{insert_key}
 use Rattle.std.specs.List.{list_any}
-use Rattle.std.specs.Ordering.{ordering_reverse, is_eq, match_ordering}
+use Rattle.std.specs.Ordering.{is_eq, match_ordering}
 use Rattle.std.specs.declared.cmp.Ordering.{Ordering}
-use Rattle.std.proofs.lemmas.Cmp.{nat_list_cmp_total}
 use Rattle.std.proofs.lemmas.List.{map-append}
 use Rattle.std.proofs.lemmas.Map.Text.{is_eq-slice_cmp}
 use Rattle.recipe_reader.specs.Payloads.{slug_cmp}
 use Rattle.enrol_states.specs.Order.{is_in}
+use Rattle.enrol_states.proofs.Ordered.{bytes_turned}
 use Rattle.pref_bindings.specs.declared.bindings.Binding.{Binding}
 use Rattle.pref_bindings.specs.Bindings.{preferences_of}
 
@@ -18,16 +18,8 @@ use Rattle.pref_bindings.specs.Bindings.{preferences_of}
 abbrev pub holds : List (List ℕ) → List ℕ → Bool
 holds keys name = list_any (is_at (slug_cmp name)) keys
 
-reversed : (o : Ordering) → is_eq (ordering_reverse o) ≡ is_eq o
-reversed Less = refl
-reversed Equal = refl
-reversed Greater = refl
-
 sides : (a b : List ℕ) → is_eq (slug_cmp a b) ≡ bytes_eq b a
-sides a b = sym (reversed (slug_cmp a b)) ∙ sym (ap is_eq (nat_list_cmp_total.antisymm b a)) ∙ is_eq-slice_cmp b a
-
-pub turned : (a b : List ℕ) → bytes_eq a b ≡ bytes_eq b a
-turned a b = sym (is_eq-slice_cmp a b) ∙ sides a b
+sides a b = is_eq-slice_cmp a b ∙ bytes_turned a b
 
 or_turned : (a b : Bool) → (a || b) ≡ (b || a)
 or_turned true true = refl

@@ -1,6 +1,6 @@
 -- A join of names that are held changes nothing.
 use Rattle.std.proofs.Common.{Ordering, Less, Equal, Greater, ◌≡◌, ◌∙◌, ℕ, Bool, true, false, List, [], ◌∷◌, Option, None, Some, refl, sym, ap}
-use Rattle.std.specs.Prelude.{option_and_then, option_map, if◌then◌else◌}
+use Rattle.std.specs.Prelude.{option_map}
 use Rattle.std.specs.List.Sorted.{IsStrictlySortedBy}
 use Rattle.std.specs.Option.{is_some}
 use Rattle.recipe_reader.specs.Payloads.{slug_cmp}
@@ -10,19 +10,13 @@ use Rattle.pref_bindings.specs.declared.preference.Hold.{Hold}
 use Rattle.pref_bindings.specs.declared.preference.Preference.{Preference}
 use Rattle.pref_bindings.specs.Preferences.{AreHeld, IsSound, holder_of, names_of}
 use Rattle.pref_bindings.specs.Changes.{Setting, is_held, held_by, joined, joined_at, joined_one}
-use Rattle.pref_bindings.proofs.Joins.{one_step}
+use Rattle.pref_bindings.proofs.Joins.{one_step, stays_held}
 use Rattle.pref_bindings.proofs.Order.{turned_even}
-use Rattle.pref_bindings.proofs.Places.{found_above, found_step}
-
-abbrev holder_in : Option Preference → Option (List ℕ)
-holder_in o = option_and_then (λ p. option_map (λ h. h.holder) p.hold) o
+use Rattle.pref_bindings.proofs.Places.{found_above, found_step, holder_in}
 
 is_held_if : (h : Option Hold) → is_some (option_map (λ k. k.holder) h) ≡ true → is_held h ≡ true
 is_held_if None some = absurd cc
 is_held_if (Some k) some = refl
-
-stays : (slug : List ℕ) (v : Setting) (p : Preference) → is_held p.hold ≡ true → joined_at slug v p ≡ p
-stays slug v p held = ap (λ (b : Bool). if b then p else held_by slug v (Some p.value)) held
 
 one_at : (o : Ordering) (slug : List ℕ) (v : Setting) (p : Preference) (ps : List Preference) → slug_cmp v.0 p.name ≡ o → AreAbove p.name (names_of ps) → is_some (holder_of v.0 (p ∷ ps)) ≡ true
     → (is_some (holder_of v.0 ps) ≡ true → joined_one slug v ps ≡ ps) → joined_one slug v (p ∷ ps) ≡ p ∷ ps
@@ -31,7 +25,7 @@ one_at Less slug v p ps e above held rest =
     absurd cc
 one_at Equal slug v p ps e above held rest =
     let here : is_some (option_map (λ (k : Hold). k.holder) p.hold) ≡ true = sym (ap (λ o. is_some (holder_in o)) (found_step v.0 p ps true (equal_texts p.name v.0 (turned_even v.0 p.name e)))) ∙ held in
-    one_step slug v p ps Equal e ∙ ap (λ (q : Preference). q ∷ ps) (stays slug v p (is_held_if p.hold here))
+    one_step slug v p ps Equal e ∙ ap (λ (q : Preference). q ∷ ps) (stays_held slug v p (is_held_if p.hold here))
 one_at Greater slug v p ps e above held rest =
     let behind : is_some (holder_of v.0 ps) ≡ true = sym (ap (λ o. is_some (holder_in o)) (found_step v.0 p ps false (lesser_texts p.name v.0 (turned_down v.0 p.name e)))) ∙ held in
     one_step slug v p ps Greater e ∙ ap (λ (qs : List Preference). p ∷ qs) (rest behind)

@@ -1,5 +1,6 @@
 -- The preferences that somebody holds, by themselves: their rows, what a leave makes of them, and that the user doesn't change them.
 use Rattle.std.proofs.Common.{Ordering, Less, Equal, Greater, ◌≡◌, ℕ, Bool, true, false, cond, List, [], ◌∷◌, ◌++◌, Option, None, Some, refl, sym, ap, ◌∙◌}
+use Rattle.std.specs.List.{list_any}
 use Rattle.std.specs.Option.{is_some}
 use Rattle.json_tree.specs.declared.tree.Tree.{Tree}
 use Rattle.recipe_reader.specs.Payloads.{slug_cmp}
@@ -11,6 +12,7 @@ use Rattle.pref_bindings.specs.Held.{held_preferences}
 use Rattle.pref_bindings.specs.Laws.{HoldsNone}
 use Rattle.pref_bindings.specs.Preferences.{holder_of}
 use Rattle.pref_bindings.specs.Rows.{hold_row, hold_rows}
+use Rattle.pref_bindings.proofs.FoundBindings.{left_false, right_false}
 use Rattle.pref_bindings.proofs.Places.{with_step, without_step}
 use Rattle.pref_bindings.proofs.UserMaps.{free_behind, free_here, left_none, own}
 
@@ -45,9 +47,15 @@ holds_none : (slug : List ℕ) (ps : List Preference) → HoldsNone slug (held_p
 holds_none slug [] none = none
 holds_none slug (p ∷ ps) none = none_at (is_some p.hold) slug p ps refl none (holds_none slug ps)
 
+holds_none_of : (slug : List ℕ) (ps : List Preference) → list_any (λ p. holds slug p.hold) ps ≡ false → HoldsNone slug ps
+holds_none_of slug [] none = tt
+holds_none_of slug (p ∷ ps) none =
+    let others = list_any (λ (q : Preference). holds slug q.hold) ps in
+    (left_false (holds slug p.hold) others none, holds_none_of slug ps (right_false (holds slug p.hold) others none))
+
 -- a leave of a slug that holds none of them changes nothing
-pub left_held : (slug : List ℕ) (ps : List Preference) → HoldsNone slug (held_preferences ps) → left slug ps ≡ ps
-left_held slug ps none = left_none slug ps (holds_none slug ps none)
+pub left_held : (slug : List ℕ) (ps : List Preference) → list_any (λ p. holds slug p.hold) (held_preferences ps) ≡ false → left slug ps ≡ ps
+left_held slug ps none = left_none slug ps (holds_none slug ps (holds_none_of slug (held_preferences ps) none))
 
 -- ---- the user
 

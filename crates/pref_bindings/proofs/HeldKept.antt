@@ -1,6 +1,6 @@
 -- A held preference stays as it is through joins, through leaves of other slugs, and while the user sets names that are free.
 use Rattle.std.proofs.Common.{Ordering, Less, Equal, Greater, ◌≡◌, ℕ, Bool, true, false, List, [], ◌∷◌, ◌++◌, Option, None, Some, inl, inr, refl, sym, ap, ◌∙◌, subst}
-use Rattle.std.specs.Prelude.{bytes_eq, option_map, option_and_then, if◌then◌else◌}
+use Rattle.std.specs.Prelude.{bytes_eq, option_map, if◌then◌else◌}
 use Rattle.std.specs.Cmp.Lexicographic.{bytes_decides}
 use Rattle.std.specs.List.Sorted.{IsStrictlySortedBy}
 use Rattle.recipe_reader.specs.Payloads.{slug_cmp}
@@ -11,9 +11,9 @@ use Rattle.pref_bindings.specs.declared.preference.Preference.{Preference}
 use Rattle.pref_bindings.specs.Preferences.{found, holder_of, names_of}
 use Rattle.pref_bindings.specs.Changes.{Setting, is_held, held_by, joined_at, joined_one, holds, left, restored, users_part, with_preference, without_name}
 use Rattle.pref_bindings.specs.Laws.{JoinKeepsHeld, LeaveKeepsHeld, SetKeepsHeld}
-use Rattle.pref_bindings.proofs.Joins.{joined_name, one_step}
+use Rattle.pref_bindings.proofs.Joins.{joined_name, one_step, stays_held}
 use Rattle.pref_bindings.proofs.Parts.{AtMost, restored_most}
-use Rattle.pref_bindings.proofs.Places.{found_step, with_step, without_step}
+use Rattle.pref_bindings.proofs.Places.{found_step, holder_in, with_step, without_step}
 use Rattle.pref_bindings.proofs.Sound.{rise_one}
 
 some_same : {A : Type 0} (x y : A) → Some x ≡ Some y → x ≡ y
@@ -34,9 +34,6 @@ above_at false s p q ps e less there rest = rest (sym (found_step p.name q ps fa
 above_found : (s : List ℕ) (p : Preference) (ps : List Preference) → AreAbove s (names_of ps) → found p.name ps ≡ Some p → slug_cmp s p.name ≡ Less
 above_found s p [] above there = absurd (cc)
 above_found s p (q ∷ ps) above there = above_at (bytes_eq q.name p.name) s p q ps refl above.0 there (above_found s p ps above.1)
-
-stays_held : (slug : List ℕ) (v : Setting) (q : Preference) → is_held q.hold ≡ true → joined_at slug v q ≡ q
-stays_held slug v q held = ap (λ (b : Bool). if b then q else held_by slug v (Some q.value)) held
 
 one_at : (o : Ordering) (b : Bool) (slug : List ℕ) (v : Setting) (p q : Preference) (ps : List Preference) → slug_cmp v.0 q.name ≡ o → bytes_eq q.name p.name ≡ b → AreAbove q.name (names_of ps)
     → is_held p.hold ≡ true → found p.name (q ∷ ps) ≡ Some p → (found p.name ps ≡ Some p → found p.name (joined_one slug v ps) ≡ Some p) → found p.name (joined_one slug v (q ∷ ps)) ≡ Some p
@@ -94,9 +91,6 @@ pub leave_kept : LeaveKeepsHeld
 leave_kept slug p ps other is = record { there = left_kept slug p ps other is.there; held = is.held }
 
 -- ---- the user
-
-abbrev holder_in : Option Preference → Option (List ℕ)
-holder_in o = option_and_then (λ p. option_map (λ h. h.holder) p.hold) o
 
 held_none : (h : Option Hold) → option_map (λ k. k.holder) h ≡ None → is_held h ≡ true → ⊥
 held_none None free held = cc

@@ -18,6 +18,10 @@ pub one_step : (slug : List ℕ) (v : Setting) (p : Preference) (ps : List Prefe
     → joined_one slug v (p ∷ ps) ≡ match_ordering o (held_by slug v None ∷ p ∷ ps) (joined_at slug v p ∷ ps) (p ∷ joined_one slug v ps)
 one_step slug v p ps o e = ap (λ c. match_ordering c (held_by slug v None ∷ p ∷ ps) (joined_at slug v p ∷ ps) (p ∷ joined_one slug v ps)) e
 
+-- one that is held stays
+pub stays_held : (slug : List ℕ) (v : Setting) (p : Preference) → is_held p.hold ≡ true → joined_at slug v p ≡ p
+stays_held slug v p held = ap (λ (b : Bool). if b then p else held_by slug v (Some p.value)) held
+
 -- a preference whose name is below those of all settings stays first
 pub stays_first : (slug : List ℕ) (vs : List Setting) (p : Preference) (ps : List Preference) → AreAbove p.name (settings_names vs) → joined slug vs (p ∷ ps) ≡ p ∷ joined slug vs ps
 stays_first slug [] p ps above = refl

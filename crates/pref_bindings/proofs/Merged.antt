@@ -5,6 +5,7 @@ use Rattle.std.proofs.lemmas.Grind.{flat_map-append}
 use Rattle.std.specs.List.{AllByRecursion}
 use Rattle.std.specs.List.Sorted.{IsStrictlySortedBy}
 use Rattle.row_batches.specs.declared.store_row.StoreRow.{StoreRow}
+use Rattle.row_batches.proofs.Keeping.{all_push}
 use Rattle.enrol_states.specs.Order.{Rise, AreAbove}
 use Rattle.pref_bindings.specs.declared.preference.Preference.{Preference}
 use Rattle.pref_bindings.specs.Preferences.{IsPreference, IsSound, names_of}
@@ -14,12 +15,8 @@ use Rattle.pref_bindings.proofs.OneList.{cons_head, cons_tail, alone, are_holds,
 
 -- ---- where the rows of holds end
 
-one_more : (l : List StoreRow) (r : StoreRow) → AreHolds l → is_hold r ≡ true → AreHolds (l ++ r ∷ [])
-one_more [] r are hold = (hold, tt)
-one_more (x ∷ l) r are hold = (are.0, one_more l r are.1 hold)
-
 pub holds_more : (rows : List StoreRow) (i : ℕ) (r : StoreRow) → i < length rows → r ≡ get_or rows i r → is_hold r ≡ true → AreHolds (take i rows) → AreHolds (take (i + 1) rows)
-holds_more rows i r within is hold are = subst AreHolds (sym (take_more rows i r within)) (one_more (take i rows) (get_or rows i r) are (ap is_hold (sym is) ∙ hold))
+holds_more rows i r within is hold are = subst AreHolds (sym (take_more rows i r within)) (all_push (λ r. is_hold r ≡ true) (take i rows) (get_or rows i r) are (ap is_hold (sym is) ∙ hold))
 
 pub end_here : (rows : List StoreRow) (i : ℕ) (r : StoreRow) → i < length rows → r ≡ get_or rows i r → is_hold r ≡ false → AreHolds (take i rows) → IsHoldsEnd rows i
 end_here rows i r within is other are =
@@ -103,10 +100,6 @@ none_left holds values ps holds_left before some qs sound h v = let found = befo
     at [] h_left none = some h_left
     at (r ∷ rs) h_left none = absurd (cc)
 
-pub each_more : (ps : List Preference) (p : Preference) → AllByRecursion IsPreference ps → IsPreference p → AllByRecursion IsPreference (ps ++ p ∷ [])
-each_more [] p each is = (is, tt)
-each_more (q ∷ ps) p each is = (each.0, each_more ps p each.1 is)
-
 -- ---- all rows
 
 pub parts_of_rows : (rows : List StoreRow) (i : ℕ) (ps : List Preference) → IsHoldsEnd rows i → rows ≡ rows_of ps → (take i rows ≡ hold_rows ps) × (drop i rows ≡ value_rows ps)
@@ -152,7 +145,7 @@ merged_more holds values ps holds_left i row p rest given before within is is_ro
       read_holds =
           before.read_holds ∙ ap (λ (l : List StoreRow). hold_rows ps ++ l) is_hold_rows ∙ sym (append_assoc (hold_rows ps) (hold_row p.name p.hold) rest)
           ∙ ap (λ (l : List StoreRow). l ++ rest) (sym (flat_map-append (λ (q : Preference). hold_row q.name q.hold) ps (p ∷ []) ∙ ap (λ (l : List StoreRow). hold_rows ps ++ l) (append-nil (hold_row p.name p.hold))));
-      each = each_more ps p before.each sound;
+      each = all_push IsPreference ps p before.each sound;
       begins = begin_more holds values ps holds_left (drop (i + 1) values) row p rest (begins_at holds values ps holds_left i row within is before.begins) is_row is_hold_rows sound is_alone;
     })
 

@@ -1,6 +1,6 @@
 -- The preference of a name, found by a search, and the preferences with one more or one less.
-use Rattle.std.proofs.Common.{Ordering, ◌≡◌, ℕ, zero, suc, ◌<◌, Bool, true, false, List, [], ◌∷◌, length, get_or, take, drop, Some, None, Less, Equal, Greater, Err, refl, sym, ap, ◌∙◌, subst, arith}
-use Rattle.std.specs.Prelude.{bytes_eq, slice_set, if◌then◌else◌}
+use Rattle.std.proofs.Common.{Ordering, ◌≡◌, ℕ, zero, suc, ◌<◌, Bool, true, false, List, [], ◌∷◌, length, get_or, take, drop, Option, Some, None, Less, Equal, Greater, Err, refl, sym, ap, ◌∙◌, subst, arith}
+use Rattle.std.specs.Prelude.{bytes_eq, option_and_then, option_map, slice_set, if◌then◌else◌}
 use Rattle.std.specs.List.{HoldsAt, insert, remove}
 use Rattle.std.specs.List.Sorted.{IsStrictlySortedBy, IsBinarySearchResult}
 use Rattle.std.specs.Ordering.{match_ordering}
@@ -22,6 +22,10 @@ with_step q p ps o e = ap (λ c. match_ordering c (q ∷ p ∷ ps) (q ∷ ps) (p
 
 pub without_step : (name : List ℕ) (p : Preference) (ps : List Preference) (o : Ordering) → slug_cmp name p.name ≡ o → without_name name (p ∷ ps) ≡ match_ordering o (p ∷ ps) ps (p ∷ without_name name ps)
 without_step name p ps o e = ap (λ c. match_ordering c (p ∷ ps) ps (p ∷ without_name name ps)) e
+
+-- the slug that holds what a search finds
+abbrev pub holder_in : Option Preference → Option (List ℕ)
+holder_in o = option_and_then (λ p. option_map (λ h. h.holder) p.hold) o
 
 -- ---- the preference at a place has the name
 

@@ -17,6 +17,7 @@ use Rattle.recipe_reader.specs.declared.recipe.Branch.{Branch}
 use Rattle.recipe_reader.specs.declared.recipe.FeatureValue.{FeatureValue}
 use Rattle.enrol_states.specs.Order.{Rise, AreAbove, is_in}
 use Rattle.enrol_states.proofs.Ordered.{same_texts, turned_down}
+use Rattle.enrol_states.proofs.Leasts.{is_Equal}
 use Rattle.enrol_states.proofs.OptOuts.{rise-insert}
 use Rattle.pref_bindings.specs.declared.bindings.Binding.{Binding}
 use Rattle.pref_bindings.specs.Bindings.{Differ, of_feature, preferences_of}
@@ -130,13 +131,8 @@ module _ {X Y : Type 0} where
 abbrev value_at : List ℕ → List Setting → Option Tree
 value_at q vs = lookup (is_at (slug_cmp q)) vs
 
-even_of : (o : Ordering) → is_eq o ≡ true → o ≡ Equal
-even_of Less e = absurd cc
-even_of Equal e = refl
-even_of Greater e = absurd cc
-
 one_name : (q k : List ℕ) → is_eq (slug_cmp q k) ≡ true → q ≡ k
-one_name q k e = same_texts q k (even_of (slug_cmp q k) e)
+one_name q k e = same_texts q k (is_Equal (slug_cmp q k) e)
 
 own_name : (q k : List ℕ) → q ≡ k → is_eq (slug_cmp q k) ≡ true
 own_name q k e = subst (λ n. is_eq (slug_cmp q n) ≡ true) e (ap is_eq (tied_itself nat_list_cmp_total q))

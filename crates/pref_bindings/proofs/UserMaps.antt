@@ -1,6 +1,6 @@
 -- What joins, leaves and the user make of the user's map.
 use Rattle.std.proofs.Common.{Ordering, Less, Equal, Greater, ◌≡◌, ℕ, Bool, true, false, List, [], ◌∷◌, ◌++◌, Option, None, Some, inl, inr, refl, sym, ap, ap₂, ◌∙◌, subst}
-use Rattle.std.specs.Prelude.{option_map, option_and_then, if◌then◌else◌}
+use Rattle.std.specs.Prelude.{option_map, if◌then◌else◌}
 use Rattle.std.specs.List.{flat_map}
 use Rattle.std.specs.List.Sorted.{IsStrictlySortedBy}
 use Rattle.std.proofs.lemmas.List.{append-nil}
@@ -16,7 +16,7 @@ use Rattle.pref_bindings.specs.Changes.{Setting, is_held, held_by, joined_one, j
 use Rattle.pref_bindings.specs.Laws.{HoldsNone, LeaveUndoesJoin, JoinKeepsUserMap, LeaveKeepsUserMap, UserSetsOwn}
 use Rattle.pref_bindings.proofs.Order.{bytes_same, turned_even}
 use Rattle.pref_bindings.proofs.Parts.{AtMost, above_parts, users_most}
-use Rattle.pref_bindings.proofs.Places.{found_step, with_step, without_step}
+use Rattle.pref_bindings.proofs.Places.{found_step, holder_in, with_step, without_step}
 use Rattle.pref_bindings.proofs.Joins.{one_step}
 
 abbrev part : Preference → List Preference
@@ -129,9 +129,6 @@ without_behind n name l ps most greater =
 none_holds : (h : Option Hold) → option_map (λ k. k.holder) h ≡ None → h ≡ None
 none_holds None e = refl
 none_holds (Some k) e = absurd (cc)
-
-abbrev holder_in : Option Preference → Option (List ℕ)
-holder_in o = option_and_then (λ p. option_map (λ h. h.holder) p.hold) o
 
 pub free_here : (name : List ℕ) (p : Preference) (ps : List Preference) → slug_cmp name p.name ≡ Equal → holder_of name (p ∷ ps) ≡ None → p.hold ≡ None
 free_here name p ps even free =

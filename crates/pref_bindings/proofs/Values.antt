@@ -1,5 +1,5 @@
 -- The texts of values and holds tell them apart.
-use Rattle.std.proofs.Common.{◌≡◌, ℕ, ◌<◌, List, [], ◌∷◌, ◌++◌, length, true, false, pos, negsuc, Option, Some, None, refl, sym, ap, ap₂, ◌∙◌, arith}
+use Rattle.std.proofs.Common.{◌≡◌, ℕ, ◌<◌, List, [], ◌∷◌, ◌++◌, length, true, false, pos, negsuc, Option, Some, None, refl, sym, ap, ◌∙◌, arith}
 use Rattle.std.proofs.lemmas.Fmt.{decimal_nonempty}
 use Rattle.json_tree.specs.Json.{depth, IsSound as IsSoundJson}
 use Rattle.json_tree.specs.Bytes.{tree_of, max_depth, IsTooDeep}
@@ -8,6 +8,7 @@ use Rattle.json_tree.specs.Inverse.{json_of-injective, one_value}
 use Rattle.json_tree.specs.declared.tree.Tree.{Tree}
 use Rattle.json_tree.specs.declared.tree.Tree.TheVariants.{Null, Truth, Whole, Odd, Text, List as Items, Object}
 use Rattle.json_tree.proofs.RoundTrip.{tree_of-text_of}
+use Rattle.row_batches.proofs.Fields.{front_same, rest_same}
 use Rattle.pref_bindings.specs.declared.preference.Hold.{Hold}
 use Rattle.pref_bindings.specs.Preferences.{IsHold, IsValue, IsValueOrNone}
 use Rattle.pref_bindings.specs.Rows.{value_text, before_text, hold_text}
@@ -70,21 +71,11 @@ same_before (Some v) None v_is w_is same = absurd (some_text v v_is same)
 same_before (Some v) (Some w) v_is w_is same = ap Some (same_values v w v_is w_is same)
 
 -- what follows a length and as many bytes
-same_parts : (xs ys us vs : List ℕ) → length xs ≡ length ys → xs ++ us ≡ ys ++ vs → (xs ≡ ys) × (us ≡ vs)
-same_parts [] [] us vs len same = (refl, same)
-same_parts [] (y ∷ ys) us vs len same = absurd (omega arith)
-same_parts (x ∷ xs) [] us vs len same = absurd (omega arith)
-same_parts (x ∷ xs) (y ∷ ys) us vs len same =
-    let head : x ≡ y = cc in
-    let tail : xs ++ us ≡ ys ++ vs = cc in
-    let rest = same_parts xs ys us vs (omega arith) tail in
-    (ap₂ (λ (z : ℕ) (zs : List ℕ). z ∷ zs) head rest.0, rest.1)
-
 pub same_text_parts : (xs ys us vs : List ℕ) → length xs ∷ (xs ++ us) ≡ length ys ∷ (ys ++ vs) → (xs ≡ ys) × (us ≡ vs)
 same_text_parts xs ys us vs same =
     let len : length xs ≡ length ys = cc in
     let rest : xs ++ us ≡ ys ++ vs = cc in
-    same_parts xs ys us vs len rest
+    (front_same xs ys us vs len rest, rest_same xs ys us vs len rest)
 
 pub same_holds : (h k : Hold) → IsHold (Some h) → IsHold (Some k) → hold_text h.holder h.before ≡ hold_text k.holder k.before → h ≡ k
 same_holds h k h_is k_is same =

@@ -1,14 +1,13 @@
 // Bindings of variables to preferences.
 ghost use Rattle.std.specs.Prelude.{◌≡◌, ◌&&◌, ◌++◌, ◌∷◌, [], false, not, IfOk, OnOk};
-ghost use Rattle.json_tree.specs.Json.{members_of};
 ghost use Rattle.json_tree.specs.Tree.{json_of};
 ghost use Rattle.plain_text.specs.Names.{is_name};
 ghost use Rattle.recipe_reader.specs.Outcome.{only_if};
 ghost use Rattle.enrol_states.specs.Order.{is_in};
-ghost use Rattle.pref_bindings.specs.Bindings.{AreBindings, AreByVariable, GivesBindings, HasPreferences, bindings_of, preferences_of, with_feature, with_features, with_variable, with_variables};
+ghost use Rattle.pref_bindings.specs.Bindings.{AreBindings, AreByVariable, GivesBindings, HasPreferences, bindings_of, preferences_of, with_feature, with_variable};
 
 use crate::fault::BindingFault;
-use json_tree::{Members, Tree};
+use json_tree::Tree;
 use plain_text::is_name;
 use sequences::{Sequence, Text};
 use std::alloc::{AllocError, Global};
@@ -60,24 +59,19 @@ impl Bindings {
 /// The bindings that a tree is, in its order: an object from features to objects from variables to preferences, each of which is a
 /// name and stands once. `BadBinding` names the first feature at which this fails, and is the empty text where the tree is no
 /// object.
-#[tactic(auto, unfolding(crate::specs::Bindings::bindings_of))]
+#[tactic(auto, using(crate::proofs::FoundBindings::found_none), unfolding(crate::specs::Bindings::bindings_of))]
 pub fn read_bindings(alloc: Global, tree: &Tree) -> Result<Bindings, BindingFault>
     ensures bindings { GivesBindings result (bindings_of (json_of tree.now)) }
     ensures are { IfOk result AreBindings }
 {
-    match tree {
-        Tree::Object(features) => bindings_of_features(alloc, features),
-        _ => Err(BindingFault::BadBinding(Text::new(alloc, "")?)),
-    }
-}
-
-// The bindings of features and their variables.
-fn bindings_of_features(alloc: Global, features: &Members) -> Result<Bindings, BindingFault>
-    ensures bindings { GivesBindings result (with_features [] (members_of features.now)) }
-    ensures are { IfOk result AreBindings }
-{
+    let Tree::Object(features) = tree else {
+        return Err(BindingFault::BadBinding(Text::new(alloc, "")?));
+    };
     let members = features.as_slice();
-    let mut found = Found::none(alloc);
+    let mut found = Found {
+        bindings: Sequence::new(alloc),
+        preferences: BTreeSet::new(alloc),
+    };
     for (feature, variables) in members {
         if !found.add_feature(feature, variables)? {
             return Err(BindingFault::BadBinding(feature.clone()?));
@@ -96,36 +90,15 @@ pub(crate) struct Found {
 }
 
 impl Found {
-    // No bindings.
-    #[tactic(auto, using(crate::proofs::FoundBindings::found_none))]
-    fn none(alloc: Global) -> Found
-        ensures bindings { result.bindings ≡ [] }
-        ensures preferences { HasPreferences result }
-    {
-        Found {
-            bindings: Sequence::new(alloc),
-            preferences: BTreeSet::new(alloc),
-        }
-    }
-
     // Adds those of a feature, and says whether it could.
     fn add_feature(&mut self, feature: &Text, tree: &Tree) -> Result<bool, AllocError>
         requires { HasPreferences self.old }
         ensures added { IfOk result (λ added. with_feature self.old.bindings feature.now (json_of tree.now) ≡ only_if added self.new.bindings) }
         ensures preferences { OnOk result (HasPreferences self.new) }
     {
-        match tree {
-            Tree::Object(variables) => self.add_variables(feature, variables),
-            _ => Ok(false),
-        }
-    }
-
-    // Adds those of a feature's variables, and says whether it could.
-    fn add_variables(&mut self, feature: &Text, variables: &Members) -> Result<bool, AllocError>
-        requires { HasPreferences self.old }
-        ensures added { IfOk result (λ added. with_variables feature.now self.old.bindings (members_of variables.now) ≡ only_if added self.new.bindings) }
-        ensures preferences { OnOk result (HasPreferences self.new) }
-    {
+        let Tree::Object(variables) = tree else {
+            return Ok(false);
+        };
         let members = variables.as_slice();
         for (variable, tree) in members {
             if !self.add_variable(feature, variable, tree)? {

@@ -3,9 +3,9 @@ ghost use Rattle.std.specs.Prelude.{◌≡◌, fold, IfOk, IsTrue, OnOk, option_
 ghost use Rattle.std.specs.List.{AllByRecursion, filter_map};
 ghost use Rattle.json_tree.specs.Tree.{json_of};
 ghost use Rattle.plain_text.specs.Names.{is_name};
-ghost use Rattle.pref_bindings.specs.Bound.{bound_value, bound_values, branch_with, is_bound_type, set_by, set_by_branch, setting_of, taken, value_for, variable_of, with_any, with_setting};
+ghost use Rattle.pref_bindings.specs.Bound.{bound_value, bound_values, branch_with, is_bound_type, set_by, set_by_branch, setting_of, taken, variable_of, with_any, with_setting};
 ghost use Rattle.pref_bindings.specs.Changes.{AreSettings, IsSetting};
-ghost use Rattle.pref_bindings.specs.Preferences.{IsValue, IsValueOrNone};
+ghost use Rattle.pref_bindings.specs.Preferences.{IsValueOrNone};
 
 use crate::bindings::{Binding, Bindings};
 use crate::feature_range::of_feature;
@@ -95,25 +95,9 @@ fn add_setting(
     ensures added { OnOk result (settings.new.entries ≡ with_any settings.old.entries (setting_of manifest.now branch.now binding.now)) }
     ensures settings { OnOk result (AllByRecursion IsSetting settings.new.entries) }
 {
-    match bound_value(manifest, branch, binding)? {
-        Some(value) => put(settings, &binding.preference, value),
-        None => Ok(()),
+    if let Some(value) = bound_value(manifest, branch, binding)? {
+        settings.insert(binding.preference.clone()?, value)?;
     }
-}
-
-// Puts the value of a preference at its place in the order of names.
-fn put(
-    settings: &mut BTreeMap<Text, Tree>,
-    preference: &Text,
-    value: Tree,
-) -> Result<(), AllocError>
-    requires name { IsTrue (is_name preference.now) }
-    requires value { IsValue value }
-    requires settings { AllByRecursion IsSetting settings.old.entries }
-    ensures put { OnOk result (settings.new.entries ≡ with_setting settings.old.entries (preference.now, value)) }
-    ensures settings { OnOk result (AllByRecursion IsSetting settings.new.entries) }
-{
-    settings.insert(preference.clone()?, value)?;
     Ok(())
 }
 
@@ -139,15 +123,16 @@ fn bound_value(
     ensures value { IfOk result (λ value. value ≡ bound_value manifest.now branch.now binding.now) }
     ensures sound { IfOk result IsValueOrNone }
 {
-    let Some(value) = set_by(binding.feature.as_str(), branch) else {
+    let feature = binding.feature.as_str();
+    let variable = binding.variable.as_str();
+    let Some(value) = set_by(feature, branch) else {
         return Ok(None);
     };
-    match variable_of(
-        binding.feature.as_str(),
-        binding.variable.as_str(),
-        manifest,
-    ) {
-        Some(field) => value_for(manifest, field, binding.variable.as_str(), value),
+    let Some(field) = variable_of(feature, variable, manifest) else {
+        return Ok(None);
+    };
+    match value.get(variable) {
+        Some(member) => taken(&manifest.types, &field.field_type, member),
         None => Ok(None),
     }
 }
@@ -166,22 +151,6 @@ fn variable_of<'a>(feature: &str, variable: &str, manifest: &'a Manifest) -> Opt
     ensures { option_map (λ field. field.now) result ≡ variable_of feature.now variable.now manifest.now }
 {
     manifest.features.get(feature)?.variables.get(variable)
-}
-
-// The value that the branch's value of a feature gives to a variable.
-fn value_for(
-    manifest: &Manifest,
-    field: &Field,
-    variable: &str,
-    value: &Tree,
-) -> Result<Option<Tree>, AllocError>
-    ensures value { IfOk result (λ v. v ≡ value_for manifest.now field.now variable.now value.now) }
-    ensures sound { IfOk result IsValueOrNone }
-{
-    match value.get(variable) {
-        Some(member) => taken(&manifest.types, &field.field_type, member),
-        None => Ok(None),
-    }
 }
 
 // The value, where it is one of a preference and the type takes it.

@@ -1,6 +1,6 @@
 // Why rows give no preferences, and a tree no bindings.
 use sequences::Text;
-use std::alloc::{AllocError, AllocFailed};
+use std::alloc::AllocError;
 
 /// Why rows gave no preferences.
 #[derive(Clone, Copy, Debug, PartialEq, Eq)]
@@ -17,17 +17,6 @@ impl From<AllocError> for PrefsFault {
     ghost from_gives = { λ _ fault. fault ≡ OutOfMemory };
 
     fn from(_: AllocError) -> PrefsFault {
-        PrefsFault::OutOfMemory
-    }
-}
-
-impl<T: Drop> From<AllocFailed<T>> for PrefsFault {
-    ghost use Rattle.std.specs.Prelude.{◌≡◌};
-    ghost use Rattle.pref_bindings.specs.declared.fault.PrefsFault.TheVariants.{OutOfMemory};
-
-    ghost from_gives = { λ _ fault. fault ≡ OutOfMemory };
-
-    fn from(_: AllocFailed<T>) -> PrefsFault {
         PrefsFault::OutOfMemory
     }
 }

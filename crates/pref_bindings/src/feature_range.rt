@@ -1,6 +1,6 @@
 // The bindings of a feature, looked up among those in order.
-ghost use Rattle.std.specs.Prelude.{◌≡◌, false, not};
-ghost use Rattle.std.specs.List.{AllByRecursion, filter};
+ghost use Rattle.std.specs.Prelude.{◌≡◌, not};
+ghost use Rattle.std.specs.List.{filter};
 ghost use Rattle.std.specs.Ordering.{is_lt};
 ghost use Rattle.recipe_reader.specs.Payloads.{slug_cmp};
 ghost use Rattle.pref_bindings.specs.Bindings.{AreByVariable, of_feature};
@@ -12,7 +12,9 @@ pub(crate) fn of_feature<'a>(feature: &str, bindings: &'a [Binding]) -> &'a [Bin
     requires { AreByVariable bindings.now }
     ensures { result.now ≡ of_feature feature.now bindings.now }
 {
-    first_of(feature, not_below(feature, bindings))
+    let rest = not_below(feature, bindings);
+    let count = rest.partition_point(|binding| binding.feature.as_str() == feature);
+    &rest[..count]
 }
 
 // The bindings whose feature isn't below this one.
@@ -23,14 +25,4 @@ fn not_below<'a>(feature: &str, bindings: &'a [Binding]) -> &'a [Binding]
 {
     let start = bindings.partition_point(|binding| binding.feature.as_str().cmp(feature).is_lt());
     &bindings[start..]
-}
-
-// The bindings of the feature, below which there is none.
-fn first_of<'a>(feature: &str, bindings: &'a [Binding]) -> &'a [Binding]
-    requires order { AreByVariable bindings.now }
-    requires least { AllByRecursion (λ b. is_lt (slug_cmp b.feature feature.now) ≡ false) bindings.now }
-    ensures { result.now ≡ of_feature feature.now bindings.now }
-{
-    let count = bindings.partition_point(|binding| binding.feature.as_str() == feature);
-    &bindings[..count]
 }

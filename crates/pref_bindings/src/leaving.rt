@@ -1,7 +1,7 @@
 // What is left when a slug leaves.
-ghost use Rattle.std.specs.Prelude.{◌≡◌, ◌++◌, IfOk, IsTrue, OnOk};
+ghost use Rattle.std.specs.Prelude.{◌≡◌, ◌++◌, IfOk, OnOk};
+ghost use Rattle.std.specs.List.{list_any};
 ghost use Rattle.pref_bindings.specs.Changes.{holds, left, restored, set_value};
-ghost use Rattle.pref_bindings.specs.Laws.{HoldsNone};
 ghost use Rattle.pref_bindings.specs.Preferences.{IsSound};
 
 use crate::preference::{Hold, Preference};
@@ -27,16 +27,13 @@ pub(crate) fn left(
     Ok(left)
 }
 
-/// Whether the slug holds none of the preferences. It takes no memory.
-pub(crate) fn holds_none(slug: &Slug, preferences: &[Preference]) -> bool
-    ensures { IsTrue result → HoldsNone slug.now preferences.now }
+/// Whether the slug holds one of the preferences. It takes no memory.
+pub(crate) fn holds_any(slug: &Slug, preferences: &[Preference]) -> bool
+    ensures { result ≡ list_any (λ p. holds slug.now p.hold) preferences.now }
 {
-    for preference in preferences {
-        if is_held_by(preference, slug) {
-            return false;
-        }
-    }
-    true
+    preferences
+        .iter()
+        .any(|preference| is_held_by(preference, slug))
 }
 
 // Whether the slug holds the preference.

@@ -12,7 +12,7 @@ ghost use Rattle.sequences.specs.ListParts.{IsPart};
 
 use crate::held::held_preferences;
 use crate::joining::joined;
-use crate::leaving::{holds_none, left};
+use crate::leaving::{holds_any, left};
 use crate::next_preferences::NextPreferences;
 use crate::preference::Preference;
 use crate::setting::{users_preference, with_preference, without_name};
@@ -123,20 +123,15 @@ impl Prefs {
     pub fn get(&self, name: &str) -> Option<&Tree>
         ensures { option_map (λ value. value.now) result ≡ value_of name.now self.now }
     {
-        match self.find(name) {
-            Some(preference) => Some(&preference.value),
-            None => None,
-        }
+        Some(&self.find(name)?.value)
     }
 
     /// The slug that holds a name, where one does. It takes no memory.
     pub fn holder(&self, name: &str) -> Option<&Slug>
         ensures { option_map (λ slug. slug.now) result ≡ holder_of name.now self.now }
     {
-        match self.find(name) {
-            Some(preference) => holder_in(preference),
-            None => None,
-        }
+        let hold = self.find(name)?.hold.as_ref()?;
+        Some(&hold.holder)
     }
 
     // The preference of a name, by a binary search.
@@ -189,7 +184,7 @@ impl Prefs {
     pub fn leave(&self, alloc: Global, slug: &Slug) -> Result<Option<Prefs>, AllocError>
         ensures { IfOk result (λ next. unwrap_or next self.now ≡ left slug.now self.now) }
     {
-        if holds_none(slug, self.held()) {
+        if !holds_any(slug, self.held()) {
             return Ok(None);
         }
         let preferences = left(alloc, slug, self.as_slice())?;
@@ -282,24 +277,12 @@ impl Prefs {
         requires { IsSound preferences }
         ensures { IfOk result (λ prefs. prefs ≡ preferences) }
     {
-        let Some(size) = preferences_size(preferences.as_slice(), MOST_BYTES) else {
-            return Err(AllocError);
-        };
+        let size = preferences_size(preferences.as_slice(), MOST_BYTES).ok_or(AllocError)?;
         let held = held_preferences(alloc, preferences.as_slice())?;
         Ok(Prefs {
             preferences: SharedList::from_sequence(alloc, preferences)?,
             held: SharedList::from_sequence(alloc, held)?,
             size,
         })
-    }
-}
-
-// The slug that holds the preference.
-fn holder_in(preference: &Preference) -> Option<&Slug>
-    ensures { option_map (λ slug. slug.now) result ≡ option_map (λ h. h.holder) preference.now.hold }
-{
-    match &preference.hold {
-        Some(hold) => Some(&hold.holder),
-        None => None,
     }
 }

@@ -36,6 +36,7 @@ pub fn prefs_of(alloc: Global, rows: &[StoreRow]) -> Result<Prefs, PrefsFault>
 
 /// The sound preferences that have exactly these rows of holds and these of values, each in this order. `NotPrefs` comes exactly
 /// where there are none.
+#[tactic(auto, using(crate::proofs::Merged::sound_given, crate::proofs::Merged::none_in_order))]
 pub fn prefs_of_parts(
     alloc: Global,
     holds: &[StoreRow],
@@ -46,7 +47,10 @@ pub fn prefs_of_parts(
     ensures values { IfOk result (λ prefs. values.now ≡ value_rows prefs) }
     ensures not_prefs { IsErrOf result PrefsFault.NotPrefs → (ps : List Preference) → IsSound ps → holds.now ≡ hold_rows ps → values.now ≡ value_rows ps → ⊥ }
 {
-    let preferences = preferences_in(alloc, holds, values)?;
+    let preferences = merged(alloc, holds, values)?;
+    if !is_in_order(preferences.as_slice()) {
+        return Err(PrefsFault::NotPrefs);
+    }
     Ok(Prefs::of_preferences(alloc, preferences)?)
 }
 
@@ -67,29 +71,7 @@ fn holds_end(rows: &[StoreRow]) -> usize
 fn is_hold(row: &StoreRow) -> bool
     ensures { result ≡ is_hold row.now }
 {
-    match row.key.as_slice() {
-        [letter, ..] => *letter == HOLD,
-        [] => false,
-    }
-}
-
-// The preferences of the rows of holds and of values.
-#[tactic(auto, using(crate::proofs::Merged::sound_given, crate::proofs::Merged::none_in_order))]
-fn preferences_in(
-    alloc: Global,
-    holds: &[StoreRow],
-    values: &[StoreRow],
-) -> Result<Sequence<Preference>, PrefsFault>
-    ensures sound { IfOk result IsSound }
-    ensures holds { IfOk result (λ ps. holds.now ≡ hold_rows ps) }
-    ensures values { IfOk result (λ ps. values.now ≡ value_rows ps) }
-    ensures none { IsErrOf result PrefsFault.NotPrefs → AreNone holds.now values.now }
-{
-    let preferences = merged(alloc, holds, values)?;
-    if !is_in_order(preferences.as_slice()) {
-        return Err(PrefsFault::NotPrefs);
-    }
-    Ok(preferences)
+    matches!(row.key.as_slice(), [HOLD, ..])
 }
 
 // The preferences of the rows of holds and of values, whose names may not rise.
@@ -187,16 +169,9 @@ fn is_key(key: &[u8], name: &[u8]) -> bool
     ensures { IsTrue result ↔ (key.now ≡ hold_key name.now) }
 {
     match key {
-        [letter, behind @ ..] => *letter == HOLD && is_same(behind, name),
-        [] => false,
+        [HOLD, behind @ ..] => behind == name,
+        _ => false,
     }
-}
-
-// Whether the bytes are the same.
-fn is_same(one: &[u8], other: &[u8]) -> bool
-    ensures { IsTrue result ↔ (one.now ≡ other.now) }
-{
-    one == other
 }
 
 // The name in the key of a value.
@@ -206,21 +181,12 @@ fn name_in(alloc: Global, key: &[u8]) -> Result<Text, PrefsFault>
     ensures none { IsErrOf result PrefsFault.NotPrefs → (name : List ℕ) → IsTrue (is_name name) → key.now ≡ value_key name → ⊥ }
 {
     match key {
-        [VALUE, name @ ..] if is_name(name) => text_of_name(alloc, name),
+        [VALUE, name @ ..] if is_name(name) => match str::from_utf8(name) {
+            Ok(text) => Ok(Text::new(alloc, text)?),
+            Err(_) => Err(PrefsFault::NotPrefs),
+        },
         _ => Err(PrefsFault::NotPrefs),
     }
-}
-
-// The name as a text.
-fn text_of_name(alloc: Global, name: &[u8]) -> Result<Text, PrefsFault>
-    requires { IsTrue (is_name name.now) }
-    ensures text { IfOk result (λ text. text ≡ name.now) }
-    ensures memory { IsErrOf result PrefsFault.NotPrefs → ⊥ }
-{
-    let Ok(text) = str::from_utf8(name) else {
-        unreachable!();
-    };
-    Ok(Text::new(alloc, text)?)
 }
 
 /// The parts of a hold's text.
@@ -290,10 +256,7 @@ fn value_in(alloc: Global, bytes: &[u8]) -> Result<Tree, PrefsFault>
     ensures none { IsErrOf result PrefsFault.NotPrefs → (value : Tree) → IsValue value → bytes.now ≡ value_text value → ⊥ }
 {
     let value = tree_in(alloc, bytes)?;
-    if !is_value(&value) {
-        return Err(PrefsFault::NotPrefs);
-    }
-    if !is_text(alloc, &value, bytes)? {
+    if !is_value(&value) || !is_text(alloc, &value, bytes)? {
         return Err(PrefsFault::NotPrefs);
     }
     Ok(value)

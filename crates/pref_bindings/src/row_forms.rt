@@ -125,18 +125,13 @@ fn is_same_hold(old: &Hold, new: &Hold) -> bool
 }
 
 // Whether the values of before are the same, or none was there.
-#[tactic(auto, using(crate::proofs::Told::none_then_some, crate::proofs::Told::some_then_none))]
+#[tactic(auto, using(crate::proofs::Told::before_told))]
 fn is_same_before(old: &Option<Tree>, new: &Option<Tree>) -> bool
     requires old_value { IsValueOrNone old.now }
     requires new_value { IsValueOrNone new.now }
     ensures { IsTrue result ↔ (before_text old.now ≡ before_text new.now) }
 {
-    match (old, new) {
-        (None, None) => true,
-        (None, Some(_)) => false,
-        (Some(_), None) => false,
-        (Some(old), Some(new)) => is_same(old, new),
-    }
+    old == new
 }
 
 // Whether the values are the same.

@@ -1,7 +1,7 @@
 use Rattle.std.proofs.Common.{◌≡◌, []}
 use Rattle.pref_bindings.specs.Bindings.{HasPreferences}
 use Rattle.pref_bindings.proofs.BindingsRead.{features_from}
-use Rattle.pref_bindings.proofs.bindings.bindings_of_features.Given as goal
+use Rattle.pref_bindings.proofs.bindings.read_bindings.Given as goal
 
 abbrev pub invariant-loop-feature : goal.invariant-loop-feature
 invariant-loop-feature l = record {

@@ -3,7 +3,7 @@ use Rattle.json_tree.specs.Json.{AreSoundMembers, members_of}
 use Rattle.json_tree.specs.Tree.{member_of}
 use Rattle.pref_bindings.proofs.BindingOrder.{read_order}
 use Rattle.pref_bindings.proofs.BindingsRead.{features_end, read_are}
-use Rattle.pref_bindings.proofs.bindings.bindings_of_features.Goals as goal
+use Rattle.pref_bindings.proofs.bindings.read_bindings.Goals as goal
 
 pub invariant_of-result : goal.invariant_of-result
 invariant_of-result c =

@@ -1,7 +1,7 @@
 use Rattle.std.proofs.Common.{◌≡◌}
 use Rattle.pref_bindings.specs.Bindings.{HasPreferences}
 use Rattle.pref_bindings.proofs.BindingsRead.{variables_from}
-use Rattle.pref_bindings.proofs.bindings.Found.add_variables.Given as goal
+use Rattle.pref_bindings.proofs.bindings.Found.add_feature.Given as goal
 
 abbrev pub invariant-loop-variable : goal.invariant-loop-variable
 invariant-loop-variable l = record {
