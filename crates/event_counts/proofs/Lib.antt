@@ -3,7 +3,6 @@ pub mod Found
 pub mod Turning
 pub mod Soundness
 pub mod Parts
-mod ListParts
 pub mod Events
 pub mod Bytes
 pub mod SameRows

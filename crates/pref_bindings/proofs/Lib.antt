@@ -22,4 +22,3 @@ pub mod SameSettings
 pub mod HeldAll
 pub mod HeldApart
 mod Ranges
-mod ListParts

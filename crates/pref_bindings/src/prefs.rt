@@ -227,14 +227,14 @@ impl Prefs {
             return Err(AllocError);
         };
         let held = self.held.clone()?;
-        let (preferences, part) = with_preference(&mut self.preferences, preference)?;
+        let next = with_preference(&mut self.preferences, preference)?;
         Ok(NextPreferences {
             preferences: Prefs {
-                preferences,
+                preferences: next.list,
                 held,
                 size,
             },
-            part,
+            part: next.part,
         })
     }
 
@@ -247,14 +247,14 @@ impl Prefs {
     {
         let size = self.size_of_others(name.as_str());
         let held = self.held.clone()?;
-        let (preferences, part) = without_name(&mut self.preferences, name)?;
+        let next = without_name(&mut self.preferences, name)?;
         Ok(NextPreferences {
             preferences: Prefs {
-                preferences,
+                preferences: next.list,
                 held,
                 size,
             },
-            part,
+            part: next.part,
         })
     }
 

@@ -7,7 +7,7 @@ ghost use Rattle.sequences.specs.ListParts.{IsPart};
 
 use crate::preference::Preference;
 use json_tree::Tree;
-use sequences::{ListPart, SharedList, Text};
+use sequences::{NextList, SharedList, Text};
 use std::alloc::AllocError;
 
 /// A preference that its user set.
@@ -25,24 +25,18 @@ pub(crate) fn users_preference(name: &Text, value: &Tree) -> Result<Preference, 
 pub(crate) fn with_preference(
     preferences: &mut SharedList<Preference>,
     preference: Preference,
-) -> Result<(SharedList<Preference>, ListPart), AllocError>
+) -> Result<NextList<Preference>, AllocError>
     requires { Rise (names_of preferences.old) }
     ensures same { preferences.new ≡ preferences.old }
-    ensures preferences { IfOk result (λ next. next.0 ≡ with_preference preference preferences.old) }
-    ensures part { IfOk result (λ next. IsPart next.1 preferences.old next.0) }
+    ensures preferences { IfOk result (λ next. next.list ≡ with_preference preference preferences.old) }
+    ensures part { IfOk result (λ next. IsPart next.part preferences.old next.list) }
 {
     match preferences
         .as_slice()
         .binary_search_by(|other| other.name.cmp(&preference.name))
     {
-        Ok(place) => Ok((
-            preferences.replaced(place, preference)?,
-            ListPart::replacement(place),
-        )),
-        Err(place) => Ok((
-            preferences.inserted(place, preference)?,
-            ListPart::insertion(place),
-        )),
+        Ok(place) => preferences.replaced(place, preference),
+        Err(place) => preferences.inserted(place, preference),
     }
 }
 
@@ -50,17 +44,17 @@ pub(crate) fn with_preference(
 pub(crate) fn without_name(
     preferences: &mut SharedList<Preference>,
     name: &Text,
-) -> Result<(SharedList<Preference>, ListPart), AllocError>
+) -> Result<NextList<Preference>, AllocError>
     requires { Rise (names_of preferences.old) }
     ensures same { preferences.new ≡ preferences.old }
-    ensures preferences { IfOk result (λ next. next.0 ≡ without_name name.now preferences.old) }
-    ensures part { IfOk result (λ next. IsPart next.1 preferences.old next.0) }
+    ensures preferences { IfOk result (λ next. next.list ≡ without_name name.now preferences.old) }
+    ensures part { IfOk result (λ next. IsPart next.part preferences.old next.list) }
 {
     match preferences
         .as_slice()
         .binary_search_by(|other| other.name.cmp(name))
     {
-        Ok(place) => Ok((preferences.removed(place)?, ListPart::removal(place))),
-        Err(_) => Ok((preferences.clone()?, ListPart::none())),
+        Ok(place) => preferences.removed(place),
+        Err(_) => NextList::same(preferences),
     }
 }

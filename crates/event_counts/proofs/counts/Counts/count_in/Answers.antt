@@ -8,7 +8,7 @@ use Rattle.event_counts.specs.Places.{BelongsAt, HasNameAt}
 use Rattle.event_counts.specs.Sound.{IsSound}
 use Rattle.event_counts.proofs.Events.{counted-there, sound-there, counted-new, sound-new, no_limit, no_memory}
 use Rattle.event_counts.proofs.Found.{found_there, found_nowhere}
-use Rattle.event_counts.proofs.ListParts.{one_comes}
+use Rattle.sequences.proofs.ListParts.{one_comes}
 use Rattle.event_counts.proofs.counts.Counts.count_in.Goals as goal
 
 is_there : (name : List ℕ) (self names : List NameCounts) (place : ℕ) (there : NameCounts) → names ≡ self → IsSound self → HasNameAt name names place → found name self ≡ Some (get_or self place there)

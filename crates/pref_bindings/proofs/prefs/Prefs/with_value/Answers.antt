@@ -19,11 +19,11 @@ invariant_of-result c =
     c.size_of_others-others.ensures.size ∙ ap (λ t. length (puts_text (rows_of (without_name t c.args.self.now)))) (c.as_str.ensures.text ∙ sym key) ∙ ap (λ qs. length (puts_text (rows_of (without_name q.name qs)))) seen in
     record {
       sized = record {
-        sound = with_given c.args.name.now c.args.value.now q ps c.in_ok-preferences.preferences c.in_ok-preference.ensures c.requires.name c.requires.value c.self.invariant.sized.sound c.in_ok-preferences.ensures.preferences;
-        size = omega (arith, c.in-Some.ensures.some, others, with_rows q ps, ap (λ qs. length (puts_text (rows_of qs))) c.in_ok-preferences.ensures.preferences);
+        sound = with_given c.args.name.now c.args.value.now q ps c.in_ok-next.next.list c.in_ok-preference.ensures c.requires.name c.requires.value c.self.invariant.sized.sound c.in_ok-next.ensures.preferences;
+        size = omega (arith, c.in-Some.ensures.some, others, with_rows q ps, ap (λ qs. length (puts_text (rows_of qs))) c.in_ok-next.ensures.preferences);
         bound = c.in-Some.ensures.within;
       };
       same =
-          c.in_ok-held.ensures.cases ∙ held_with_given c.args.name.now c.args.value.now q ps c.self.inside.held c.in_ok-preferences.preferences c.in_ok-preference.ensures (sym (ap (holder_of c.args.name.now) seen) ∙ c.requires.free) c.self.invariant.same
-          c.in_ok-preferences.ensures.preferences;
+          c.in_ok-held.ensures.cases ∙ held_with_given c.args.name.now c.args.value.now q ps c.self.inside.held c.in_ok-next.next.list c.in_ok-preference.ensures (sym (ap (holder_of c.args.name.now) seen) ∙ c.requires.free) c.self.invariant.same
+          c.in_ok-next.ensures.preferences;
     }
