@@ -10,25 +10,24 @@ use Rattle.fml_types.specs.TypeTexts.{spelled}
 use Rattle.fml_types.specs.declared.field_type.FieldType.{FieldType}
 use Rattle.fml_types.specs.declared.manifest.DefaultEntry.{DefaultEntry}
 use Rattle.fml_types.specs.declared.manifest.EnumDefinition.{EnumDefinition}
-use Rattle.fml_types.specs.declared.manifest.FeatureDefinition.{FeatureDefinition}
-use Rattle.fml_types.specs.declared.manifest.Field.{Field}
 use Rattle.fml_types.specs.declared.manifest.ObjectDefinition.{ObjectDefinition}
 use Rattle.fml_reader.specs.Outcome.{◌>>=◌, under}
 use Rattle.json_tree.specs.Inverse.{tree_from}
 use Rattle.fml_reader.specs.Imports.{overrides_of, import_of, imports_of}
-use Rattle.fml_reader.specs.Values.{object_in, text_in, truth_in, value_in, is_key}
-use Rattle.fml_reader.specs.Walks.{each_item, each_member, members_in, keyed, there, required, optional, first_there, either, in_types}
+use Rattle.fml_reader.specs.Values.{object_in, value_in, is_key}
+use Rattle.fml_reader.specs.Walks.{each_item, each_member, members_in, keyed, there, required, optional, first_there, in_types}
 use Rattle.fml_reader.specs.Fields.{type_in, field_of, fields_of, variant_of, some_there, enum_of, enums_of, object_of, objects_of}
-use Rattle.fml_reader.specs.Features.{texts_of, names_in, in_order, both, entry_of, entries_of, feature_of, features_of}
-use Rattle.fml_reader.specs.Modules.{types_in, definitions_of, module_of}
+use Rattle.fml_reader.specs.Features.{names_in, in_order, both, entry_of, entries_of, feature_of, features_of}
+use Rattle.fml_reader.specs.Modules.{types_in, module_of}
 use Rattle.fml_reader.specs.declared.fault.ModuleRefusal.{ModuleRefusal}
 use Rattle.fml_reader.specs.declared.imports.Import.{Import}
 use Rattle.fml_reader.specs.declared.module.Module.{Module}
 use Rattle.fml_imports.specs.Sound.{IsRead}
 use Rattle.fml_imports.specs.WellFormed.{IsSpelledType, IsShort, IsShortDefault, IsWellFormedField, AreWellFormedFields, AreInOrder, IsWellFormedEntry, IsWellFormedEnum, IsWellFormedObject, IsWellFormedFeature}
 use Rattle.fml_imports.proofs.Alls.{all_nil, all_cons}
+use Rattle.fml_imports.proofs.ModuleParts.{ok_of, same_ok, under_ok, keyed_ok, field_parts, entry_parts, feature_parts, import_features, module_parts}
 use Rattle.fml_imports.proofs.OrderedNames.{ordered}
-use Rattle.fml_imports.proofs.ReadModules.{ok_of, same_ok, under_ok, keyed_ok, needed_ok}
+use Rattle.fml_imports.proofs.ReadModules.{needed_ok}
 use Rattle.fml_imports.proofs.Singles.{same_shapes}
 use Rattle.json_tree.proofs.Trees.{same_values}
 use Rattle.fml_imports.proofs.SpelledTypes.{spelled_type}
@@ -131,15 +130,11 @@ type_spelled (text b) t h =
 type_spelled x t h = absurd cc
 
 field_formed : ReadsMembers 60 is_key field_of IsWellFormedField
-unfolding field_of
 field_formed k x f taken within h =
-    let a = ok_of (object_in x) _ f h in
-    let b = ok_of (required (codes "type") type_in (get (codes "type") x)) _ f a.2 in
-    let c = ok_of (optional (codes "default") (there value_in) None (get (codes "default") x)) _ f b.2 in
-    let same : record { field_type = b.0; default = c.0 } ≡ f = same_ok _ f c.2 in
-    let of_type = required_ok (λ (t : FieldType). IsSpelledType (shape_of t)) 59 (codes "type") type_in (get (codes "type") x) b.0 (λ y t in' read. type_spelled y t read) (get_within (codes "type") x 59 within) b.1 in
-    let default = optional_ok IsShortDefault 59 (codes "default") (there value_in) None (get (codes "default") x) c.0 tt default_short (get_within (codes "default") x 59 within) c.1 in
-    subst (λ (g : Field). IsWellFormedField (k, g)) same (record { key = taken; of_type = of_type; default = default })
+    let parts = field_parts x f h in
+    let of_type = required_ok (λ (t : FieldType). IsSpelledType (shape_of t)) 59 (codes "type") type_in (get (codes "type") x) f.field_type (λ y t in' read. type_spelled y t read) (get_within (codes "type") x 59 within) parts.field_type in
+    let default = optional_ok IsShortDefault 59 (codes "default") (there value_in) None (get (codes "default") x) f.default tt default_short (get_within (codes "default") x 59 within) parts.default in
+    record { key = taken; of_type = of_type; default = default }
 
 fields_formed : Reads 61 fields_of AreWellFormedFields
 fields_formed = members_ok IsWellFormedField 60 is_key field_of field_formed
@@ -185,15 +180,10 @@ channels_ordered None = tt
 channels_ordered (Some names) = ordered names
 
 entry_formed : Reads 60 entry_of IsWellFormedEntry
-unfolding entry_of
 entry_formed x e within h =
-    let a = ok_of (object_in x) _ e h in
-    let b = ok_of (optional (codes "channel") (there text_in) None (get (codes "channel") x)) _ e a.2 in
-    let c = ok_of (optional (codes "channels") (there texts_of) None (get (codes "channels") x)) _ e b.2 in
-    let d = ok_of (required (codes "value") value_in (get (codes "value") x)) _ e c.2 in
-    let same : record { channels = option_map (in_order []) (both (option_map names_in b.0) c.0); value = d.0 } ≡ e = same_ok _ e d.2 in
-    let short = required_ok IsShort 59 (codes "value") value_in (get (codes "value") x) d.0 value_short (get_within (codes "value") x 59 within) d.1 in
-    subst IsWellFormedEntry same (record { channels = channels_ordered (both (option_map names_in b.0) c.0); value = short })
+    let parts = entry_parts x e h in
+    let short = required_ok IsShort 59 (codes "value") value_in (get (codes "value") x) e.value value_short (get_within (codes "value") x 59 within) parts.value in
+    record { channels = subst AreInOrder parts.channels (channels_ordered (both (option_map names_in parts.divided) parts.listed)); value = short }
 
 abbrev pub AreWellFormedEntries : List DefaultEntry → Type 0
 AreWellFormedEntries es = All IsWellFormedEntry es
@@ -215,14 +205,8 @@ abbrev pub IsWellFormedImport : Import → Type 0
 IsWellFormedImport i = All IsWellFormedOverride i.features
 
 import_formed : Reads 62 import_of IsWellFormedImport
-unfolding import_of
 import_formed x i within h =
-    let a = ok_of (object_in x) _ i h in
-    let b = ok_of (required (codes "path") text_in (get (codes "path") x)) _ i a.2 in
-    let c = ok_of (required (codes "channel") text_in (get (codes "channel") x)) _ i b.2 in
-    let d = ok_of (optional (codes "features") overrides_of [] (get (codes "features") x)) _ i c.2 in
-    let same : d.0 ≡ i.features = cc in
-    subst (All IsWellFormedOverride) same (optional_ok (All IsWellFormedOverride) 61 (codes "features") overrides_of [] (get (codes "features") x) d.0 (all_nil IsWellFormedOverride) overrides_formed (get_within (codes "features") x 61 within) d.1)
+    optional_ok (All IsWellFormedOverride) 61 (codes "features") overrides_of [] (get (codes "features") x) i.features (all_nil IsWellFormedOverride) overrides_formed (get_within (codes "features") x 61 within) (import_features x i h)
 
 imports_formed : Reads 63 imports_of (All IsWellFormedImport)
 imports_formed (list xs) is within h = items_ok IsWellFormedImport 62 import_of import_formed 0 xs is (one_less (items_depth xs) 62 within) h
@@ -231,16 +215,11 @@ imports_formed x is within h = absurd cc
 -- ---- features
 
 feature_formed : ReadsMembers 62 is_name feature_of IsWellFormedFeature
-unfolding feature_of
 feature_formed k x f taken within h =
-    let a = ok_of (object_in x) _ f h in
-    let b = ok_of (optional (codes "variables") fields_of [] (get (codes "variables") x)) _ f a.2 in
-    let c = ok_of (optional (codes "defaults") entries_of [] (get (codes "defaults") x)) _ f b.2 in
-    let d = ok_of (optional (codes "allow-coenrollment") truth_in false (get (codes "allow-coenrollment") x)) _ f c.2 in
-    let same : record { variables = b.0; defaults = c.0; allows_coenrollment = d.0 } ≡ f = same_ok _ f d.2 in
-    let variables = optional_ok AreWellFormedFields 61 (codes "variables") fields_of [] (get (codes "variables") x) b.0 (all_nil IsWellFormedField) fields_formed (get_within (codes "variables") x 61 within) b.1 in
-    let entries = optional_ok AreWellFormedEntries 61 (codes "defaults") entries_of [] (get (codes "defaults") x) c.0 (all_nil IsWellFormedEntry) entries_formed (get_within (codes "defaults") x 61 within) c.1 in
-    subst (λ (g : FeatureDefinition). IsWellFormedFeature (k, g)) same (record { variables = variables; entries = entries })
+    let parts = feature_parts x f h in
+    let variables = optional_ok AreWellFormedFields 61 (codes "variables") fields_of [] (get (codes "variables") x) f.variables (all_nil IsWellFormedField) fields_formed (get_within (codes "variables") x 61 within) parts.variables in
+    let entries = optional_ok AreWellFormedEntries 61 (codes "defaults") entries_of [] (get (codes "defaults") x) f.defaults (all_nil IsWellFormedEntry) entries_formed (get_within (codes "defaults") x 61 within) parts.defaults in
+    record { variables = variables; entries = entries }
 
 features_formed : Reads 63 features_of (All IsWellFormedFeature)
 features_formed = members_ok IsWellFormedFeature 62 is_name feature_of feature_formed
@@ -265,29 +244,18 @@ pub record IsFormedModule (m : Module) : Type 0 where
   pub features : All IsWellFormedFeature m.features
 
 module_formed : (x : Json) (m : Module) → depth x ≤ 64 → module_of x ≡ Ok m → IsFormedModule m
-unfolding module_of definitions_of
 module_formed x m deep h =
-    let a = ok_of (object_in x) _ m h in
-    let b = ok_of (optional (codes "channels") texts_of [] (get (codes "channels") x)) _ m a.2 in
-    let c = ok_of (either (codes "includes") (codes "include") texts_of [] x) _ m b.2 in
-    let d = ok_of (either (codes "imports") (codes "import") imports_of [] x) _ m c.2 in
-    let e = ok_of (optional (codes "enums") enums_of [] (get (codes "enums") x)) _ m d.2 in
-    let t = ok_of (types_in (get (codes "types") x)) _ m e.2 in
-    let te = ok_of (in_types (codes "enums") enums_of [] t.0) _ m t.2 in
-    let o = ok_of (optional (codes "objects") objects_of [] (get (codes "objects") x)) _ m te.2 in
-    let to = ok_of (in_types (codes "objects") objects_of [] t.0) _ m o.2 in
-    let f = ok_of (optional (codes "features") features_of [] (get (codes "features") x)) _ m to.2 in
-    let same : record { channels = b.0; includes = c.0; imports = d.0; enums = e.0; types_enums = te.0; objects = o.0; types_objects = to.0; features = f.0 } ≡ m = same_ok _ m f.2 in
+    let p = module_parts x m h in
     let within : (k : List ℕ) → IsWithin 63 (get k x) = λ k. get_within k x 63 deep in
-    let types = types_within 63 (get (codes "types") x) t.0 (within (codes "types")) t.1 in
-    subst IsFormedModule same (record {
-      imports = either_ok (All IsWellFormedImport) 63 (codes "imports") (codes "import") imports_of [] (get (codes "imports") x) (get (codes "import") x) d.0 (all_nil IsWellFormedImport) imports_formed (within (codes "imports")) (within (codes "import")) d.1;
-      enums = optional_ok (All IsWellFormedEnum) 63 (codes "enums") enums_of [] (get (codes "enums") x) e.0 (all_nil IsWellFormedEnum) enums_formed (within (codes "enums")) e.1;
-      types_enums = in_types_ok (All IsWellFormedEnum) 62 (codes "enums") enums_of [] t.0 te.0 (all_nil IsWellFormedEnum) (lower (All IsWellFormedEnum) 62 enums_of enums_formed) types te.1;
-      objects = optional_ok (All IsWellFormedObject) 63 (codes "objects") objects_of [] (get (codes "objects") x) o.0 (all_nil IsWellFormedObject) objects_formed (within (codes "objects")) o.1;
-      types_objects = in_types_ok (All IsWellFormedObject) 62 (codes "objects") objects_of [] t.0 to.0 (all_nil IsWellFormedObject) (lower (All IsWellFormedObject) 62 objects_of objects_formed) types to.1;
-      features = optional_ok (All IsWellFormedFeature) 63 (codes "features") features_of [] (get (codes "features") x) f.0 (all_nil IsWellFormedFeature) features_formed (within (codes "features")) f.1;
-    })
+    let types = types_within 63 (get (codes "types") x) p.types (within (codes "types")) p.types_is in
+    record {
+      imports = either_ok (All IsWellFormedImport) 63 (codes "imports") (codes "import") imports_of [] (get (codes "imports") x) (get (codes "import") x) m.imports (all_nil IsWellFormedImport) imports_formed (within (codes "imports")) (within (codes "import")) p.imports;
+      enums = optional_ok (All IsWellFormedEnum) 63 (codes "enums") enums_of [] (get (codes "enums") x) m.enums (all_nil IsWellFormedEnum) enums_formed (within (codes "enums")) p.enums;
+      types_enums = in_types_ok (All IsWellFormedEnum) 62 (codes "enums") enums_of [] p.types m.types_enums (all_nil IsWellFormedEnum) (lower (All IsWellFormedEnum) 62 enums_of enums_formed) types p.types_enums;
+      objects = optional_ok (All IsWellFormedObject) 63 (codes "objects") objects_of [] (get (codes "objects") x) m.objects (all_nil IsWellFormedObject) objects_formed (within (codes "objects")) p.objects;
+      types_objects = in_types_ok (All IsWellFormedObject) 62 (codes "objects") objects_of [] p.types m.types_objects (all_nil IsWellFormedObject) (lower (All IsWellFormedObject) 62 objects_of objects_formed) types p.types_objects;
+      features = optional_ok (All IsWellFormedFeature) 63 (codes "features") features_of [] (get (codes "features") x) m.features (all_nil IsWellFormedFeature) features_formed (within (codes "features")) p.features;
+    }
 
 pub formed_module : (m : Module) → IsRead m → IsFormedModule m
 formed_module m read = module_formed read.tree m read.shallow read.reads

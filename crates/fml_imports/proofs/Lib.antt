@@ -1,6 +1,7 @@
 pub mod Alls
 pub mod Singles
 pub mod SoundValues
+pub mod ModuleParts
 pub mod ReadModules
 pub mod Steps
 pub mod Names

@@ -1,5 +1,5 @@
 -- What each file that is read keeps.
-use Rattle.std.proofs.Common.{◌≡◌, ℕ, suc, ◌<◌, Bool, true, false, List, [], ◌∷◌, length, Option, Some, None, Result, Ok, Err, refl, sym, ap, ◌∙◌, subst, arith}
+use Rattle.std.proofs.Common.{◌≡◌, ℕ, suc, ◌<◌, Bool, List, [], ◌∷◌, length, Option, Some, None, Result, Ok, IsUtf8, refl, sym, ap, ◌∙◌, subst, arith}
 use Rattle.std.specs.Prelude.{All, IsTrue, codes, decimal, nat_le, option_map}
 use Rattle.json_tree.specs.Json.{Json, text, list, object, get, Items, no_items, item, Members, no_members, member, IsSound, AreSoundItems, AreSoundMembers}
 use Rattle.json_tree.specs.Tree.{json_of}
@@ -19,34 +19,20 @@ use Rattle.fml_types.specs.declared.manifest.Field.{Field}
 use Rattle.fml_reader.specs.Outcome.{◌>>=◌, needed, under}
 use Rattle.json_tree.specs.Inverse.{tree_from}
 use Rattle.fml_reader.specs.Imports.{overrides_of, import_of, imports_of}
-use Rattle.fml_reader.specs.Values.{object_in, text_in, truth_in, value_in, is_key}
-use Rattle.fml_reader.specs.Walks.{each_item, each_member, members_in, keyed, there, required, optional, first_there, either, in_types}
+use Rattle.fml_reader.specs.Values.{object_in, value_in, is_key}
+use Rattle.fml_reader.specs.Walks.{each_item, each_member, members_in, keyed, there, required, optional, first_there, in_types}
 use Rattle.fml_reader.specs.Fields.{type_in, field_of, fields_of, variant_of, some_there, enum_of, enums_of, object_of, objects_of}
-use Rattle.fml_reader.specs.Features.{texts_of, names_in, in_order, both, entry_of, entries_of, feature_of, features_of}
-use Rattle.fml_reader.specs.Modules.{types_in, definitions_of, module_of}
+use Rattle.fml_reader.specs.Features.{entry_of, entries_of, feature_of, features_of}
+use Rattle.fml_reader.specs.Modules.{types_in, module_of}
 use Rattle.fml_reader.specs.declared.fault.ModuleRefusal.{ModuleRefusal}
 use Rattle.fml_reader.specs.declared.imports.Import.{Import}
 use Rattle.fml_reader.specs.declared.module.Module.{Module}
 use Rattle.fml_imports.specs.Sound.{IsReadField, AreReadFields, HaveVariants, HaveReadFields, HaveSoundOverrides, IsRead, IsReadModule}
 use Rattle.fml_imports.proofs.Alls.{all_nil, all_cons, all_map}
+use Rattle.fml_imports.proofs.ModuleParts.{ok_of, same_ok, under_ok, keyed_ok, field_parts, entry_parts, feature_parts, import_features, module_parts}
 use Rattle.fml_imports.proofs.Singles.{spelled_single, same_shapes}
 use Rattle.json_tree.proofs.Trees.{same_values}
 use Rattle.fml_imports.proofs.SoundValues.{IsSoundOption, get_sound}
-
-pub ok_of : {A B : Type 0} (r : Result A ModuleRefusal) (f : A → Result B ModuleRefusal) (b : B) → (r >>= f) ≡ Ok b → (a : A) × (r ≡ Ok a) × (f a ≡ Ok b)
-ok_of (Ok a) f b h = (a, refl, h)
-ok_of (Err e) f b h = absurd cc
-
-pub same_ok : {A : Type 0} (a b : A) → ◌≡◌ {A = Result A ModuleRefusal} (Ok a) (Ok b) → a ≡ b
-same_ok a b h = cc
-
-pub under_ok : {A : Type 0} (k : List ℕ) (r : Result A ModuleRefusal) (a : A) → under k r ≡ Ok a → r ≡ Ok a
-under_ok k (Ok x) a h = h
-under_ok k (Err e) a h = absurd cc
-
-pub keyed_ok : {A : Type 0} (c : Bool) (r : Result A ModuleRefusal) (a : A) → keyed c r ≡ Ok a → IsTrue c × (r ≡ Ok a)
-keyed_ok true r a h = (refl, h)
-keyed_ok false r a h = absurd cc
 
 pub required_ok : {A : Type 0} (k : List ℕ) (read : Json → Result A ModuleRefusal) (o : Option Json) (a : A) → IsSoundOption o → required k read o ≡ Ok a → (x : Json) × IsSound x × (read x ≡ Ok a)
 required_ok k read None a sound h = absurd cc
@@ -75,7 +61,7 @@ items_ok P read step i (item x xs) as' sound h =
     subst (All P) same (all_cons P first.0 others.0 (step x first.0 sound.0 (under_ok (decimal i) (read x) first.0 first.1)) (items_ok P read step (suc i) xs others.0 sound.1 others.1))
 
 -- each member that is read has its key taken and its value read
-members_ok : {A : Type 0} (P : List ℕ × A → Type 0) (test : List ℕ → Bool) (read : Json → Result A ModuleRefusal) → ((k : List ℕ) (x : Json) (a : A) → IsTrue (test k) → IsSound x → read x ≡ Ok a → P (k, a)) → (ms : Members) (ps : List (List ℕ × A))
+pub members_ok : {A : Type 0} (P : List ℕ × A → Type 0) (test : List ℕ → Bool) (read : Json → Result A ModuleRefusal) → ((k : List ℕ) (x : Json) (a : A) → IsUtf8 k → IsTrue (test k) → IsSound x → read x ≡ Ok a → P (k, a)) → (ms : Members) (ps : List (List ℕ × A))
     → AreSoundMembers ms → each_member test read ms ≡ Ok ps → All P ps
 members_ok P test read step no_members ps sound h = let same : [] ≡ ps = cc in subst (All P) same (all_nil P)
 members_ok P test read step (member k x ms) ps sound h =
@@ -83,7 +69,7 @@ members_ok P test read step (member k x ms) ps sound h =
     let others = ok_of (each_member test read ms) (λ as'. Ok ((k, first.0) ∷ as')) ps first.2 in
     let one = keyed_ok (test k) (read x) first.0 (under_ok k (keyed (test k) (read x)) first.0 first.1) in
     let same : (k, first.0) ∷ others.0 ≡ ps = cc in
-    subst (All P) same (all_cons P (k, first.0) others.0 (step k x first.0 one.0 sound.2 one.1) (members_ok P test read step ms others.0 sound.3 others.1))
+    subst (All P) same (all_cons P (k, first.0) others.0 (step k x first.0 sound.0 one.0 sound.2 one.1) (members_ok P test read step ms others.0 sound.3 others.1))
 
 -- ---- values
 
@@ -110,20 +96,16 @@ type_single (text b) t h =
 type_single x t h = absurd cc
 
 field_read : (x : Json) (f : Field) → IsSound x → field_of x ≡ Ok f → IsReadField f
-unfolding field_of
 field_read x f sound h =
-    let a = ok_of (object_in x) _ f h in
-    let b = ok_of (required (codes "type") type_in (get (codes "type") x)) _ f a.2 in
-    let c = ok_of (optional (codes "default") (there value_in) None (get (codes "default") x)) _ f b.2 in
-    let read = required_ok (codes "type") type_in (get (codes "type") x) b.0 (get_sound (codes "type") x sound) b.1 in
-    let same : record { field_type = b.0; default = c.0 } ≡ f = same_ok _ f c.2 in
-    subst IsReadField same (record {
-      options = type_single read.0 b.0 read.2;
-      default = optional_ok IsSoundDefault (codes "default") (there value_in) None (get (codes "default") x) c.0 tt default_sound (get_sound (codes "default") x sound) c.1;
-    })
+    let parts = field_parts x f h in
+    let read = required_ok (codes "type") type_in (get (codes "type") x) f.field_type (get_sound (codes "type") x sound) parts.field_type in
+    record {
+      options = type_single read.0 f.field_type read.2;
+      default = optional_ok IsSoundDefault (codes "default") (there value_in) None (get (codes "default") x) f.default tt default_sound (get_sound (codes "default") x sound) parts.default;
+    }
 
 fields_read : (x : Json) (fs : List (List ℕ × Field)) → IsSound x → fields_of x ≡ Ok fs → AreReadFields fs
-fields_read (object ms) fs sound h = members_ok (λ (f : List ℕ × Field). IsReadField f.1) is_key field_of (λ k x f taken within read. field_read x f within read) ms fs sound h
+fields_read (object ms) fs sound h = members_ok (λ (f : List ℕ × Field). IsReadField f.1) is_key field_of (λ k x f utf8 taken within read. field_read x f within read) ms fs sound h
 fields_read x fs sound h = absurd cc
 
 -- ---- enums and objects
@@ -142,7 +124,7 @@ enum_variants x e sound h =
     subst (λ l. 0 < length l) same (some_variants b.0 c.0 c.1)
 
 enums_variants : (x : Json) (es : List (List ℕ × EnumDefinition)) → IsSound x → enums_of x ≡ Ok es → HaveVariants es
-enums_variants (object ms) es sound h = members_ok (λ (e : List ℕ × EnumDefinition). 0 < length e.1.variants) is_name enum_of (λ k x e taken within read. enum_variants x e within read) ms es sound h
+enums_variants (object ms) es sound h = members_ok (λ (e : List ℕ × EnumDefinition). 0 < length e.1.variants) is_name enum_of (λ k x e utf8 taken within read. enum_variants x e within read) ms es sound h
 enums_variants x es sound h = absurd cc
 
 object_read : (x : Json) (o : ObjectDefinition) → IsSound x → object_of x ≡ Ok o → AreReadFields o.fields
@@ -155,21 +137,15 @@ object_read x o sound h =
     subst AreReadFields same (fields_read read.0 b.0 read.1 read.2)
 
 objects_read : (x : Json) (os : List (List ℕ × ObjectDefinition)) → IsSound x → objects_of x ≡ Ok os → HaveReadFields os
-objects_read (object ms) os sound h = members_ok (λ (o : List ℕ × ObjectDefinition). AreReadFields o.1.fields) is_name object_of (λ k x o taken within read. object_read x o within read) ms os sound h
+objects_read (object ms) os sound h = members_ok (λ (o : List ℕ × ObjectDefinition). AreReadFields o.1.fields) is_name object_of (λ k x o utf8 taken within read. object_read x o within read) ms os sound h
 objects_read x os sound h = absurd cc
 
 -- ---- entries
 
 entry_sound : (x : Json) (e : DefaultEntry) → IsSound x → entry_of x ≡ Ok e → IsSound (json_of e.value)
-unfolding entry_of
 entry_sound x e sound h =
-    let a = ok_of (object_in x) _ e h in
-    let b = ok_of (optional (codes "channel") (there text_in) None (get (codes "channel") x)) _ e a.2 in
-    let c = ok_of (optional (codes "channels") (there texts_of) None (get (codes "channels") x)) _ e b.2 in
-    let d = ok_of (required (codes "value") value_in (get (codes "value") x)) _ e c.2 in
-    let read = required_ok (codes "value") value_in (get (codes "value") x) d.0 (get_sound (codes "value") x sound) d.1 in
-    let same : record { channels = option_map (in_order []) (both (option_map names_in b.0) c.0); value = d.0 } ≡ e = same_ok _ e d.2 in
-    subst (λ (e : DefaultEntry). IsSound (json_of e.value)) same (value_sound read.0 d.0 read.1 read.2)
+    let read = required_ok (codes "value") value_in (get (codes "value") x) e.value (get_sound (codes "value") x sound) (entry_parts x e h).value in
+    value_sound read.0 e.value read.1 read.2
 
 entries_sound : (x : Json) (es : List DefaultEntry) → IsSound x → entries_of x ≡ Ok es → AreSoundEntries es
 entries_sound (list xs) es sound h = items_ok (λ (e : DefaultEntry). IsSound (json_of e.value)) entry_of entry_sound 0 xs es sound h
@@ -178,18 +154,12 @@ entries_sound x es sound h = absurd cc
 -- ---- imports
 
 overrides_sound : (x : Json) (os : List (List ℕ × List DefaultEntry)) → IsSound x → overrides_of x ≡ Ok os → HaveSoundOverrides os
-overrides_sound (object ms) os sound h = members_ok (λ (o : List ℕ × List DefaultEntry). AreSoundEntries o.1) is_name entries_of (λ k x es taken within read. entries_sound x es within read) ms os sound h
+overrides_sound (object ms) os sound h = members_ok (λ (o : List ℕ × List DefaultEntry). AreSoundEntries o.1) is_name entries_of (λ k x es utf8 taken within read. entries_sound x es within read) ms os sound h
 overrides_sound x os sound h = absurd cc
 
 import_sound : (x : Json) (i : Import) → IsSound x → import_of x ≡ Ok i → HaveSoundOverrides i.features
-unfolding import_of
 import_sound x i sound h =
-    let a = ok_of (object_in x) _ i h in
-    let b = ok_of (required (codes "path") text_in (get (codes "path") x)) _ i a.2 in
-    let c = ok_of (required (codes "channel") text_in (get (codes "channel") x)) _ i b.2 in
-    let d = ok_of (optional (codes "features") overrides_of [] (get (codes "features") x)) _ i c.2 in
-    let same : d.0 ≡ i.features = cc in
-    subst HaveSoundOverrides same (optional_ok HaveSoundOverrides (codes "features") overrides_of [] (get (codes "features") x) d.0 (all_nil (λ (o : List ℕ × List DefaultEntry). AreSoundEntries o.1)) overrides_sound (get_sound (codes "features") x sound) d.1)
+    optional_ok HaveSoundOverrides (codes "features") overrides_of [] (get (codes "features") x) i.features (all_nil (λ (o : List ℕ × List DefaultEntry). AreSoundEntries o.1)) overrides_sound (get_sound (codes "features") x sound) (import_features x i h)
 
 HaveSoundImports : List Import → Type 0
 HaveSoundImports is = All (λ (i : Import). HaveSoundOverrides i.features) is
@@ -206,16 +176,12 @@ IsReadDefinition : FeatureDefinition → Type 0
 IsReadDefinition f = AreReadFields f.variables × AreSoundEntries f.defaults
 
 feature_read : (x : Json) (f : FeatureDefinition) → IsSound x → feature_of x ≡ Ok f → IsReadDefinition f
-unfolding feature_of IsReadDefinition
+unfolding IsReadDefinition
 feature_read x f sound h =
-    let a = ok_of (object_in x) _ f h in
-    let b = ok_of (optional (codes "variables") fields_of [] (get (codes "variables") x)) _ f a.2 in
-    let c = ok_of (optional (codes "defaults") entries_of [] (get (codes "defaults") x)) _ f b.2 in
-    let d = ok_of (optional (codes "allow-coenrollment") truth_in false (get (codes "allow-coenrollment") x)) _ f c.2 in
-    let same : record { variables = b.0; defaults = c.0; allows_coenrollment = d.0 } ≡ f = same_ok _ f d.2 in
-    let variables = optional_ok AreReadFields (codes "variables") fields_of [] (get (codes "variables") x) b.0 (all_nil (λ (f : List ℕ × Field). IsReadField f.1)) fields_read (get_sound (codes "variables") x sound) b.1 in
-    let defaults = optional_ok AreSoundEntries (codes "defaults") entries_of [] (get (codes "defaults") x) c.0 (all_nil (λ (e : DefaultEntry). IsSound (json_of e.value))) entries_sound (get_sound (codes "defaults") x sound) c.1 in
-    subst IsReadDefinition same (variables, defaults)
+    let parts = feature_parts x f h in (
+      optional_ok AreReadFields (codes "variables") fields_of [] (get (codes "variables") x) f.variables (all_nil (λ (f : List ℕ × Field). IsReadField f.1)) fields_read (get_sound (codes "variables") x sound) parts.variables,
+      optional_ok AreSoundEntries (codes "defaults") entries_of [] (get (codes "defaults") x) f.defaults (all_nil (λ (e : DefaultEntry). IsSound (json_of e.value))) entries_sound (get_sound (codes "defaults") x sound) parts.defaults,
+    )
 
 -- a feature that is read
 IsReadFeature : List ℕ × FeatureDefinition → Type 0
@@ -223,7 +189,7 @@ IsReadFeature f = IsTrue (is_name f.0) × IsReadDefinition f.1
 
 features_read : (x : Json) (fs : List (List ℕ × FeatureDefinition)) → IsSound x → features_of x ≡ Ok fs → All IsReadFeature fs
 unfolding IsReadFeature
-features_read (object ms) fs sound h = members_ok IsReadFeature is_name feature_of (λ k x f taken within read. (taken, feature_read x f within read)) ms fs sound h
+features_read (object ms) fs sound h = members_ok IsReadFeature is_name feature_of (λ k x f utf8 taken within read. (taken, feature_read x f within read)) ms fs sound h
 features_read x fs sound h = absurd cc
 
 -- what stands under `types`
@@ -236,34 +202,24 @@ types_sound (Some x) t sound h =
 -- ---- the module
 
 pub module_read : (x : Json) (m : Module) → IsSound x → module_of x ≡ Ok m → IsReadModule m
-unfolding module_of definitions_of IsReadFeature IsReadDefinition HaveSoundImports
+unfolding IsReadFeature IsReadDefinition HaveSoundImports
 module_read x m sound h =
-    let a = ok_of (object_in x) _ m h in
-    let b = ok_of (optional (codes "channels") texts_of [] (get (codes "channels") x)) _ m a.2 in
-    let c = ok_of (either (codes "includes") (codes "include") texts_of [] x) _ m b.2 in
-    let d = ok_of (either (codes "imports") (codes "import") imports_of [] x) _ m c.2 in
-    let e = ok_of (optional (codes "enums") enums_of [] (get (codes "enums") x)) _ m d.2 in
-    let t = ok_of (types_in (get (codes "types") x)) _ m e.2 in
-    let te = ok_of (in_types (codes "enums") enums_of [] t.0) _ m t.2 in
-    let o = ok_of (optional (codes "objects") objects_of [] (get (codes "objects") x)) _ m te.2 in
-    let to = ok_of (in_types (codes "objects") objects_of [] t.0) _ m o.2 in
-    let f = ok_of (optional (codes "features") features_of [] (get (codes "features") x)) _ m to.2 in
-    let same : record { channels = b.0; includes = c.0; imports = d.0; enums = e.0; types_enums = te.0; objects = o.0; types_objects = to.0; features = f.0 } ≡ m = same_ok _ m f.2 in
+    let p = module_parts x m h in
     let within : (k : List ℕ) → IsSoundOption (get k x) = λ k. get_sound k x sound in
-    let types = types_sound (get (codes "types") x) t.0 (within (codes "types")) t.1 in
+    let types = types_sound (get (codes "types") x) p.types (within (codes "types")) p.types_is in
     let no_enum = all_nil (λ (e : List ℕ × EnumDefinition). 0 < length e.1.variants) in
     let no_object = all_nil (λ (o : List ℕ × ObjectDefinition). AreReadFields o.1.fields) in
-    let features = optional_ok (All IsReadFeature) (codes "features") features_of [] (get (codes "features") x) f.0 (all_nil IsReadFeature) features_read (within (codes "features")) f.1 in
-    subst IsReadModule same (record {
-      imports = either_ok HaveSoundImports (codes "imports") (codes "import") imports_of [] (get (codes "imports") x) (get (codes "import") x) d.0 (all_nil (λ (i : Import). HaveSoundOverrides i.features)) imports_sound (within (codes "imports")) (within (codes "import")) d.1;
-      variants = optional_ok HaveVariants (codes "enums") enums_of [] (get (codes "enums") x) e.0 no_enum enums_variants (within (codes "enums")) e.1;
-      types_variants = in_types_ok HaveVariants (codes "enums") enums_of [] t.0 te.0 no_enum enums_variants types te.1;
-      fields = optional_ok HaveReadFields (codes "objects") objects_of [] (get (codes "objects") x) o.0 no_object objects_read (within (codes "objects")) o.1;
-      types_fields = in_types_ok HaveReadFields (codes "objects") objects_of [] t.0 to.0 no_object objects_read types to.1;
-      names = all_map IsReadFeature (λ f. IsTrue (is_name f.0)) f.0 (λ g read. read.0) features;
-      variables = all_map IsReadFeature (λ f. AreReadFields f.1.variables) f.0 (λ g read. read.1.0) features;
-      entries = all_map IsReadFeature (λ f. AreSoundEntries f.1.defaults) f.0 (λ g read. read.1.1) features;
-    })
+    let features = optional_ok (All IsReadFeature) (codes "features") features_of [] (get (codes "features") x) m.features (all_nil IsReadFeature) features_read (within (codes "features")) p.features in
+    record {
+      imports = either_ok HaveSoundImports (codes "imports") (codes "import") imports_of [] (get (codes "imports") x) (get (codes "import") x) m.imports (all_nil (λ (i : Import). HaveSoundOverrides i.features)) imports_sound (within (codes "imports")) (within (codes "import")) p.imports;
+      variants = optional_ok HaveVariants (codes "enums") enums_of [] (get (codes "enums") x) m.enums no_enum enums_variants (within (codes "enums")) p.enums;
+      types_variants = in_types_ok HaveVariants (codes "enums") enums_of [] p.types m.types_enums no_enum enums_variants types p.types_enums;
+      fields = optional_ok HaveReadFields (codes "objects") objects_of [] (get (codes "objects") x) m.objects no_object objects_read (within (codes "objects")) p.objects;
+      types_fields = in_types_ok HaveReadFields (codes "objects") objects_of [] p.types m.types_objects no_object objects_read types p.types_objects;
+      names = all_map IsReadFeature (λ f. IsTrue (is_name f.0)) m.features (λ g read. read.0) features;
+      variables = all_map IsReadFeature (λ f. AreReadFields f.1.variables) m.features (λ g read. read.1.0) features;
+      entries = all_map IsReadFeature (λ f. AreSoundEntries f.1.defaults) m.features (λ g read. read.1.1) features;
+    }
 
 pub read_module : (m : Module) → IsRead m → IsReadModule m
 read_module m read = module_read read.tree m read.sound read.reads

@@ -21,11 +21,11 @@ use Rattle.fml_types.specs.declared.manifest.Manifest.{Manifest}
 use Rattle.fml_types.specs.declared.manifest.ObjectDefinition.{ObjectDefinition}
 use Rattle.fml_reader.specs.Outcome.{◌>>=◌, under}
 use Rattle.fml_reader.specs.Imports.{overrides_of, import_of, imports_of}
-use Rattle.fml_reader.specs.Values.{object_in, text_in, truth_in, value_in, is_key}
-use Rattle.fml_reader.specs.Walks.{each_member, members_in, keyed, there, required, optional, either, in_types}
+use Rattle.fml_reader.specs.Values.{object_in, text_in, value_in, is_key}
+use Rattle.fml_reader.specs.Walks.{each_member, members_in, keyed, there, required}
 use Rattle.fml_reader.specs.Fields.{type_in, field_of, fields_of, variant_of, some_there, enum_of, enums_of, object_of, objects_of}
 use Rattle.fml_reader.specs.Features.{texts_of, names_in, in_order, both, entry_of, entries_of, feature_of, features_of}
-use Rattle.fml_reader.specs.Modules.{types_in, definitions_of, module_of}
+use Rattle.fml_reader.specs.Modules.{module_of}
 use Rattle.fml_reader.specs.declared.fault.ModuleRefusal.{ModuleRefusal}
 use Rattle.fml_reader.specs.declared.imports.Import.{Import}
 use Rattle.fml_reader.specs.declared.module.Module.{Module}
@@ -41,7 +41,8 @@ use Rattle.fml_imports.specs.declared.fault.JoinFault.{JoinFault}
 use Rattle.fml_imports.specs.declared.joining.Linked.{Linked}
 use Rattle.fml_imports.proofs.Alls.{all_nil, all_cons, all_head, all_tail, all_append, all_map}
 use Rattle.fml_imports.proofs.JoinedParts.{Asked, Feature, Override, Imported, ModuleHas, ManifestHas, joined_has}
-use Rattle.fml_imports.proofs.ReadModules.{ok_of, same_ok, under_ok, keyed_ok, needed_ok, required_ok, optional_ok, either_ok, in_types_ok, items_ok, default_sound, value_sound, types_sound}
+use Rattle.fml_imports.proofs.ModuleParts.{ok_of, same_ok, under_ok, keyed_ok, field_parts, entry_parts, feature_parts, import_features, module_parts}
+use Rattle.fml_imports.proofs.ReadModules.{needed_ok, required_ok, optional_ok, either_ok, in_types_ok, items_ok, members_ok, default_sound, value_sound, types_sound}
 use Rattle.fml_imports.proofs.RisingFeatures.{joined_rises}
 use Rattle.fml_imports.proofs.Singles.{same_shapes}
 use Rattle.fml_imports.proofs.SoundManifests.{bind_ok, checked_ok}
@@ -117,15 +118,11 @@ field-sound t None utf8 sound = (texts.type_word, tt, utf8, tt)
 field-sound t (Some d) utf8 sound = (texts.default_word, (refl, tt), sound, (texts.type_word, tt, utf8, tt))
 
 field_sound : (x : Json) (f : Field) → IsSound x → field_of x ≡ Ok f → IsSound (field_json f)
-unfolding field_of
 field_sound x f sound h =
-    let a = ok_of (object_in x) _ f h in
-    let b = ok_of (required (codes "type") type_in (get (codes "type") x)) _ f a.2 in
-    let c = ok_of (optional (codes "default") (there value_in) None (get (codes "default") x)) _ f b.2 in
-    let read = required_ok (codes "type") type_in (get (codes "type") x) b.0 (get_sound (codes "type") x sound) b.1 in
-    let default = optional_ok IsSoundDefault (codes "default") (there value_in) None (get (codes "default") x) c.0 tt default_sound (get_sound (codes "default") x sound) c.1 in
-    let same : record { field_type = b.0; default = c.0 } ≡ f = same_ok _ f c.2 in
-    subst (λ (g : Field). IsSound (field_json g)) same (field-sound b.0 c.0 (type_sound read.0 b.0 read.1 read.2) default)
+    let parts = field_parts x f h in
+    let read = required_ok (codes "type") type_in (get (codes "type") x) f.field_type (get_sound (codes "type") x sound) parts.field_type in
+    let default = optional_ok IsSoundDefault (codes "default") (there value_in) None (get (codes "default") x) f.default tt default_sound (get_sound (codes "default") x sound) parts.default in
+    field-sound f.field_type f.default (type_sound read.0 f.field_type read.1 read.2) default
 
 fields_sound : (x : Json) (fs : List (List ℕ × Field)) → IsSound x → fields_of x ≡ Ok fs → HaveSoundValues field_json fs
 fields_sound x fs sound h = members_read field_json is_key field_of field_sound x fs sound h
@@ -199,17 +196,12 @@ entry-sound None value all sound = (texts.value_word, tt, sound, tt)
 entry-sound (Some names) value all sound = (texts.channels_word, (refl, tt), texts_sound names all, (texts.value_word, tt, sound, tt))
 
 entry_sound : (x : Json) (e : DefaultEntry) → IsSound x → entry_of x ≡ Ok e → IsSound (entry_json e)
-unfolding entry_of
 entry_sound x e sound h =
-    let a = ok_of (object_in x) _ e h in
-    let b = ok_of (optional (codes "channel") (there text_in) None (get (codes "channel") x)) _ e a.2 in
-    let c = ok_of (optional (codes "channels") (there texts_of) None (get (codes "channels") x)) _ e b.2 in
-    let d = ok_of (required (codes "value") value_in (get (codes "value") x)) _ e c.2 in
-    let divided = optional_ok IsTextOption (codes "channel") (there text_in) None (get (codes "channel") x) b.0 tt text_there (get_sound (codes "channel") x sound) b.1 in
-    let listed = optional_ok AreTextsOption (codes "channels") (there texts_of) None (get (codes "channels") x) c.0 tt names_there (get_sound (codes "channels") x sound) c.1 in
-    let read = required_ok (codes "value") value_in (get (codes "value") x) d.0 (get_sound (codes "value") x sound) d.1 in
-    let same : record { channels = option_map (in_order []) (both (option_map names_in b.0) c.0); value = d.0 } ≡ e = same_ok _ e d.2 in
-    subst (λ (f : DefaultEntry). IsSound (entry_json f)) same (entry-sound (option_map (in_order []) (both (option_map names_in b.0) c.0)) d.0 (channels_texts b.0 c.0 divided listed) (value_sound read.0 d.0 read.1 read.2))
+    let parts = entry_parts x e h in
+    let divided = optional_ok IsTextOption (codes "channel") (there text_in) None (get (codes "channel") x) parts.divided tt text_there (get_sound (codes "channel") x sound) parts.divided_is in
+    let listed = optional_ok AreTextsOption (codes "channels") (there texts_of) None (get (codes "channels") x) parts.listed tt names_there (get_sound (codes "channels") x sound) parts.listed_is in
+    let read = required_ok (codes "value") value_in (get (codes "value") x) e.value (get_sound (codes "value") x sound) parts.value in
+    entry-sound e.channels e.value (subst AreTextsOption parts.channels (channels_texts parts.divided parts.listed divided listed)) (value_sound read.0 e.value read.1 read.2)
 
 abbrev HasSoundEntry : DefaultEntry → Type 0
 HasSoundEntry e = IsSound (entry_json e)
@@ -239,53 +231,26 @@ feature-sound f variables entries =
     (texts.coenrollment_word, (refl, (refl, tt)), tt, (texts.defaults_word, (refl, tt), items_sound entry_json f.defaults entries, (texts.variables_word, tt, variables, tt)))
 
 feature_sound : (x : Json) (f : FeatureDefinition) → IsSound x → feature_of x ≡ Ok f → HaveSoundValues field_json f.variables × All HasSoundEntry f.defaults
-unfolding feature_of
 feature_sound x f sound h =
-    let a = ok_of (object_in x) _ f h in
-    let b = ok_of (optional (codes "variables") fields_of [] (get (codes "variables") x)) _ f a.2 in
-    let c = ok_of (optional (codes "defaults") entries_of [] (get (codes "defaults") x)) _ f b.2 in
-    let d = ok_of (optional (codes "allow-coenrollment") truth_in false (get (codes "allow-coenrollment") x)) _ f c.2 in
-    let same : record { variables = b.0; defaults = c.0; allows_coenrollment = d.0 } ≡ f = same_ok _ f d.2 in
-    let variables = optional_ok (HaveSoundValues field_json) (codes "variables") fields_of [] (get (codes "variables") x) b.0 tt fields_sound (get_sound (codes "variables") x sound) b.1 in
-    let entries = optional_ok (All HasSoundEntry) (codes "defaults") entries_of [] (get (codes "defaults") x) c.0 (all_nil HasSoundEntry) entries_sound (get_sound (codes "defaults") x sound) c.1 in
-    subst (λ (g : FeatureDefinition). HaveSoundValues field_json g.variables × All HasSoundEntry g.defaults) same (variables, entries)
+    let parts = feature_parts x f h in (
+      optional_ok (HaveSoundValues field_json) (codes "variables") fields_of [] (get (codes "variables") x) f.variables tt fields_sound (get_sound (codes "variables") x sound) parts.variables,
+      optional_ok (All HasSoundEntry) (codes "defaults") entries_of [] (get (codes "defaults") x) f.defaults (all_nil HasSoundEntry) entries_sound (get_sound (codes "defaults") x sound) parts.defaults,
+    )
 
-features-sound : (ms : Members) (fs : List (List ℕ × FeatureDefinition)) → AreSoundMembers ms → each_member is_name feature_of ms ≡ Ok fs → All (Feature Sound) fs
-features-sound no_members fs sound h = let same : [] ≡ fs = cc in subst (All (Feature Sound)) same (all_nil (Feature Sound))
-features-sound (member k x ms) fs sound h =
-    let first = ok_of (under k (keyed (is_name k) (feature_of x))) (λ a. each_member is_name feature_of ms >>= λ as'. Ok ((k, a) ∷ as')) fs h in
-    let others = ok_of (each_member is_name feature_of ms) (λ as'. Ok ((k, first.0) ∷ as')) fs first.2 in
-    let one = keyed_ok (is_name k) (feature_of x) first.0 (under_ok k (keyed (is_name k) (feature_of x)) first.0 first.1) in
-    let same : (k, first.0) ∷ others.0 ≡ fs = cc in
-    let parts = feature_sound x first.0 sound.2 one.1 in
-    subst (All (Feature Sound)) same (all_cons (Feature Sound) (k, first.0) others.0 (record { variables = (sound.0, parts.0); entries = parts.1 }) (features-sound ms others.0 sound.3 others.1))
+one_feature : (k : List ℕ) (x : Json) (f : FeatureDefinition) → IsUtf8 k → IsSound x → feature_of x ≡ Ok f → Feature Sound (k, f)
+one_feature k x f utf8 sound h = let parts = feature_sound x f sound h in record { variables = (utf8, parts.0); entries = parts.1 }
 
 features_sound : (x : Json) (fs : List (List ℕ × FeatureDefinition)) → IsSound x → features_of x ≡ Ok fs → All (Feature Sound) fs
-features_sound (object ms) fs sound h = features-sound ms fs sound h
+features_sound (object ms) fs sound h = members_ok (Feature Sound) is_name feature_of (λ k x f utf8 taken within read. one_feature k x f utf8 within read) ms fs sound h
 features_sound x fs sound h = absurd cc
 
-overrides-sound : (ms : Members) (os : List (List ℕ × List DefaultEntry)) → AreSoundMembers ms → each_member is_name entries_of ms ≡ Ok os → All (Override Sound) os
-overrides-sound no_members os sound h = let same : [] ≡ os = cc in subst (All (Override Sound)) same (all_nil (Override Sound))
-overrides-sound (member k x ms) os sound h =
-    let first = ok_of (under k (keyed (is_name k) (entries_of x))) (λ a. each_member is_name entries_of ms >>= λ as'. Ok ((k, a) ∷ as')) os h in
-    let others = ok_of (each_member is_name entries_of ms) (λ as'. Ok ((k, first.0) ∷ as')) os first.2 in
-    let one = keyed_ok (is_name k) (entries_of x) first.0 (under_ok k (keyed (is_name k) (entries_of x)) first.0 first.1) in
-    let same : (k, first.0) ∷ others.0 ≡ os = cc in
-    subst (All (Override Sound)) same (all_cons (Override Sound) (k, first.0) others.0 (entries_sound x first.0 sound.2 one.1) (overrides-sound ms others.0 sound.3 others.1))
-
 overrides_sound : (x : Json) (os : List (List ℕ × List DefaultEntry)) → IsSound x → overrides_of x ≡ Ok os → All (Override Sound) os
-overrides_sound (object ms) os sound h = overrides-sound ms os sound h
+overrides_sound (object ms) os sound h = members_ok (Override Sound) is_name entries_of (λ k x es utf8 taken within read. entries_sound x es within read) ms os sound h
 overrides_sound x os sound h = absurd cc
 
 import_sound : (x : Json) (i : Import) → IsSound x → import_of x ≡ Ok i → Imported Sound i
-unfolding import_of
 import_sound x i sound h =
-    let a = ok_of (object_in x) _ i h in
-    let b = ok_of (required (codes "path") text_in (get (codes "path") x)) _ i a.2 in
-    let c = ok_of (required (codes "channel") text_in (get (codes "channel") x)) _ i b.2 in
-    let d = ok_of (optional (codes "features") overrides_of [] (get (codes "features") x)) _ i c.2 in
-    let same : d.0 ≡ i.features = cc in
-    subst (All (Override Sound)) same (optional_ok (All (Override Sound)) (codes "features") overrides_of [] (get (codes "features") x) d.0 (all_nil (Override Sound)) overrides_sound (get_sound (codes "features") x sound) d.1)
+    optional_ok (All (Override Sound)) (codes "features") overrides_of [] (get (codes "features") x) i.features (all_nil (Override Sound)) overrides_sound (get_sound (codes "features") x sound) (import_features x i h)
 
 imports_sound : (x : Json) (is : List Import) → IsSound x → imports_of x ≡ Ok is → All (Imported Sound) is
 imports_sound (list xs) is sound h = items_ok (Imported Sound) import_of import_sound 0 xs is sound h
@@ -299,34 +264,23 @@ record IsSoundModule (m : Module) : Type 0 where
   pub channels : All IsUtf8 m.channels
 
 module_sound : (x : Json) (m : Module) → IsSound x → module_of x ≡ Ok m → IsSoundModule m
-unfolding module_of definitions_of
 module_sound x m sound h =
-    let a = ok_of (object_in x) _ m h in
-    let b = ok_of (optional (codes "channels") texts_of [] (get (codes "channels") x)) _ m a.2 in
-    let c = ok_of (either (codes "includes") (codes "include") texts_of [] x) _ m b.2 in
-    let d = ok_of (either (codes "imports") (codes "import") imports_of [] x) _ m c.2 in
-    let e = ok_of (optional (codes "enums") enums_of [] (get (codes "enums") x)) _ m d.2 in
-    let t = ok_of (types_in (get (codes "types") x)) _ m e.2 in
-    let te = ok_of (in_types (codes "enums") enums_of [] t.0) _ m t.2 in
-    let o = ok_of (optional (codes "objects") objects_of [] (get (codes "objects") x)) _ m te.2 in
-    let to = ok_of (in_types (codes "objects") objects_of [] t.0) _ m o.2 in
-    let f = ok_of (optional (codes "features") features_of [] (get (codes "features") x)) _ m to.2 in
-    let same : record { channels = b.0; includes = c.0; imports = d.0; enums = e.0; types_enums = te.0; objects = o.0; types_objects = to.0; features = f.0 } ≡ m = same_ok _ m f.2 in
+    let p = module_parts x m h in
     let within : (k : List ℕ) → IsSoundOption (get k x) = λ k. get_sound k x sound in
-    let types = types_sound (get (codes "types") x) t.0 (within (codes "types")) t.1 in
+    let types = types_sound (get (codes "types") x) p.types (within (codes "types")) p.types_is in
     let no_enum = all_nil (IsSoundMember enum_json) in
     let no_object = all_nil (IsSoundMember definition_json) in
-    subst IsSoundModule same (record {
+    record {
       parts = record {
-        imports = either_ok (All (Imported Sound)) (codes "imports") (codes "import") imports_of [] (get (codes "imports") x) (get (codes "import") x) d.0 (all_nil (Imported Sound)) imports_sound (within (codes "imports")) (within (codes "import")) d.1;
-        enums = optional_ok (All (IsSoundMember enum_json)) (codes "enums") enums_of [] (get (codes "enums") x) e.0 no_enum enums_sound (within (codes "enums")) e.1;
-        types_enums = in_types_ok (All (IsSoundMember enum_json)) (codes "enums") enums_of [] t.0 te.0 no_enum enums_sound types te.1;
-        objects = optional_ok (All (IsSoundMember definition_json)) (codes "objects") objects_of [] (get (codes "objects") x) o.0 no_object objects_sound (within (codes "objects")) o.1;
-        types_objects = in_types_ok (All (IsSoundMember definition_json)) (codes "objects") objects_of [] t.0 to.0 no_object objects_sound types to.1;
-        features = optional_ok (All (Feature Sound)) (codes "features") features_of [] (get (codes "features") x) f.0 (all_nil (Feature Sound)) features_sound (within (codes "features")) f.1;
+        imports = either_ok (All (Imported Sound)) (codes "imports") (codes "import") imports_of [] (get (codes "imports") x) (get (codes "import") x) m.imports (all_nil (Imported Sound)) imports_sound (within (codes "imports")) (within (codes "import")) p.imports;
+        enums = optional_ok (All (IsSoundMember enum_json)) (codes "enums") enums_of [] (get (codes "enums") x) m.enums no_enum enums_sound (within (codes "enums")) p.enums;
+        types_enums = in_types_ok (All (IsSoundMember enum_json)) (codes "enums") enums_of [] p.types m.types_enums no_enum enums_sound types p.types_enums;
+        objects = optional_ok (All (IsSoundMember definition_json)) (codes "objects") objects_of [] (get (codes "objects") x) m.objects no_object objects_sound (within (codes "objects")) p.objects;
+        types_objects = in_types_ok (All (IsSoundMember definition_json)) (codes "objects") objects_of [] p.types m.types_objects no_object objects_sound types p.types_objects;
+        features = optional_ok (All (Feature Sound)) (codes "features") features_of [] (get (codes "features") x) m.features (all_nil (Feature Sound)) features_sound (within (codes "features")) p.features;
       };
-      channels = optional_ok (All IsUtf8) (codes "channels") texts_of [] (get (codes "channels") x) b.0 (all_nil IsUtf8) names_sound (within (codes "channels")) b.1;
-    })
+      channels = optional_ok (All IsUtf8) (codes "channels") texts_of [] (get (codes "channels") x) m.channels (all_nil IsUtf8) names_sound (within (codes "channels")) p.channels;
+    }
 
 -- ---- the manifest
 

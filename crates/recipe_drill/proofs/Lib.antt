@@ -1,4 +1,5 @@
 mod Drawing
+mod Parted
 mod Definitions
 mod Printed
 mod RecordRoom

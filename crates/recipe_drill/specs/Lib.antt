@@ -1,4 +1,5 @@
 pub mod Draws
+pub mod Members
 pub mod Records
 pub mod Files
 pub mod Parts

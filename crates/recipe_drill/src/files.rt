@@ -8,6 +8,7 @@ ghost use Rattle.recipe_drill.specs.Records.{record_json};
 ghost use Rattle.recipe_drill.specs.Files as spec;
 
 use crate::draws::draws_of;
+use crate::members::{write_text, write_truth};
 use crate::records::{set_feature_name, write_record};
 use json::Writer;
 use std::alloc::{AllocError, Global};
@@ -62,8 +63,7 @@ fn write_definition(writer: &mut Writer, feature: u32) -> Result<(), AllocError>
     ensures tokens { OnOk result (writer.new.tokens ≡ writer.old.tokens ++ tokens_of (spec.definition_json feature)) }
 {
     writer.begin_object()?;
-    writer.key("allow-coenrollment")?;
-    writer.boolean(feature < 4)?;
+    write_truth(writer, "allow-coenrollment", feature < 4)?;
     writer.key("variables")?;
     writer.begin_object()?;
     writer.key("enabled")?;
@@ -78,10 +78,8 @@ fn write_variable(writer: &mut Writer) -> Result<(), AllocError>
     ensures tokens { OnOk result (writer.new.tokens ≡ writer.old.tokens ++ tokens_of spec.variable_json) }
 {
     writer.begin_object()?;
-    writer.key("default")?;
-    writer.boolean(false)?;
-    writer.key("type")?;
-    writer.string("Boolean")?;
+    write_truth(writer, "default", false)?;
+    write_text(writer, "type", "Boolean")?;
     writer.end_object()
 }
 
@@ -99,12 +97,9 @@ fn write_context(writer: &mut Writer) -> Result<(), AllocError>
     ensures tokens { OnOk result (writer.new.tokens ≡ writer.old.tokens ++ tokens_of spec.context_json) }
 {
     writer.begin_object()?;
-    writer.key("app_name")?;
-    writer.string("fenix")?;
-    writer.key("app_version")?;
-    writer.string("110.0.0")?;
-    writer.key("channel")?;
-    writer.string("release")?;
+    write_text(writer, "app_name", "fenix")?;
+    write_text(writer, "app_version", "110.0.0")?;
+    write_text(writer, "channel", "release")?;
     writer.end_object()
 }
 

@@ -6,6 +6,7 @@ mod counting;
 mod draws;
 mod drill;
 mod files;
+mod members;
 mod records;
 
 pub use counting::summary;

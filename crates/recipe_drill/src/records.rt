@@ -1,10 +1,10 @@
 // The records of a drill, written as compact JSON, token by token. The keys of each object rise.
-ghost use Rattle.std.specs.Prelude.{◌≡◌, ◌++◌, OnOk, string_bytes, decimal, pos};
-ghost use Rattle.json_tree.specs.Json.{whole};
+ghost use Rattle.std.specs.Prelude.{◌≡◌, ◌++◌, OnOk, string_bytes, decimal};
 ghost use Rattle.json_tree.specs.Tokens.{tokens_of};
 ghost use Rattle.recipe_drill.specs.Records as spec;
 
 use crate::draws::Draws;
+use crate::members::{write_number, write_text, write_truth};
 use itoa::Buffer;
 use json::Writer;
 use std::alloc::AllocError;
@@ -21,26 +21,19 @@ pub(crate) fn write_record(
     ensures tokens { OnOk result (writer.new.tokens ≡ writer.old.tokens ++ tokens_of (spec.drawn_record draws index)) }
 {
     writer.begin_object()?;
-    writer.key("appName")?;
-    writer.string("fenix")?;
+    write_text(writer, "appName", "fenix")?;
     writer.key("branches")?;
     write_branches(writer, text, draws.feature)?;
     writer.key("bucketConfig")?;
     write_bucket(writer, text, draws.feature, draws.count)?;
-    writer.key("channel")?;
-    writer.string("release")?;
-    writer.key("isEnrollmentPaused")?;
-    writer.boolean(draws.pause == 0)?;
-    writer.key("isRollout")?;
-    writer.boolean(draws.kind == 0)?;
-    writer.key("schemaVersion")?;
-    writer.string("1.12.0")?;
-    writer.key("slug")?;
+    write_text(writer, "channel", "release")?;
+    write_truth(writer, "isEnrollmentPaused", draws.pause == 0)?;
+    write_truth(writer, "isRollout", draws.kind == 0)?;
+    write_text(writer, "schemaVersion", "1.12.0")?;
     set_slug(text, index)?;
-    writer.string(text.as_str())?;
-    writer.key("targeting")?;
+    write_text(writer, "slug", text.as_str())?;
     set_targeting(text, draws.version)?;
-    writer.string(text.as_str())?;
+    write_text(writer, "targeting", text.as_str())?;
     writer.end_object()
 }
 
@@ -70,10 +63,8 @@ fn write_branch(
     writer.begin_array()?;
     write_feature(writer, text, feature, enabled)?;
     writer.end_array()?;
-    writer.key("ratio")?;
-    write_number(writer, 1)?;
-    writer.key("slug")?;
-    writer.string(slug)?;
+    write_number(writer, "ratio", 1)?;
+    write_text(writer, "slug", slug)?;
     writer.end_object()
 }
 
@@ -87,9 +78,8 @@ fn write_feature(
     ensures tokens { OnOk result (writer.new.tokens ≡ writer.old.tokens ++ tokens_of (spec.feature_json feature enabled)) }
 {
     writer.begin_object()?;
-    writer.key("featureId")?;
     set_feature_name(text, feature)?;
-    writer.string(text.as_str())?;
+    write_text(writer, "featureId", text.as_str())?;
     writer.key("value")?;
     write_value(writer, enabled)?;
     writer.end_object()
@@ -100,8 +90,7 @@ fn write_value(writer: &mut Writer, enabled: bool) -> Result<(), AllocError>
     ensures tokens { OnOk result (writer.new.tokens ≡ writer.old.tokens ++ tokens_of (spec.value_json enabled)) }
 {
     writer.begin_object()?;
-    writer.key("enabled")?;
-    writer.boolean(enabled)?;
+    write_truth(writer, "enabled", enabled)?;
     writer.end_object()
 }
 
@@ -115,25 +104,13 @@ fn write_bucket(
     ensures tokens { OnOk result (writer.new.tokens ≡ writer.old.tokens ++ tokens_of (spec.bucket_json feature count)) }
 {
     writer.begin_object()?;
-    writer.key("count")?;
-    write_number(writer, count)?;
-    writer.key("namespace")?;
+    write_number(writer, "count", count)?;
     set_namespace(text, feature)?;
-    writer.string(text.as_str())?;
-    writer.key("randomizationUnit")?;
-    writer.string("nimbus_id")?;
-    writer.key("start")?;
-    write_number(writer, 0)?;
-    writer.key("total")?;
-    write_number(writer, 10_000)?;
+    write_text(writer, "namespace", text.as_str())?;
+    write_text(writer, "randomizationUnit", "nimbus_id")?;
+    write_number(writer, "start", 0)?;
+    write_number(writer, "total", 10_000)?;
     writer.end_object()
-}
-
-fn write_number(writer: &mut Writer, number: u32) -> Result<(), AllocError>
-    ensures before { writer.new.before ≡ writer.old.before }
-    ensures tokens { OnOk result (writer.new.tokens ≡ writer.old.tokens ++ tokens_of (whole (pos number))) }
-{
-    writer.u64(u64::from(number))
 }
 
 #[tactic(auto, unfolding(crate::specs::Records::slug))]

@@ -1,7 +1,8 @@
--- The parts of the object, one behind the other.
+-- The members of the object, one behind the other.
 use Rattle.std.proofs.lemmas.Result.{on_ok_weaker}
 use Rattle.json_tree.proofs.Tokens.{token_then}
 use Rattle.recipe_drill.specs.Files.{context_json}
+use Rattle.recipe_drill.proofs.Parted.{member_then}
 use Rattle.recipe_drill.proofs.files.write_context.Goals as goal
 
 pub returns-clause-tokens : goal.returns-clause-tokens
@@ -10,11 +11,8 @@ returns-clause-tokens c =
     on_ok_weaker c.end_object.result
     (λ closed.
     (token_then _ c.in_ok-begin_object.ensures
-    (token_then _ c.in_ok-key.ensures
-    (token_then _ c.in_ok-string.ensures
-    (token_then _ c.in_ok-key-2.ensures
-    (token_then _ c.in_ok-string-2.ensures
-    (token_then _ c.in_ok-key-3.ensures
-    (token_then _ c.in_ok-string-3.ensures
-    closed))))))))
+    (member_then _ c.in_ok-write_text.ensures.tokens
+    (member_then _ c.in_ok-write_text-2.ensures.tokens
+    (member_then _ c.in_ok-write_text-3.ensures.tokens
+    closed)))))
     c.end_object.ensures.ok

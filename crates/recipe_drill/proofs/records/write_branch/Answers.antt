@@ -1,11 +1,11 @@
--- The parts of the object, one behind the other.
-use Rattle.std.proofs.Common.{pos, [], ◌∷◌, ◌++◌}
+-- The members of the object, one behind the other.
+use Rattle.std.proofs.Common.{[], ◌∷◌, ◌++◌}
 use Rattle.std.proofs.lemmas.Result.{on_ok_weaker}
 use Rattle.json.specs.Token.{end_array}
-use Rattle.json_tree.specs.Json.{whole}
 use Rattle.json_tree.specs.Tokens.{tokens_of}
 use Rattle.json_tree.proofs.Tokens.{part_then, token_then}
 use Rattle.recipe_drill.specs.Records.{feature_json, branch_json}
+use Rattle.recipe_drill.proofs.Parted.{member_then}
 use Rattle.recipe_drill.proofs.records.write_branch.Goals as goal
 
 pub returns-clause-tokens : goal.returns-clause-tokens
@@ -19,9 +19,7 @@ returns-clause-tokens c =
     (token_then _ c.in_ok-key.ensures
     (token_then _ c.in_ok-begin_array.ensures
     (part_then c.begin_array.new.self.tokens (feature ++ end_array ∷ []) _ features
-    (token_then _ c.in_ok-key-2.ensures
-    (part_then c.key-2.new.self.tokens (tokens_of (whole (pos 1))) _ c.in_ok-write_number.ensures.tokens
-    (token_then _ c.in_ok-key-3.ensures
-    (token_then _ c.in_ok-string.ensures
-    closed)))))))))
+    (member_then _ c.in_ok-write_number.ensures.tokens
+    (member_then _ c.in_ok-write_text.ensures.tokens
+    closed)))))))
     c.end_object.ensures.ok
