@@ -24,7 +24,7 @@ use client_steps::{
     listing_preferences, participating, reading_bindings, reading_context, resetting, serving,
     setting_manifest, showing, writing_manifest,
 };
-use client_words::{Answer, Command};
+use client_words::{Answer, Command, Refusal};
 use host_model::Shelf;
 use jexl_transforms::TransformTable;
 use std::alloc::{AllocError, Global};
@@ -160,7 +160,9 @@ impl Client {
             Asked::NewState { change, answer } => self.changed(alloc, change, answer),
             Asked::Followed { change, answer } => self.changed_to(alloc, &change, answer),
             Asked::SameState { change, answer } => Ok(self.unchanged(change, answer)),
-            Asked::Refused(refusal) => Ok(self.unchanged(SessionChange::Stays, refusal)),
+            Asked::Refused(refusal) => {
+                Ok(self.unchanged(SessionChange::Stays, Answer::Refused(refusal)))
+            }
         }
     }
 
@@ -181,7 +183,7 @@ impl Client {
         match self.followed(alloc, change) {
             Ok(change) => self.changed_to(alloc, &change, answer),
             Err(AppendChangesFault::ChangesSpent) => {
-                Ok(self.unchanged(SessionChange::Stays, Answer::ChangesSpent))
+                Ok(self.unchanged(SessionChange::Stays, Answer::Refused(Refusal::ChangesSpent)))
             }
             Err(AppendChangesFault::OutOfMemory) => Err(AllocError),
         }
@@ -227,7 +229,10 @@ impl Client {
                 session: SessionChange::Stays,
                 answer,
             }),
-            Err(size) => Ok(self.unchanged(SessionChange::Stays, Answer::StateTooLarge(size))),
+            Err(size) => Ok(self.unchanged(
+                SessionChange::Stays,
+                Answer::Refused(Refusal::StateTooLarge(size)),
+            )),
         }
     }
 

@@ -6,7 +6,8 @@ ghost use Rattle.enrol_states.specs.Consistent as states;
 ghost use Rattle.enrol_states.specs.NextStates.{HasParts};
 ghost use Rattle.pref_bindings.specs.Preferences.{IsValue, holder_of};
 ghost use Rattle.client_state.specs.Changes.{IsWholeChangeOf, state_after};
-ghost use Rattle.client_words.specs.declared.answer.Answer.TheVariants.{Okay, ChangesSpent};
+ghost use Rattle.client_words.specs.declared.answer.Answer.TheVariants.{Okay};
+ghost use Rattle.client_words.specs.declared.refusal.Refusal.TheVariants.{ChangesSpent};
 ghost use Rattle.client_steps.specs.Asked.{asked_outcome, FollowsFrom};
 ghost use Rattle.client_steps.specs.Steps.{Accepted, Refused, preferring, releasing};
 
@@ -14,7 +15,7 @@ use crate::client::Client;
 use change_outbox::AppendChangesFault;
 use client_state::StateChange;
 use client_steps::Asked;
-use client_words::Answer;
+use client_words::{Answer, Refusal};
 use enrol_states::{NextState, end_enrolment};
 use json_tree::Tree;
 use plain_text::Slug;
@@ -46,7 +47,7 @@ impl Client {
                     answer: Answer::Okay,
                 })
             }
-            Err(AppendChangesFault::ChangesSpent) => Ok(Asked::Refused(Answer::ChangesSpent)),
+            Err(AppendChangesFault::ChangesSpent) => Ok(Asked::Refused(Refusal::ChangesSpent)),
             Err(AppendChangesFault::OutOfMemory) => Err(AllocError),
         }
     }

@@ -7,7 +7,8 @@ use Rattle.change_outbox.proofs.Made.{confirmed_made}
 use Rattle.client_state.specs.Changes.{IsChangeOf, of_outbox}
 use Rattle.client_state.specs.declared.client_state.ClientState.{ClientState}
 use Rattle.client_state.specs.declared.state_change.StateChange.{StateChange}
-use Rattle.client_words.specs.declared.answer.Answer.TheVariants.{Okay, NoSuchChange}
+use Rattle.client_words.specs.declared.answer.Answer.TheVariants.{Okay}
+use Rattle.client_words.specs.declared.refusal.Refusal.TheVariants.{NoSuchChange}
 use Rattle.client_steps.specs.declared.session.Session.{Session}
 use Rattle.client_steps.specs.Asked.{changed_outcome}
 use Rattle.client_steps.specs.Steps.{Outcome, Accepted, Refused, confirming}

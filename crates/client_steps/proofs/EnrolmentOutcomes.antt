@@ -15,8 +15,9 @@ use Rattle.recipe_reader.specs.declared.payload.Payload.{Payload}
 use Rattle.recipe_reader.specs.declared.payload.PayloadFault.{PayloadFault}
 use Rattle.recipe_reader.specs.declared.payload.PayloadFault.TheVariants as payload
 use Rattle.recipe_reader.specs.declared.recipe.Recipe.{Recipe}
-use Rattle.client_words.specs.declared.answer.Answer.{Answer}
-use Rattle.client_words.specs.declared.answer.Answer.TheVariants.{Okay, OptedOutLimit, NoSuchBranch, NotParticipating, Fetched}
+use Rattle.client_words.specs.declared.answer.Answer.TheVariants.{Okay, Fetched}
+use Rattle.client_words.specs.declared.refusal.Refusal.{Refusal}
+use Rattle.client_words.specs.declared.refusal.Refusal.TheVariants.{OptedOutLimit, NoSuchBranch, NotParticipating}
 use Rattle.client_steps.specs.declared.session.Session.{Session}
 use Rattle.client_steps.specs.Choosing.{first_taker}
 use Rattle.client_steps.specs.Steps.{EnrolmentOutcome, Accepted, Refused, taking, offering, choosing, opting_in, opting_out, fetched, fetching, applied, applied_answer, applying}
@@ -25,7 +26,7 @@ either : (P : EnrolmentOutcome → Type 0) (b : Bool) (x y : EnrolmentOutcome) �
 either P true x y here there = here
 either P false x y here there = there
 
-module _ (e : State) (session : Session) (P : EnrolmentOutcome → Type 0) (refused : (answer : Answer) → P (Refused answer)) where
+module _ (e : State) (session : Session) (P : EnrolmentOutcome → Type 0) (refused : (refusal : Refusal) → P (Refused refusal)) where
   -- ---- `fetch`
 
   of_payload : (tree : Json) (read : Result Payload PayloadFault) → payload_of tree ≡ read → ((found : Payload) → payload_of tree ≡ Ok found → P (Accepted (record e { pending = Some found.recipes }) session (Fetched (length found.recipes) found.skipped)))
@@ -35,7 +36,7 @@ module _ (e : State) (session : Session) (P : EnrolmentOutcome → Type 0) (refu
   of_payload tree (Err (payload.TooManyRecipes count)) is takes = refused _
   of_payload tree (Err payload.OutOfMemory) is takes = refused _
 
-  pub fetching_either : (read : Result Json Answer)
+  pub fetching_either : (read : Result Json Refusal)
       → ((tree : Json) (found : Payload) → read ≡ Ok tree → payload_of tree ≡ Ok found → P (Accepted (record e { pending = Some found.recipes }) session (Fetched (length found.recipes) found.skipped))) → P (fetching e session read)
   fetching_either (Ok tree) takes = of_payload tree (payload_of tree) refl (λ found is. takes tree found refl is)
   fetching_either (Err refusal) takes = refused refusal

@@ -7,13 +7,14 @@ use Rattle.event_counts.specs.Kept.{counted_in}
 use Rattle.client_state.specs.Sound.{max_size}
 use Rattle.client_state.specs.Encoding.{encoding}
 use Rattle.client_state.specs.declared.client_state.ClientState.{ClientState}
-use Rattle.client_words.specs.declared.answer.Answer.TheVariants.{Okay, EventLimit, StateTooLarge}
+use Rattle.client_words.specs.declared.answer.Answer.TheVariants.{Okay}
+use Rattle.client_words.specs.declared.refusal.Refusal.TheVariants.{EventLimit, StateTooLarge}
 use Rattle.client_words.specs.declared.command.Command.{Command}
 use Rattle.client_words.specs.declared.command.Command.TheVariants.{Reset, Event, Confirm, SetPreference, ClearPreference}
 use Rattle.client_steps.specs.declared.session.Session.{Session}
 use Rattle.client_steps.specs.EventSteps.{is_okay, counts_after, EventsFollow}
 use Rattle.client_steps.specs.Settings.{Setting}
-use Rattle.client_steps.specs.Steps.{Outcome, Accepted, Refused, Step, with_enrolment, whole, resetting, has_no_room_for, confirming, preferring, outcome, done, step}
+use Rattle.client_steps.specs.Steps.{Outcome, Accepted, Refused, Step, with_enrolment, whole, resetting, has_no_room_for, confirming, preferring, outcome, done, step, unchanged}
 use Rattle.client_steps.proofs.Outcomes.{either_step, plain_either, confirming_either}
 use Rattle.client_steps.proofs.Stepping.{whole_either, preferring_either}
 
@@ -22,11 +23,11 @@ module _ (at : Setting) (s : ClientState) (session : Session) where
 
   abbrev Keeps : Outcome → Type 0
   Keeps (Accepted t next answer) = t.events ≡ s.events
-  Keeps (Refused answer) = Unit {0}
+  Keeps (Refused refusal) = Unit {0}
 
   done-keeps : (asked : Outcome) → Keeps asked → (done s session asked).state.events ≡ s.events
   done-keeps (Accepted t next answer) keeps = either_step (λ to. to.state.events ≡ s.events) (nat_lt max_size (length (encoding t))) _ _ refl keeps
-  done-keeps (Refused answer) keeps = refl
+  done-keeps (Refused refusal) keeps = refl
 
   preferring-keeps : (name : List ℕ) (value : Option Tree) → Keeps (preferring s session name value)
   preferring-keeps name value = preferring_either Keeps s session name value tt (λ free. refl) (λ holder held fits. refl)
@@ -35,7 +36,7 @@ module _ (at : Setting) (s : ClientState) (session : Session) where
 
   -- what a command that changes them leaves, where it isn't refused
   changes_at : (command : Command) (t : ClientState) → counts_after at.now command false s.events ≡ s.events → t.events ≡ counts_after at.now command true s.events → (large : Bool)
-      → let to : Step = if large then record { state = s; session = session; answer = StateTooLarge (length (encoding t)) } else record { state = t; session = session; answer = Okay } in
+      → let to : Step = if large then unchanged s session (StateTooLarge (length (encoding t))) else record { state = t; session = session; answer = Okay } in
       to.state.events ≡ counts_after at.now command (is_okay to.answer) s.events
   changes_at command t stays is true = sym stays
   changes_at command t stays is false = is
@@ -59,8 +60,8 @@ module _ (at : Setting) (s : ClientState) (session : Session) where
   follows (Event name count) = counted name count (has_no_room_for name s.events)
   follows (SetPreference name value) = done-keeps (preferring s session name (Some value)) (preferring-keeps name (Some value))
   follows (ClearPreference name) = done-keeps (preferring s session name None) (preferring-keeps name None)
-  follows (Confirm number) = done-keeps (confirming s session number) (confirming_either at s session Keeps (λ answer. tt) number (λ known. refl))
-  follows command = done-keeps (outcome at s session command) (plain_either at s session Keeps (λ answer. tt) (λ next answer. refl) (λ e next answer. refl) command tt)
+  follows (Confirm number) = done-keeps (confirming s session number) (confirming_either at s session Keeps (λ refusal. tt) number (λ known. refl))
+  follows command = done-keeps (outcome at s session command) (plain_either at s session Keeps (λ refusal. tt) (λ next answer. refl) (λ e next answer. refl) command tt)
 
 pub events_follow : EventsFollow
 events_follow at s session command = follows at s session command

@@ -18,7 +18,7 @@ use Rattle.client_state.specs.Encoding.{encoding}
 use Rattle.fml_types.specs.declared.manifest.Manifest.{Manifest}
 use Rattle.fml_value.specs.Typed.{TypedValue}
 use Rattle.feature_serving.specs.Serving.{served}
-use Rattle.client_words.specs.declared.answer.Answer.{Answer}
+use Rattle.client_words.specs.declared.refusal.Refusal.{Refusal}
 use Rattle.client_words.specs.declared.command.Command.{Command}
 use Rattle.client_words.specs.declared.command.Command.TheVariants.{Fetch, Apply, Participate, OptOut, OptIn, Reset, Show, Feature, Event, Confirm, Bind, SetPreference, ClearPreference, WriteManifest}
 use Rattle.client_words.specs.declared.command.Command.TheVariants as commands
@@ -40,21 +40,21 @@ use Rattle.client_steps.proofs.Stepping.{whole_either, preferring_either}
 module _ (P : Session → Type 0) (at : Setting) (s : ClientState) (session : Session) (was : P session) (links : (file channel : List ℕ) (manifest : Manifest) → manifest_of at.files file channel ≡ Ok manifest → P (with_manifest session manifest)) (takes : (tree : Json) (context : Context) → IsSound tree → context_of tree ≡ Ok context → P (with_context session context)) (binds : (tree : Json) (bindings : List Binding) → IsSound tree → bindings_of tree ≡ Ok bindings → P (with_bindings session bindings)) where
   abbrev Carries : {S : Type 0} → OutcomeOver S → Type 0
   Carries (Accepted t next answer) = P next
-  Carries (Refused answer) = Unit {0}
+  Carries (Refused refusal) = Unit {0}
 
   whole-carries : (counts : List NameCounts) (asked : EnrolmentOutcome) → Carries asked → Carries (whole s session counts asked)
   whole-carries counts (Accepted e next answer) carries = whole_either (λ (asked : Outcome). Carries asked) s session counts e next answer tt (λ fits. carries)
-  whole-carries counts (Refused answer) carries = tt
+  whole-carries counts (Refused refusal) carries = tt
 
   done-carries : (asked : Outcome) → Carries asked → P (done s session asked).session
   done-carries (Accepted t next answer) carries = either_step (λ to. P to.session) (nat_lt max_size (length (encoding t))) _ _ was carries
-  done-carries (Refused answer) carries = was
+  done-carries (Refused refusal) carries = was
 
   context-carries : (tree : Json) (read : Result Context ContextKey) → IsSound tree → context_of tree ≡ read → Carries (context_read s session read)
   context-carries tree (Ok context) sound is = takes tree context sound is
   context-carries tree (Err key) sound is = tt
 
-  file-carries : (read : Result Json Answer) → IfOk read IsSound → Carries (reading_context s session read)
+  file-carries : (read : Result Json Refusal) → IfOk read IsSound → Carries (reading_context s session read)
   file-carries (Ok tree) sound = context-carries tree (context_of tree) sound refl
   file-carries (Err refusal) sound = tt
 
@@ -62,14 +62,14 @@ module _ (P : Session → Type 0) (at : Setting) (s : ClientState) (session : Se
   bindings-carries tree (Ok bindings) sound is = binds tree bindings sound is
   bindings-carries tree (Err feature) sound is = tt
 
-  bind-carries : (read : Result Json Answer) → IfOk read IsSound → Carries (reading_bindings s session read)
+  bind-carries : (read : Result Json Refusal) → IfOk read IsSound → Carries (reading_bindings s session read)
   bind-carries (Ok tree) sound = bindings-carries tree (bindings_of tree) sound refl
   bind-carries (Err refusal) sound = tt
 
   preferring-carries : (name : List ℕ) (value : Option Tree) → Carries (preferring s session name value)
   preferring-carries name value = preferring_either (λ (asked : Outcome). Carries asked) s session name value tt (λ free. was) (λ holder held fits. was)
 
-  manifest-carries : (file channel : List ℕ) (read : Result Manifest Answer) → manifest_of at.files file channel ≡ read → Carries (setting_manifest s session read)
+  manifest-carries : (file channel : List ℕ) (read : Result Manifest Refusal) → manifest_of at.files file channel ≡ read → Carries (setting_manifest s session read)
   manifest-carries file channel (Ok manifest) is = links file channel manifest is
   manifest-carries file channel (Err refusal) is = tt
 
@@ -88,17 +88,17 @@ module _ (P : Session → Type 0) (at : Setting) (s : ClientState) (session : Se
   outcome-carries : (command : Command) → Carries (outcome at s session command)
   outcome-carries (commands.Manifest file channel) = manifest-carries file channel (manifest_of at.files file channel) refl
   outcome-carries (commands.Context file) = file-carries (file_tree file (at.files file)) (file_sound file (at.files file))
-  outcome-carries (Fetch file) = whole-carries s.events (fetching s.enrolment session (file_tree file (at.files file))) (fetching_either s.enrolment session (λ (asked : EnrolmentOutcome). Carries asked) (λ answer. tt) (file_tree file (at.files file)) (λ tree found is loads. was))
-  outcome-carries Apply = whole-carries s.events (applying at.now s.enrolment session session.manifest (seeing at.now s.events session.context)) (applying_either s.enrolment session (λ (asked : EnrolmentOutcome). Carries asked) (λ answer. tt) at.now session.manifest (seeing at.now s.events session.context) (λ m c. was))
+  outcome-carries (Fetch file) = whole-carries s.events (fetching s.enrolment session (file_tree file (at.files file))) (fetching_either s.enrolment session (λ (asked : EnrolmentOutcome). Carries asked) (λ refusal. tt) (file_tree file (at.files file)) (λ tree found is loads. was))
+  outcome-carries Apply = whole-carries s.events (applying at.now s.enrolment session session.manifest (seeing at.now s.events session.context)) (applying_either s.enrolment session (λ (asked : EnrolmentOutcome). Carries asked) (λ refusal. tt) at.now session.manifest (seeing at.now s.events session.context) (λ m c. was))
   outcome-carries (Participate kinds on) = whole-carries s.events (participation s.enrolment session kinds on) was
-  outcome-carries (OptOut slug) = whole-carries s.events (opting_out s.enrolment session slug) (opting_out_either s.enrolment session (λ (asked : EnrolmentOutcome). Carries asked) (λ answer. tt) slug was)
-  outcome-carries (OptIn slug branch) = whole-carries s.events (opting_in s.enrolment session slug branch) (opting_in_either s.enrolment session (λ (asked : EnrolmentOutcome). Carries asked) (λ answer. tt) slug branch was)
+  outcome-carries (OptOut slug) = whole-carries s.events (opting_out s.enrolment session slug) (opting_out_either s.enrolment session (λ (asked : EnrolmentOutcome). Carries asked) (λ refusal. tt) slug was)
+  outcome-carries (OptIn slug branch) = whole-carries s.events (opting_in s.enrolment session slug branch) (opting_in_either s.enrolment session (λ (asked : EnrolmentOutcome). Carries asked) (λ refusal. tt) slug branch was)
   outcome-carries (Reset id) = whole-carries [] (resetting s.enrolment session id) was
   outcome-carries Show = was
   outcome-carries (Feature name) = feature-carries name session.manifest
-  outcome-carries (Event name count) = counting_either at s session (λ (asked : Outcome). Carries asked) (λ answer. tt) name count (λ room. was)
+  outcome-carries (Event name count) = counting_either at s session (λ (asked : Outcome). Carries asked) (λ refusal. tt) name count (λ room. was)
   outcome-carries commands.Changes = was
-  outcome-carries (Confirm number) = confirming_either at s session (λ (asked : Outcome). Carries asked) (λ answer. tt) number (λ known. was)
+  outcome-carries (Confirm number) = confirming_either at s session (λ (asked : Outcome). Carries asked) (λ refusal. tt) number (λ known. was)
   outcome-carries (Bind file) = bind-carries (file_tree file (at.files file)) (file_sound file (at.files file))
   outcome-carries (SetPreference name value) = preferring-carries name (Some value)
   outcome-carries (ClearPreference name) = preferring-carries name None

@@ -18,14 +18,15 @@ use Rattle.client_state.specs.Encoding.{encoding}
 use Rattle.enrol_evolver.specs.Evolution.{evolution}
 use Rattle.app_context.specs.declared.context.Context.{Context}
 use Rattle.fml_types.specs.declared.manifest.Manifest.{Manifest}
-use Rattle.client_words.specs.declared.answer.Answer.TheVariants.{Okay, OptedOutLimit, StateTooLarge}
+use Rattle.client_words.specs.declared.answer.Answer.TheVariants.{Okay}
+use Rattle.client_words.specs.declared.refusal.Refusal.TheVariants.{OptedOutLimit, StateTooLarge}
 use Rattle.client_words.specs.declared.command.Command.{Command}
 use Rattle.client_words.specs.declared.command.Command.TheVariants.{Fetch, Apply, Participate, OptOut, OptIn, Reset, Event, Confirm, SetPreference, ClearPreference}
 use Rattle.client_steps.specs.declared.session.Session.{Session}
 use Rattle.client_steps.specs.Fetching.{file_tree}
 use Rattle.client_steps.specs.OptOuts.{BringsBack, OptOutsHold}
 use Rattle.client_steps.specs.Settings.{Setting}
-use Rattle.client_steps.specs.Steps.{EnrolmentOutcome, Outcome, Accepted, Refused, Step, with_enrolment, whole, enrolling, seeing, counting, confirming, preferring, participation, opting_out, fetching, applying, applied, outcome, done, step}
+use Rattle.client_steps.specs.Steps.{EnrolmentOutcome, Outcome, Accepted, Refused, Step, with_enrolment, whole, enrolling, seeing, counting, confirming, preferring, participation, opting_out, fetching, applying, applied, outcome, done, step, unchanged}
 use Rattle.client_steps.proofs.EnrolmentOutcomes.{fetching_either, applying_either, opting_out_either, opting_in_either}
 use Rattle.client_steps.proofs.Outcomes.{either_step, leaving_either, counting_either, confirming_either}
 use Rattle.client_steps.proofs.Stepping.{whole_either, preferring_either}
@@ -70,20 +71,20 @@ module _ (at : Setting) (s : ClientState) (session : Session) (slug : List ℕ) 
   -- an accepted state has the slug
   abbrev Keeps : Outcome → Type 0
   Keeps (Accepted t next answer) = is_in t.enrolment.opted_out slug ≡ true
-  Keeps (Refused answer) = Unit {0}
+  Keeps (Refused refusal) = Unit {0}
 
   -- and so has an accepted enrolment
   abbrev KeepsEnrolment : EnrolmentOutcome → Type 0
   KeepsEnrolment (Accepted e next answer) = is_in e.opted_out slug ≡ true
-  KeepsEnrolment (Refused answer) = Unit {0}
+  KeepsEnrolment (Refused refusal) = Unit {0}
 
   whole-keeps : (counts : List NameCounts) (asked : EnrolmentOutcome) → KeepsEnrolment asked → Keeps (whole s session counts asked)
   whole-keeps counts (Accepted e next answer) keeps = whole_either Keeps s session counts e next answer tt (λ fits. keeps)
-  whole-keeps counts (Refused answer) keeps = tt
+  whole-keeps counts (Refused refusal) keeps = tt
 
   done-keeps : (asked : Outcome) → Keeps asked → is_in (done s session asked).state.enrolment.opted_out slug ≡ true
   done-keeps (Accepted t next answer) keeps = either_step (λ to. is_in to.state.enrolment.opted_out slug ≡ true) (nat_lt max_size (length (encoding t))) _ _ there keeps
-  done-keeps (Refused answer) keeps = there
+  done-keeps (Refused refusal) keeps = there
 
   applied-keeps : (manifest : Manifest) (context : Context) → is_in (applied at.now s.enrolment manifest context).opted_out slug ≡ true
   unfolding evolution
@@ -101,7 +102,7 @@ module _ (at : Setting) (s : ClientState) (session : Session) (slug : List ℕ) 
   KeepsUnless back asked = (back ≡ true → (done s session asked).answer ≡ Okay → ⊥) → is_in (done s session asked).state.enrolment.opted_out slug ≡ true
 
   unless_at : (t : ClientState) (next : Session) (back large : Bool) → (back ≡ false → is_in t.enrolment.opted_out slug ≡ true)
-      → let to : Step = if large then record { state = s; session = session; answer = StateTooLarge (length (encoding t)) } else record { state = t; session = next; answer = Okay } in
+      → let to : Step = if large then unchanged s session (StateTooLarge (length (encoding t))) else record { state = t; session = next; answer = Okay } in
       (back ≡ true → to.answer ≡ Okay → ⊥) → is_in to.state.enrolment.opted_out slug ≡ true
   unless_at t next back true keeps never = there
   unless_at t next true false keeps never = absurd (never refl refl)
@@ -118,25 +119,25 @@ module _ (at : Setting) (s : ClientState) (session : Session) (slug : List ℕ) 
 
   kept : (command : Command) → (BringsBack at s session slug command → ⊥) → is_in (step at s session command).state.enrolment.opted_out slug ≡ true
   unfolding step
-  kept (Fetch file) never = enrolment-keeps (fetching s.enrolment session (file_tree file (at.files file))) (fetching_either s.enrolment session KeepsEnrolment (λ answer. tt) (file_tree file (at.files file)) (λ tree found is loads. there))
-  kept Apply never = enrolment-keeps (applying at.now s.enrolment session session.manifest (seeing at.now s.events session.context)) (applying_either s.enrolment session KeepsEnrolment (λ answer. tt) at.now session.manifest (seeing at.now s.events session.context) applied-keeps)
+  kept (Fetch file) never = enrolment-keeps (fetching s.enrolment session (file_tree file (at.files file))) (fetching_either s.enrolment session KeepsEnrolment (λ refusal. tt) (file_tree file (at.files file)) (λ tree found is loads. there))
+  kept Apply never = enrolment-keeps (applying at.now s.enrolment session session.manifest (seeing at.now s.events session.context)) (applying_either s.enrolment session KeepsEnrolment (λ refusal. tt) at.now session.manifest (seeing at.now s.events session.context) applied-keeps)
   kept (Participate kinds on) never = enrolment-keeps (participation s.enrolment session kinds on) there
-  kept (OptOut other) never = enrolment-keeps (opting_out s.enrolment session other) (opting_out_either s.enrolment session KeepsEnrolment (λ answer. tt) other (kept-insert other slug s.enrolment.opted_out there))
+  kept (OptOut other) never = enrolment-keeps (opting_out s.enrolment session other) (opting_out_either s.enrolment session KeepsEnrolment (λ refusal. tt) other (kept-insert other slug s.enrolment.opted_out there))
   kept (OptIn other branch) never =
-      opting_in_either s.enrolment session (λ (asked : EnrolmentOutcome). KeepsUnless (bytes_eq other slug) (enrolling s session asked)) (λ answer never. there) other branch (taken-unless other branch) (λ back is_done. never (back, is_done))
+      opting_in_either s.enrolment session (λ (asked : EnrolmentOutcome). KeepsUnless (bytes_eq other slug) (enrolling s session asked)) (λ refusal never. there) other branch (taken-unless other branch) (λ back is_done. never (back, is_done))
   kept (Reset id) never =
       let e = after_reset s.enrolment id in
       whole_either (KeepsUnless true) s session [] e session Okay (λ apart. there) (λ fits. accepted-unless (with_enrolment session s e []) session true (λ apart. absurd cc)) (λ back is_done. never (back, is_done))
   kept (SetPreference name value) never = done-keeps (preferring s session name (Some value)) (preferring-keeps name (Some value))
   kept (ClearPreference name) never = done-keeps (preferring s session name None) (preferring-keeps name None)
-  kept (Event name count) never = done-keeps (counting at.now s session name count) (counting_either at s session Keeps (λ answer. tt) name count (λ room. there))
-  kept (Confirm number) never = done-keeps (confirming s session number) (confirming_either at s session Keeps (λ answer. tt) number (λ known. there))
-  kept command never = done-keeps (outcome at s session command) (leaving_either at s session Keeps (λ answer. tt) (λ next answer. there) command tt)
+  kept (Event name count) never = done-keeps (counting at.now s session name count) (counting_either at s session Keeps (λ refusal. tt) name count (λ room. there))
+  kept (Confirm number) never = done-keeps (confirming s session number) (confirming_either at s session Keeps (λ refusal. tt) number (λ known. there))
+  kept command never = done-keeps (outcome at s session command) (leaving_either at s session Keeps (λ refusal. tt) (λ next answer. there) command tt)
 
 -- ---- an opt-out
 
 taken_at : (s t : ClientState) (session next : Session) (slug : List ℕ) (large : Bool) → is_in t.enrolment.opted_out slug ≡ true
-    → let to : Step = if large then record { state = s; session = session; answer = StateTooLarge (length (encoding t)) } else record { state = t; session = next; answer = Okay } in
+    → let to : Step = if large then unchanged s session (StateTooLarge (length (encoding t))) else record { state = t; session = next; answer = Okay } in
     to.answer ≡ Okay → is_in to.state.enrolment.opted_out slug ≡ true
 taken_at s t session next slug true has is_done = absurd cc
 taken_at s t session next slug false has is_done = has

@@ -8,14 +8,15 @@ use Rattle.client_state.specs.Following.{appended_changes}
 use Rattle.client_state.specs.Sound.{max_size}
 use Rattle.client_state.specs.Encoding.{encoding}
 use Rattle.client_state.specs.declared.client_state.ClientState.{ClientState}
-use Rattle.client_words.specs.declared.answer.Answer.TheVariants.{Okay, NoSuchChange, StateTooLarge}
+use Rattle.client_words.specs.declared.answer.Answer.TheVariants.{Okay}
+use Rattle.client_words.specs.declared.refusal.Refusal.TheVariants.{NoSuchChange, StateTooLarge}
 use Rattle.client_words.specs.declared.command.Command.{Command}
 use Rattle.client_words.specs.declared.command.Command.TheVariants.{Reset, Event, Confirm, SetPreference, ClearPreference}
 use Rattle.client_steps.specs.declared.session.Session.{Session}
 use Rattle.client_steps.specs.EventSteps.{is_okay}
 use Rattle.client_steps.specs.OutboxSteps.{confirmed_after, OutboxFollows}
 use Rattle.client_steps.specs.Settings.{Setting}
-use Rattle.client_steps.specs.Steps.{Outcome, Accepted, Refused, Step, whole, counting, resetting, preferring, outcome, done, step}
+use Rattle.client_steps.specs.Steps.{Outcome, Accepted, Refused, Step, whole, counting, resetting, preferring, outcome, done, step, unchanged}
 use Rattle.client_steps.proofs.Outboxes.{appended_same}
 use Rattle.client_steps.proofs.Outcomes.{either_step, plain_either, enrolled_either, counting_either}
 use Rattle.client_steps.proofs.Stepping.{preferring_either}
@@ -28,11 +29,11 @@ module _ (at : Setting) (s : ClientState) (session : Session) where
   -- an accepted state's outbox has the changes
   abbrev Tells : Outcome → Type 0
   Tells (Accepted t next answer) = t.outbox ≡ appended_changes s.enrolment t.enrolment s.outbox
-  Tells (Refused answer) = Unit {0}
+  Tells (Refused refusal) = Unit {0}
 
   done-tells : (asked : Outcome) → Tells asked → (done s session asked).state.outbox ≡ appended_changes s.enrolment (done s session asked).state.enrolment s.outbox
   done-tells (Accepted t next answer) tells = either_step (λ to. to.state.outbox ≡ appended_changes s.enrolment to.state.enrolment s.outbox) (nat_lt max_size (length (encoding t))) _ _ stays tells
-  done-tells (Refused answer) tells = stays
+  done-tells (Refused refusal) tells = stays
 
   preferring-tells : (name : List ℕ) (value : Option Tree) → Tells (preferring s session name value)
   preferring-tells name value = preferring_either Tells s session name value tt (λ free. stays) (λ holder held fits. refl)
@@ -45,7 +46,7 @@ module _ (at : Setting) (s : ClientState) (session : Session) where
     without = record s { outbox = confirmed number s.outbox }
 
     drops_at : (large : Bool)
-        → let to : Step = if large then record { state = s; session = session; answer = StateTooLarge (length (encoding without)) } else record { state = without; session = session; answer = Okay } in
+        → let to : Step = if large then unchanged s session (StateTooLarge (length (encoding without))) else record { state = without; session = session; answer = Okay } in
         to.state.outbox ≡ confirmed_after (Confirm number) (is_okay to.answer) (appended_changes s.enrolment to.state.enrolment s.outbox)
     drops_at true = stays
     drops_at false = ap (confirmed number) stays
@@ -69,9 +70,9 @@ module _ (at : Setting) (s : ClientState) (session : Session) where
   follows (Confirm number) = drops number (nat_le s.outbox.next number)
   follows (SetPreference name value) = done-tells (preferring s session name (Some value)) (preferring-tells name (Some value))
   follows (ClearPreference name) = done-tells (preferring s session name None) (preferring-tells name None)
-  follows (Reset id) = let asked = resetting s.enrolment session id in done-tells (whole s session [] asked) (enrolled_either at s session Tells (λ answer. tt) [] asked (λ e next answer. refl))
-  follows (Event name count) = done-tells (counting at.now s session name count) (counting_either at s session Tells (λ answer. tt) name count (λ room. stays))
-  follows command = done-tells (outcome at s session command) (plain_either at s session Tells (λ answer. tt) (λ next answer. stays) (λ e next answer. refl) command tt)
+  follows (Reset id) = let asked = resetting s.enrolment session id in done-tells (whole s session [] asked) (enrolled_either at s session Tells (λ refusal. tt) [] asked (λ e next answer. refl))
+  follows (Event name count) = done-tells (counting at.now s session name count) (counting_either at s session Tells (λ refusal. tt) name count (λ room. stays))
+  follows command = done-tells (outcome at s session command) (plain_either at s session Tells (λ refusal. tt) (λ next answer. stays) (λ e next answer. refl) command tt)
 
 pub outbox_follows : OutboxFollows
 outbox_follows = record { outbox = λ at s session command. follows at s session command; known = λ at s session number is_done. known at s session number is_done }

@@ -16,7 +16,9 @@ use Rattle.fml_value.specs.Typed.{TypedValue}
 use Rattle.feature_serving.specs.Serving.{served}
 use Rattle.client_state.specs.declared.client_state.ClientState.{ClientState}
 use Rattle.client_words.specs.declared.answer.Answer.{Answer}
-use Rattle.client_words.specs.declared.answer.Answer.TheVariants.{Okay, ChangesSpent, EventLimit, NoSuchChange}
+use Rattle.client_words.specs.declared.answer.Answer.TheVariants.{Okay}
+use Rattle.client_words.specs.declared.refusal.Refusal.{Refusal}
+use Rattle.client_words.specs.declared.refusal.Refusal.TheVariants.{ChangesSpent, EventLimit, NoSuchChange}
 use Rattle.client_words.specs.declared.command.Command.{Command}
 use Rattle.client_words.specs.declared.command.Command.TheVariants.{Fetch, Apply, Participate, OptOut, OptIn, Show, Feature, Bind, WriteManifest}
 use Rattle.client_words.specs.declared.command.Command.TheVariants as commands
@@ -52,11 +54,11 @@ LeavesCounts (OptOut slug) = ⊤
 LeavesCounts (OptIn slug branch) = ⊤
 LeavesCounts command = LeavesState command
 
-module _ (at : Setting) (s : ClientState) (session : Session) (P : Outcome → Type 0) (refused : (answer : Answer) → P (Refused answer)) where
+module _ (at : Setting) (s : ClientState) (session : Session) (P : Outcome → Type 0) (refused : (refusal : Refusal) → P (Refused refusal)) where
   -- ---- the state stays
 
   module _ (stays : (next : Session) (answer : Answer) → P (Accepted s next answer)) where
-    of_manifest : (read : Result Manifest Answer) → P (setting_manifest s session read)
+    of_manifest : (read : Result Manifest Refusal) → P (setting_manifest s session read)
     of_manifest (Ok manifest) = stays _ _
     of_manifest (Err refusal) = refused refusal
 
@@ -64,7 +66,7 @@ module _ (at : Setting) (s : ClientState) (session : Session) (P : Outcome → T
     of_context (Ok context) = stays _ _
     of_context (Err key) = refused _
 
-    of_context_file : (read : Result Json Answer) → P (reading_context s session read)
+    of_context_file : (read : Result Json Refusal) → P (reading_context s session read)
     of_context_file (Ok tree) = of_context (context_of tree)
     of_context_file (Err refusal) = refused refusal
 
@@ -72,7 +74,7 @@ module _ (at : Setting) (s : ClientState) (session : Session) (P : Outcome → T
     of_bindings (Ok bindings) = stays _ _
     of_bindings (Err feature) = refused _
 
-    of_bindings_file : (read : Result Json Answer) → P (reading_bindings s session read)
+    of_bindings_file : (read : Result Json Refusal) → P (reading_bindings s session read)
     of_bindings_file (Ok tree) = of_bindings (bindings_of tree)
     of_bindings_file (Err refusal) = refused refusal
 
@@ -103,7 +105,7 @@ module _ (at : Setting) (s : ClientState) (session : Session) (P : Outcome → T
 
   pub enrolled_either : (counts : List NameCounts) (asked : EnrolmentOutcome) → ((e : State) (next : Session) (answer : Answer) → P (Accepted (with_enrolment session s e counts) next answer)) → P (whole s session counts asked)
   enrolled_either counts (Accepted e next answer) enrolled = whole_either P s session counts e next answer (refused ChangesSpent) (λ fits. enrolled e next answer)
-  enrolled_either counts (Refused answer) enrolled = refused answer
+  enrolled_either counts (Refused refusal) enrolled = refused refusal
 
   module _ (stays : (next : Session) (answer : Answer) → P (Accepted s next answer)) (enrolled : (e : State) (next : Session) (answer : Answer) → P (Accepted (with_enrolment session s e s.events) next answer)) where
     pub plain_either : (command : Command) → LeavesCounts command → P (outcome at s session command)

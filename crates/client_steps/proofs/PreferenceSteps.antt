@@ -15,14 +15,15 @@ use Rattle.client_state.specs.Sound.{max_size, HaveEnrolledHolders}
 use Rattle.client_state.specs.Encoding.{encoding}
 use Rattle.client_state.specs.declared.client_state.ClientState.{ClientState}
 use Rattle.client_state.proofs.HoldersAfter.{holders_after, holders_set}
-use Rattle.client_words.specs.declared.answer.Answer.TheVariants.{Okay, StateTooLarge}
+use Rattle.client_words.specs.declared.answer.Answer.TheVariants.{Okay}
+use Rattle.client_words.specs.declared.refusal.Refusal.TheVariants.{StateTooLarge}
 use Rattle.client_words.specs.declared.command.Command.{Command}
 use Rattle.client_words.specs.declared.command.Command.TheVariants.{Reset, Event, Confirm, SetPreference, ClearPreference}
 use Rattle.client_steps.specs.declared.session.Session.{Session}
 use Rattle.client_steps.specs.EventSteps.{is_okay}
 use Rattle.client_steps.specs.PreferenceSteps.{set_after, HasHolders, PreferencesFollow}
 use Rattle.client_steps.specs.Settings.{Setting}
-use Rattle.client_steps.specs.Steps.{Outcome, Accepted, Refused, Step, preferences_with, whole, counting, confirming, resetting, preferring, outcome, done, step}
+use Rattle.client_steps.specs.Steps.{Outcome, Accepted, Refused, Step, preferences_with, whole, counting, confirming, resetting, preferring, outcome, done, step, unchanged}
 use Rattle.client_steps.proofs.FollowedPreferences.{done_map, ended_free, names_follow, names_of_user, preferences_same}
 use Rattle.client_steps.proofs.Outcomes.{either_step, plain_either, enrolled_either, counting_either, confirming_either}
 use Rattle.client_steps.proofs.Stepping.{preferring_either, without_holder}
@@ -39,11 +40,11 @@ module _ (at : Setting) (s : ClientState) (session : Session) where
   -- an accepted state's preferences have followed
   abbrev Follows : Outcome → Type 0
   Follows (Accepted t next answer) = t.preferences ≡ followed t.enrolment
-  Follows (Refused answer) = Unit {0}
+  Follows (Refused refusal) = Unit {0}
 
   done-follows : (asked : Outcome) → Follows asked → (done s session asked).state.preferences ≡ followed (done s session asked).state.enrolment
   done-follows (Accepted t next answer) follows = either_step (λ to. to.state.preferences ≡ followed to.state.enrolment) (nat_lt max_size (length (encoding t))) _ _ stays follows
-  done-follows (Refused answer) follows = stays
+  done-follows (Refused refusal) follows = stays
 
   -- ---- the user's value
 
@@ -53,7 +54,7 @@ module _ (at : Setting) (s : ClientState) (session : Session) where
     IsSet to = to.state.preferences ≡ set_after command (is_okay to.answer) (followed to.state.enrolment)
 
     set_at : (t : ClientState) → t.preferences ≡ followed t.enrolment → (large : Bool)
-        → IsSet (if large then record { state = s; session = session; answer = StateTooLarge (length (encoding (with_users_value name value t))) } else record { state = with_users_value name value t; session = session; answer = Okay })
+        → IsSet (if large then unchanged s session (StateTooLarge (length (encoding (with_users_value name value t)))) else record { state = with_users_value name value t; session = session; answer = Okay })
     set_at t follows true = stays ∙ sym (leaves (followed s.enrolment))
     set_at t follows false = ap (set_by_user name value) follows ∙ sym (sets (followed t.enrolment))
 
@@ -68,7 +69,7 @@ module _ (at : Setting) (s : ClientState) (session : Session) where
     IsMapped to = user_map to.state.preferences ≡ set_after command (is_okay to.answer) (user_map s.preferences)
 
     mapped_at : (t : ClientState) → user_map t.preferences ≡ user_map s.preferences → Rise (names_of t.preferences) → holder_of name t.preferences ≡ None → (large : Bool)
-        → IsMapped (if large then record { state = s; session = session; answer = StateTooLarge (length (encoding (with_users_value name value t))) } else record { state = with_users_value name value t; session = session; answer = Okay })
+        → IsMapped (if large then unchanged s session (StateTooLarge (length (encoding (with_users_value name value t)))) else record { state = with_users_value name value t; session = session; answer = Okay })
     mapped_at t same rise free true = sym (leaves (user_map s.preferences))
     mapped_at t same rise free false = sets_own name value t.preferences rise free ∙ ap (set_by_user name value) same ∙ sym (sets (user_map s.preferences))
 
@@ -85,10 +86,10 @@ module _ (at : Setting) (s : ClientState) (session : Session) where
   unfolding step
   follows (SetPreference name value) = preferring-sets (SetPreference name value) name (Some value) (λ ps. refl) (λ ps. refl)
   follows (ClearPreference name) = preferring-sets (ClearPreference name) name None (λ ps. refl) (λ ps. refl)
-  follows (Reset id) = let asked = resetting s.enrolment session id in done-follows (whole s session [] asked) (enrolled_either at s session Follows (λ answer. tt) [] asked (λ e next answer. refl))
-  follows (Event name count) = done-follows (counting at.now s session name count) (counting_either at s session Follows (λ answer. tt) name count (λ room. stays))
-  follows (Confirm number) = done-follows (confirming s session number) (confirming_either at s session Follows (λ answer. tt) number (λ known. stays))
-  follows command = done-follows (outcome at s session command) (plain_either at s session Follows (λ answer. tt) (λ next answer. stays) (λ e next answer. refl) command tt)
+  follows (Reset id) = let asked = resetting s.enrolment session id in done-follows (whole s session [] asked) (enrolled_either at s session Follows (λ refusal. tt) [] asked (λ e next answer. refl))
+  follows (Event name count) = done-follows (counting at.now s session name count) (counting_either at s session Follows (λ refusal. tt) name count (λ room. stays))
+  follows (Confirm number) = done-follows (confirming s session number) (confirming_either at s session Follows (λ refusal. tt) number (λ known. stays))
+  follows command = done-follows (outcome at s session command) (plain_either at s session Follows (λ refusal. tt) (λ next answer. stays) (λ e next answer. refl) command tt)
 
   -- a command that isn't the user's
   kept : (command : Command) → ((is_done : Bool) (ps : List Preference) → set_after command is_done ps ≡ ps)

@@ -1,58 +1,43 @@
 -- A step is answered a value only where a feature is asked for, and that is the served one.
 use Rattle.std.proofs.Common.{◌≡◌, ℕ, Bool, true, false, List, [], length, Option, Some, None, Result, Ok, Err, refl, sym, ap, ◌∙◌, subst}
-use Rattle.std.specs.Prelude.{nat_lt, nat_le, if◌then◌else◌}
-use Rattle.json_tree.specs.Bytes.{tree_of, max_depth}
-use Rattle.json_tree.specs.Json.{Json, depth}
+use Rattle.std.specs.Prelude.{nat_lt, if◌then◌else◌}
+use Rattle.json_tree.specs.Json.{Json}
 use Rattle.json_tree.specs.Tree.{json_of}
 use Rattle.json_tree.specs.declared.tree.Tree.{Tree}
 use Rattle.json_tree.specs.declared.tree.Tree.TheVariants.{Null}
 use Rattle.fml_types.specs.declared.manifest.Manifest.{Manifest}
 use Rattle.fml_value.specs.Trees as values
 use Rattle.fml_value.specs.Typed.{TypedValue}
-use Rattle.fml_link.specs.Linking.{linked}
-use Rattle.fml_link.specs.declared.fault.LinkRefusal.{LinkRefusal}
-use Rattle.fml_link.specs.declared.fault.LinkRefusal.TheVariants as link
-use Rattle.fml_merge.specs.Faults.{bad_default}
 use Rattle.feature_serving.specs.Serving.{served, HasFeatureType}
 use Rattle.feature_serving.proofs.Types.{served_typed}
-use Rattle.recipe_reader.specs.Kinds.{kind_of}
-use Rattle.recipe_reader.specs.Payloads.{payload_of, recipe_with}
-use Rattle.recipe_reader.specs.declared.payload.Payload.{Payload}
-use Rattle.recipe_reader.specs.declared.payload.PayloadFault.{PayloadFault}
-use Rattle.recipe_reader.specs.declared.payload.PayloadFault.TheVariants as payload
-use Rattle.recipe_reader.specs.declared.recipe.Recipe.{Recipe}
 use Rattle.app_context.specs.Contexts.{context_of}
 use Rattle.app_context.specs.declared.context.Context.{Context}
 use Rattle.app_context.specs.declared.key.ContextKey.{ContextKey}
-use Rattle.change_outbox.specs.Contents.{confirmed}
 use Rattle.pref_bindings.specs.Bindings.{bindings_of}
 use Rattle.pref_bindings.specs.declared.bindings.Binding.{Binding}
-use Rattle.enrol_states.specs.Choices.{has_no_room}
-use Rattle.event_counts.specs.Kept.{counted_in}
 use Rattle.event_counts.specs.declared.name_counts.NameCounts.{NameCounts}
 use Rattle.client_state.specs.declared.client_state.ClientState.{ClientState}
-use Rattle.enrol_states.specs.Commands.{after_opt_out}
-use Rattle.enrol_states.specs.Participation.{takes_part}
-use Rattle.enrol_states.specs.Recipes.{has_branch}
 use Rattle.client_state.specs.Sound.{max_size}
 use Rattle.client_state.specs.Encoding.{encoding}
 use Rattle.client_words.specs.declared.answer.Answer.{Answer}
-use Rattle.client_words.specs.declared.answer.Answer.TheVariants.{Okay, Value, FileTooLarge, NotJson, OptedOutLimit, EventLimit, NoSuchChange, NotParticipating, NoSuchBranch, StateTooLarge}
+use Rattle.client_words.specs.declared.answer.Answer.TheVariants.{Value}
+use Rattle.client_words.specs.declared.refusal.Refusal.{Refusal}
+use Rattle.client_words.specs.declared.refusal.Refusal.TheVariants.{StateTooLarge}
 use Rattle.client_words.specs.declared.command.Command.{Command}
 use Rattle.client_words.specs.declared.command.Command.TheVariants.{Fetch, Apply, Participate, OptOut, OptIn, Reset, Show, Feature, Event, Confirm, Bind, SetPreference, ClearPreference, WriteManifest}
 use Rattle.client_words.specs.declared.command.Command.TheVariants as commands
 use Rattle.client_steps.specs.declared.session.Session.{Session}
-use Rattle.client_steps.specs.Choosing.{first_taker}
-use Rattle.client_steps.specs.Fetching.{max_file, shallow_tree, file_tree}
-use Rattle.client_steps.specs.Manifests.{IsLinked, link_refusal, where_fits, checked, manifest_of}
+use Rattle.client_steps.specs.Fetching.{file_tree}
+use Rattle.client_steps.specs.Manifests.{IsLinked, manifest_of}
 use Rattle.client_steps.specs.ServedValues.{IsServed, ValuesAreServed, IsTyped, ValuesHaveTypes}
 use Rattle.client_steps.specs.Settings.{Setting}
 use Rattle.client_steps.specs.Soundness.{IsGiven, IsLawfulManifest}
-use Rattle.client_steps.specs.Steps.{OutcomeOver, EnrolmentOutcome, Outcome, Accepted, Refused, Step, whole, seeing, has_no_room_for, counting, listing_changes, confirming, preferring, listing_preferences, participation, opting_out, taking, offering, choosing, opting_in, resetting, showing, fetched, fetching, context_read, reading_context, bindings_read, reading_bindings, setting_manifest, applying, valued, serving, writing_manifest, done, step}
+use Rattle.client_steps.specs.Steps.{OutcomeOver, EnrolmentOutcome, Outcome, Accepted, Refused, Step, whole, seeing, counting, listing_changes, confirming, preferring, listing_preferences, participation, opting_out, opting_in, resetting, showing, fetching, context_read, reading_context, bindings_read, reading_bindings, setting_manifest, applying, valued, serving, writing_manifest, done, step, unchanged}
 use Rattle.json_tree.specs.Inverse.{tree_from}
 use Rattle.client_steps.proofs.LinkedManifests.{manifest_linked}
 use Rattle.client_steps.proofs.SoundValues.{records_sound}
-use Rattle.client_steps.proofs.Outcomes.{either_step}
+use Rattle.client_steps.proofs.EnrolmentOutcomes.{fetching_either, applying_either, opting_out_either, opting_in_either}
+use Rattle.client_steps.proofs.Outcomes.{either_step, counting_either, confirming_either}
 use Rattle.client_steps.proofs.Stepping.{whole_either, preferring_either}
 use Rattle.json_tree.proofs.Trees.{same_values}
 use Rattle.client_steps.proofs.Trees.{tree_of_value}
@@ -65,138 +50,47 @@ abbrev tree_in : Answer → Tree
 tree_in (Value tree) = tree
 tree_in answer = Null
 
--- a file or a manifest is refused by no value
-abbrev RefusesPlainly : {A : Type 0} → Result A Answer → Type 0
-RefusesPlainly (Ok x) = Unit {0}
-RefusesPlainly (Err refusal) = is_value refusal ≡ false
-
-shallow-plain : (name : List ℕ) (tree : Option Json) → RefusesPlainly (shallow_tree name tree)
-shallow-plain name None = refl
-shallow-plain name (Some tree) = elim (nat_le (depth tree) max_depth) as (λ b. RefusesPlainly (if b then Ok tree else Err (NotJson name))) [
-  | true ↦ tt
-  | false ↦ refl
-]
-
-file-plain : (name : List ℕ) (file : Option (List ℕ)) → RefusesPlainly (file_tree name file)
-unfolding file_tree
-file-plain name None = refl
-file-plain name (Some bytes) = elim (nat_lt max_file (length bytes)) as (λ b. RefusesPlainly (if b then Err (FileTooLarge name (length bytes)) else shallow_tree name (tree_of bytes))) [
-  | true ↦ refl
-  | false ↦ shallow-plain name (tree_of bytes)
-]
-
-link-plain : (fault : LinkRefusal) → is_value (link_refusal fault) ≡ false
-link-plain (link.AbsentFile name) = refl
-link-plain (link.FileTooLarge name bytes) = refl
-link-plain (link.NotJson name) = refl
-link-plain (link.BadShape name path) = refl
-link-plain link.TooManyFiles = refl
-link-plain (link.ImportClash name) = refl
-link-plain (link.DuplicateName name) = refl
-link-plain (link.UnknownType name) = refl
-link-plain (link.EndlessObject name) = refl
-link-plain (link.ObjectTooLarge name) = refl
-link-plain link.UnknownChannel = refl
-link-plain (link.UnknownImport name) = refl
-link-plain (link.UnknownOverride name) = refl
-
-fits-plain : (m : Manifest) (bad : Option (List ℕ × List ℕ)) → RefusesPlainly (where_fits m bad)
-fits-plain m None = tt
-fits-plain m (Some bad) = refl
-
-checked-plain : (found : Result Manifest LinkRefusal) → RefusesPlainly (checked found)
-checked-plain (Ok m) = fits-plain m (bad_default m)
-checked-plain (Err fault) = link-plain fault
-
-manifest-plain : (files : List ℕ → Option (List ℕ)) (name channel : List ℕ) → RefusesPlainly (manifest_of files name channel)
-unfolding manifest_of
-manifest-plain files name channel = checked-plain (linked files name channel)
-
 -- ---- the commands that are answered no value
 
 module _ (at : Setting) (s : ClientState) (session : Session) where
   abbrev NoValue : {S : Type 0} → OutcomeOver S → Type 0
   NoValue (Accepted t next answer) = is_value answer ≡ false
-  NoValue (Refused answer) = is_value answer ≡ false
+  NoValue (Refused refusal) = Unit {0}
 
   whole-none : (counts : List NameCounts) (asked : EnrolmentOutcome) → NoValue asked → NoValue (whole s session counts asked)
-  whole-none counts (Accepted e next answer) none = whole_either (λ (asked : Outcome). NoValue asked) s session counts e next answer refl (λ fits. none)
-  whole-none counts (Refused answer) none = none
+  whole-none counts (Accepted e next answer) none = whole_either (λ (asked : Outcome). NoValue asked) s session counts e next answer tt (λ fits. none)
+  whole-none counts (Refused refusal) none = tt
 
   done-none : (asked : Outcome) → NoValue asked → is_value (done s session asked).answer ≡ false
   done-none (Accepted t next answer) none = either_step (λ to. is_value to.answer ≡ false) (nat_lt max_size (length (encoding t))) _ _ refl none
-  done-none (Refused answer) none = none
+  done-none (Refused refusal) none = refl
 
-  manifest-none : (read : Result Manifest Answer) → RefusesPlainly read → NoValue (setting_manifest s session read)
-  manifest-none (Ok manifest) plain = refl
-  manifest-none (Err refusal) plain = plain
+  manifest-none : (read : Result Manifest Refusal) → NoValue (setting_manifest s session read)
+  manifest-none (Ok manifest) = refl
+  manifest-none (Err refusal) = tt
 
   context-none : (read : Result Context ContextKey) → NoValue (context_read s session read)
   context-none (Ok context) = refl
-  context-none (Err key) = refl
+  context-none (Err key) = tt
 
-  file-none : (read : Result Json Answer) → RefusesPlainly read → NoValue (reading_context s session read)
-  file-none (Ok tree) plain = context-none (context_of tree)
-  file-none (Err refusal) plain = plain
+  file-none : (read : Result Json Refusal) → NoValue (reading_context s session read)
+  file-none (Ok tree) = context-none (context_of tree)
+  file-none (Err refusal) = tt
 
   bindings-none : (read : Result (List Binding) (List ℕ)) → NoValue (bindings_read s session read)
   bindings-none (Ok bindings) = refl
-  bindings-none (Err feature) = refl
+  bindings-none (Err feature) = tt
 
-  bind-none : (read : Result Json Answer) → RefusesPlainly read → NoValue (reading_bindings s session read)
-  bind-none (Ok tree) plain = bindings-none (bindings_of tree)
-  bind-none (Err refusal) plain = plain
+  bind-none : (read : Result Json Refusal) → NoValue (reading_bindings s session read)
+  bind-none (Ok tree) = bindings-none (bindings_of tree)
+  bind-none (Err refusal) = tt
 
   preferring-none : (name : List ℕ) (value : Option Tree) → NoValue (preferring s session name value)
-  preferring-none name value = preferring_either (λ (asked : Outcome). NoValue asked) s session name value refl (λ free. refl) (λ holder held fits. refl)
-
-  payload-none : (read : Result Payload PayloadFault) → NoValue (fetched s.enrolment session read)
-  payload-none (Ok found) = refl
-  payload-none (Err payload.NoData) = refl
-  payload-none (Err (payload.TooManyRecipes count)) = refl
-  payload-none (Err payload.OutOfMemory) = refl
-
-  fetch-none : (read : Result Json Answer) → RefusesPlainly read → NoValue (fetching s.enrolment session read)
-  fetch-none (Ok tree) plain = payload-none (payload_of tree)
-  fetch-none (Err refusal) plain = plain
-
-  apply-none : (manifest : Option Manifest) (context : Option Context) → NoValue (applying at.now s.enrolment session manifest context)
-  apply-none None context = refl
-  apply-none (Some manifest) None = refl
-  apply-none (Some manifest) (Some context) = refl
+  preferring-none name value = preferring_either (λ (asked : Outcome). NoValue asked) s session name value tt (λ free. refl) (λ holder held fits. refl)
 
   written-none : (manifest : Option Manifest) → NoValue (writing_manifest s session manifest)
-  written-none None = refl
+  written-none None = tt
   written-none (Some manifest) = refl
-
-  out-none : (slug : List ℕ) (full : Bool) → NoValue (if full then Refused OptedOutLimit else Accepted (after_opt_out s.enrolment slug) session Okay)
-  out-none slug true = refl
-  out-none slug false = refl
-
-  module _ (slug branch : List ℕ) where
-    taking-none : (taker : Option (List ℕ × List ℕ)) → NoValue (taking s.enrolment session slug branch taker)
-    taking-none None = refl
-    taking-none (Some taker) = refl
-
-    branch-none : (r : Recipe) (has : Bool) → NoValue (if has then taking s.enrolment session slug branch (first_taker s.enrolment r s.enrolment.rows) else Refused NoSuchBranch)
-    branch-none r true = taking-none (first_taker s.enrolment r s.enrolment.rows)
-    branch-none r false = refl
-
-    part-none : (r : Recipe) (on : Bool) → NoValue (if on then offering s.enrolment session slug branch r else Refused NotParticipating)
-    part-none r true = branch-none r (has_branch r branch)
-    part-none r false = refl
-
-    choosing-none : (found : Option Recipe) → NoValue (choosing s.enrolment session slug branch found)
-    choosing-none None = refl
-    choosing-none (Some r) = part-none r (takes_part s.enrolment (kind_of r))
-
-  count-none : (name : List ℕ) (count : ℕ) (full : Bool) → NoValue (if full then Refused EventLimit else Accepted (record s { events = counted_in name count at.now s.events }) session Okay)
-  count-none name count true = refl
-  count-none name count false = refl
-
-  confirm-none : (number : ℕ) (unknown : Bool) → NoValue (if unknown then Refused (NoSuchChange s.outbox.next) else Accepted (record s { outbox = confirmed number s.outbox }) session Okay)
-  confirm-none number true = refl
-  confirm-none number false = refl
 
   never : (asked : Outcome) (tree : Tree) → NoValue asked → (done s session asked).answer ≡ Value tree → ⊥
   never asked tree none is = absurd (let clash = ap is_value is in let plain = done-none asked none in cc)
@@ -216,7 +110,7 @@ module _ (at : Setting) (s : ClientState) (session : Session) where
         (name, refl, record { manifest = manifest; set = set; value = value; serves = serves; encoded = ap json_of (sym is) ∙ same_values (values.tree_of value) })
 
     valued_at : (manifest : Manifest) → session.manifest ≡ Some manifest → (value : TypedValue) → served manifest s.enrolment name ≡ Some value → (large : Bool)
-        → let to : Step = if large then record { state = s; session = session; answer = StateTooLarge (length (encoding s)) } else record { state = s; session = session; answer = Value (tree_from (values.tree_of value)) } in
+        → let to : Step = if large then unchanged s session (StateTooLarge (length (encoding s))) else record { state = s; session = session; answer = Value (tree_from (values.tree_of value)) } in
         to.answer ≡ Value tree → Asked (Feature name)
     valued_at manifest set value serves true is = absurd (let clash = ap is_value is in cc)
     valued_at manifest set value serves false is = served_as manifest set value serves (ap tree_in is)
@@ -232,22 +126,22 @@ module _ (at : Setting) (s : ClientState) (session : Session) where
   values_at : (command : Command) (tree : Tree) → (step at s session command).answer ≡ Value tree → (name : List ℕ) × (command ≡ Feature name) × IsServed s session name tree
   unfolding step
   values_at (commands.Manifest file channel) tree is =
-      absurd (never (setting_manifest s session (manifest_of at.files file channel)) tree (manifest-none (manifest_of at.files file channel) (manifest-plain at.files file channel)) is)
+      absurd (never (setting_manifest s session (manifest_of at.files file channel)) tree (manifest-none (manifest_of at.files file channel)) is)
   values_at (commands.Context file) tree is =
-      absurd (never (reading_context s session (file_tree file (at.files file))) tree (file-none (file_tree file (at.files file)) (file-plain file (at.files file))) is)
-  values_at (Fetch file) tree is = absurd (never_whole s.events (fetching s.enrolment session (file_tree file (at.files file))) tree (fetch-none (file_tree file (at.files file)) (file-plain file (at.files file))) is)
+      absurd (never (reading_context s session (file_tree file (at.files file))) tree (file-none (file_tree file (at.files file))) is)
+  values_at (Fetch file) tree is = absurd (never_whole s.events (fetching s.enrolment session (file_tree file (at.files file))) tree (fetching_either s.enrolment session (λ (asked : EnrolmentOutcome). NoValue asked) (λ refusal. tt) (file_tree file (at.files file)) (λ tree found is loads. refl)) is)
   values_at Apply tree is =
-      absurd (never_whole s.events (applying at.now s.enrolment session session.manifest (seeing at.now s.events session.context)) tree (apply-none session.manifest (seeing at.now s.events session.context)) is)
+      absurd (never_whole s.events (applying at.now s.enrolment session session.manifest (seeing at.now s.events session.context)) tree (applying_either s.enrolment session (λ (asked : EnrolmentOutcome). NoValue asked) (λ refusal. tt) at.now session.manifest (seeing at.now s.events session.context) (λ m c. refl)) is)
   values_at (Participate kinds on) tree is = absurd (never_whole s.events (participation s.enrolment session kinds on) tree refl is)
-  values_at (OptOut slug) tree is = absurd (never_whole s.events (opting_out s.enrolment session slug) tree (out-none slug (has_no_room s.enrolment.opted_out slug)) is)
-  values_at (OptIn slug branch) tree is = absurd (never_whole s.events (opting_in s.enrolment session slug branch) tree (choosing-none slug branch (recipe_with slug s.enrolment.live)) is)
+  values_at (OptOut slug) tree is = absurd (never_whole s.events (opting_out s.enrolment session slug) tree (opting_out_either s.enrolment session (λ (asked : EnrolmentOutcome). NoValue asked) (λ refusal. tt) slug refl) is)
+  values_at (OptIn slug branch) tree is = absurd (never_whole s.events (opting_in s.enrolment session slug branch) tree (opting_in_either s.enrolment session (λ (asked : EnrolmentOutcome). NoValue asked) (λ refusal. tt) slug branch refl) is)
   values_at (Reset id) tree is = absurd (never_whole [] (resetting s.enrolment session id) tree refl is)
   values_at Show tree is = absurd (never (showing s session) tree refl is)
   values_at (Feature name) tree is = set_at name tree session.manifest refl is
-  values_at (Event name count) tree is = absurd (never (counting at.now s session name count) tree (count-none name count (has_no_room_for name s.events)) is)
+  values_at (Event name count) tree is = absurd (never (counting at.now s session name count) tree (counting_either at s session (λ (asked : Outcome). NoValue asked) (λ refusal. tt) name count (λ room. refl)) is)
   values_at commands.Changes tree is = absurd (never (listing_changes s session) tree refl is)
-  values_at (Confirm number) tree is = absurd (never (confirming s session number) tree (confirm-none number (nat_le s.outbox.next number)) is)
-  values_at (Bind file) tree is = absurd (never (reading_bindings s session (file_tree file (at.files file))) tree (bind-none (file_tree file (at.files file)) (file-plain file (at.files file))) is)
+  values_at (Confirm number) tree is = absurd (never (confirming s session number) tree (confirming_either at s session (λ (asked : Outcome). NoValue asked) (λ refusal. tt) number (λ known. refl)) is)
+  values_at (Bind file) tree is = absurd (never (reading_bindings s session (file_tree file (at.files file))) tree (bind-none (file_tree file (at.files file))) is)
   values_at (SetPreference name value) tree is = absurd (never (preferring s session name (Some value)) tree (preferring-none name (Some value)) is)
   values_at (ClearPreference name) tree is = absurd (never (preferring s session name None) tree (preferring-none name None) is)
   values_at commands.Preferences tree is = absurd (never (listing_preferences s session) tree refl is)

@@ -35,7 +35,9 @@ use Rattle.client_state.proofs.HoldersAfter.{holders_after, holders_set}
 use Rattle.fml_types.specs.Coenrolling.{coenrolling}
 use Rattle.fml_types.specs.declared.manifest.Manifest.{Manifest}
 use Rattle.client_words.specs.declared.answer.Answer.{Answer}
-use Rattle.client_words.specs.declared.answer.Answer.TheVariants.{Okay, OptedOutLimit, NotParticipating, NoSuchBranch, StateTooLarge}
+use Rattle.client_words.specs.declared.answer.Answer.TheVariants.{Okay}
+use Rattle.client_words.specs.declared.refusal.Refusal.{Refusal}
+use Rattle.client_words.specs.declared.refusal.Refusal.TheVariants.{OptedOutLimit, NotParticipating, NoSuchBranch, StateTooLarge}
 use Rattle.client_words.specs.declared.command.Command.{Command}
 use Rattle.client_words.specs.declared.command.Command.TheVariants.{Fetch, Apply, Participate, OptOut, OptIn, Reset, Event, Confirm, SetPreference, ClearPreference}
 use Rattle.client_steps.specs.declared.session.Session.{Session}
@@ -46,7 +48,7 @@ use Rattle.client_steps.specs.PreferenceSteps.{set_after}
 use Rattle.client_steps.specs.Settings.{Setting}
 use Rattle.client_steps.specs.Soundness.{HasVersion, HasLinked, IsSession, IsLawful, Line, IsLine, all_after, HasConsistentParts, StepsStaySound}
 use Rattle.client_words.specs.Commands.{IsCommand}
-use Rattle.client_steps.specs.Steps.{EnrolmentOutcome, Outcome, Accepted, Refused, Step, preferences_with, whole, enrolling, seeing, counting, confirming, preferring, participation, opting_out, taking, offering, choosing, opting_in, resetting, fetching, applying, outcome, done, step}
+use Rattle.client_steps.specs.Steps.{EnrolmentOutcome, Outcome, Accepted, Refused, Step, preferences_with, whole, enrolling, seeing, counting, confirming, preferring, participation, opting_out, taking, offering, choosing, opting_in, resetting, fetching, applying, outcome, done, step, unchanged}
 use Rattle.client_steps.proofs.Coenrolling.{coenrolling_names, coenrolling_rise}
 use Rattle.client_steps.proofs.CountedEvents.{counted_sound}
 use Rattle.client_steps.proofs.JoinValues.{join_sets}
@@ -67,24 +69,24 @@ module _ (at : Setting) (s : ClientState) (session : Session) (c : HasConsistent
   -- an accepted state has consistent parts
   abbrev Keeps : Outcome → Type 0
   Keeps (Accepted t next answer) = HasConsistentParts t
-  Keeps (Refused answer) = Unit {0}
+  Keeps (Refused refusal) = Unit {0}
 
   -- and so is an accepted enrolment
   abbrev KeepsEnrolment : EnrolmentOutcome → Type 0
   KeepsEnrolment (Accepted e next answer) = states.IsConsistent e
-  KeepsEnrolment (Refused answer) = Unit {0}
+  KeepsEnrolment (Refused refusal) = Unit {0}
 
   whole-keeps : (ns : List NameCounts) → counts.IsSound ns → (asked : EnrolmentOutcome) → KeepsEnrolment asked → Keeps (whole s session ns asked)
   whole-keeps ns sound (Accepted e next answer) keeps =
       whole_either Keeps s session ns e next answer tt (λ fits. record { enrolment = keeps; events = sound; outbox = appended_is_sound s.enrolment e s.outbox c.enrolment keeps c.outbox fits })
-  whole-keeps ns sound (Refused answer) keeps = tt
+  whole-keeps ns sound (Refused refusal) keeps = tt
 
   done-keeps : (asked : Outcome) → Keeps asked → HasConsistentParts (done s session asked).state
   done-keeps (Accepted t next answer) keeps = either_step (λ to. HasConsistentParts to.state) (nat_lt max_size (length (encoding t))) _ _ c keeps
-  done-keeps (Refused answer) keeps = c
+  done-keeps (Refused refusal) keeps = c
 
-  fetch-keeps : (read : Result Json Answer) → KeepsEnrolment (fetching s.enrolment session read)
-  fetch-keeps read = fetching_either s.enrolment session KeepsEnrolment (λ answer. tt) read (λ tree found is loads. pending_consistent s.enrolment found.recipes c.enrolment (payload_kept tree found loads))
+  fetch-keeps : (read : Result Json Refusal) → KeepsEnrolment (fetching s.enrolment session read)
+  fetch-keeps read = fetching_either s.enrolment session KeepsEnrolment (λ refusal. tt) read (λ tree found is loads. pending_consistent s.enrolment found.recipes c.enrolment (payload_kept tree found loads))
 
   apply-keeps : at.now ≤ last_moment → (manifest : Option Manifest) → HasLinked manifest → (context : Option Context) → HasVersion context → KeepsEnrolment (applying at.now s.enrolment session manifest context)
   apply-keeps moment None linked context text = tt
@@ -143,11 +145,11 @@ module _ (at : Setting) (s : ClientState) (session : Session) (c : HasConsistent
   parts (ClearPreference name) moment is texts = done-keeps (preferring s session name None) (preferring-keeps name None)
   parts (Event name count) moment is texts =
       done-keeps (counting at.now s session name count)
-      (counting_either at s session Keeps (λ answer. tt) name count (λ room. record { enrolment = c.enrolment; events = counted_sound name count at.now s.events c.events is.name moment room; outbox = c.outbox }))
+      (counting_either at s session Keeps (λ refusal. tt) name count (λ room. record { enrolment = c.enrolment; events = counted_sound name count at.now s.events c.events is.name moment room; outbox = c.outbox }))
   parts (Confirm number) moment is texts =
       done-keeps (confirming s session number)
-      (confirming_either at s session Keeps (λ answer. tt) number (λ known. record { enrolment = c.enrolment; events = c.events; outbox = confirmed_is_sound s.outbox number c.outbox (leb-false s.outbox.next number known) }))
-  parts command moment is texts = done-keeps (outcome at s session command) (leaving_either at s session Keeps (λ answer. tt) (λ next answer. c) command tt)
+      (confirming_either at s session Keeps (λ refusal. tt) number (λ known. record { enrolment = c.enrolment; events = c.events; outbox = confirmed_is_sound s.outbox number c.outbox (leb-false s.outbox.next number known) }))
+  parts command moment is texts = done-keeps (outcome at s session command) (leaving_either at s session Keeps (λ refusal. tt) (λ next answer. c) command tt)
 
 -- ---- the preferences
 
@@ -186,14 +188,14 @@ module _ (at : Setting) (s : ClientState) (session : Session) (c : IsConsistent 
 -- ---- the size
 
 small_at : (s t : ClientState) (session next : Session) (answer : Answer) (large : Bool) → nat_lt max_size (length (encoding t)) ≡ large → length (encoding s) ≤ max_size
-    → let to : Step = if large then record { state = s; session = session; answer = StateTooLarge (length (encoding t)) } else record { state = t; session = next; answer = answer } in
+    → let to : Step = if large then unchanged s session (StateTooLarge (length (encoding t))) else record { state = t; session = next; answer = answer } in
     length (encoding to.state) ≤ max_size
 small_at s t session next answer true e small = small
 small_at s t session next answer false e small = ltb-false max_size (length (encoding t)) e
 
 small : (s : ClientState) (session : Session) (asked : Outcome) → length (encoding s) ≤ max_size → length (encoding (done s session asked).state) ≤ max_size
 small s session (Accepted t next answer) most = small_at s t session next answer (nat_lt max_size (length (encoding t))) refl most
-small s session (Refused answer) most = most
+small s session (Refused refusal) most = most
 
 size : (at : Setting) (s : ClientState) (session : Session) (command : Command) → length (encoding s) ≤ max_size → length (encoding (step at s session command).state) ≤ max_size
 unfolding step

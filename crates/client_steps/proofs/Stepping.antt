@@ -12,7 +12,8 @@ use Rattle.client_state.specs.Changes.{with_users_value}
 use Rattle.client_state.specs.Following.{is_spent}
 use Rattle.client_state.specs.declared.client_state.ClientState.{ClientState}
 use Rattle.client_words.specs.declared.answer.Answer.{Answer}
-use Rattle.client_words.specs.declared.answer.Answer.TheVariants.{ChangesSpent, Okay}
+use Rattle.client_words.specs.declared.answer.Answer.TheVariants.{Okay}
+use Rattle.client_words.specs.declared.refusal.Refusal.TheVariants.{ChangesSpent}
 use Rattle.client_words.specs.declared.command.Command.{Command}
 use Rattle.client_steps.specs.declared.session.Session.{Session}
 use Rattle.client_steps.specs.Settings.{Setting}

@@ -26,7 +26,8 @@ use Rattle.enrol_states.proofs.Lookups.{slug_of}
 use Rattle.enrol_states.proofs.Sets.{and_or, and_none}
 use Rattle.enrol_states.proofs.Takings.{NoneTakenBefore}
 use Rattle.enrol_states.specs.Commands.{after_opt_in}
-use Rattle.client_words.specs.declared.answer.Answer.TheVariants.{Okay, FeatureTaken, NotParticipating, NoSuchBranch}
+use Rattle.client_words.specs.declared.answer.Answer.TheVariants.{Okay}
+use Rattle.client_words.specs.declared.refusal.Refusal.TheVariants.{FeatureTaken, NotParticipating, NoSuchBranch}
 use Rattle.client_steps.specs.declared.session.Session.{Session}
 use Rattle.client_steps.specs.Steps.{Accepted, Refused, taking, offering, choosing, opting_in}
 use Rattle.client_steps.specs.Choosing.{features_in, if_passes, least_of, taker_or, first_taker}

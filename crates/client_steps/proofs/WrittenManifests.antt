@@ -11,12 +11,12 @@ use Rattle.json_tree.specs.Inverse.{tree_from}
 use Rattle.client_state.specs.Sound.{max_size}
 use Rattle.client_state.specs.Encoding.{encoding}
 use Rattle.client_state.specs.declared.client_state.ClientState.{ClientState}
-use Rattle.client_words.specs.declared.answer.Answer.TheVariants.{StateTooLarge}
+use Rattle.client_words.specs.declared.refusal.Refusal.TheVariants.{StateTooLarge}
 use Rattle.client_words.specs.declared.answer.Answer.TheVariants as answers
 use Rattle.client_steps.specs.declared.session.Session.{Session}
 use Rattle.client_steps.specs.Manifests.{IsLinked, where_fits, checked, manifest_of}
 use Rattle.client_steps.specs.Soundness.{IsLawfulManifest}
-use Rattle.client_steps.specs.Steps.{Step, writing_manifest, done, step}
+use Rattle.client_steps.specs.Steps.{Step, writing_manifest, done, step, unchanged}
 use Rattle.client_steps.specs.WrittenManifests.{MakesAgain, IsWritten, ManifestsAreMadeAgain}
 use Rattle.client_steps.proofs.LinkedManifests.{manifest_linked}
 use Rattle.json_tree.proofs.Trees.{same_values}
@@ -31,7 +31,7 @@ written session m tree set linked is = record { manifest = m; set = set; again =
 
 -- a step's answer is a tree's only where its state isn't too large
 answered : (large : Bool) (s : ClientState) (session : Session) (size : ℕ) (t tree : Tree) (to : Step)
-    → (if large then record { state = s; session = session; answer = StateTooLarge size } else record { state = s; session = session; answer = answers.Manifest t }) ≡ to → to.answer ≡ answers.Manifest tree → t ≡ tree
+    → (if large then unchanged s session (StateTooLarge size) else record { state = s; session = session; answer = answers.Manifest t }) ≡ to → to.answer ≡ answers.Manifest tree → t ≡ tree
 answered true s session size t tree to made is = absurd cc
 answered false s session size t tree to made is = cc
 

@@ -5,7 +5,8 @@ use Rattle.client_state.specs.Changes.{IsChangeOf, IsWholeChangeOf, state_after}
 use Rattle.client_state.specs.Following.{followed, spends}
 use Rattle.client_state.specs.declared.state_change.StateChange.{StateChange}
 use Rattle.client_words.specs.declared.answer.Answer.{Answer}
-use Rattle.client_words.specs.declared.answer.Answer.TheVariants.{ChangesSpent, StateTooLarge}
+use Rattle.client_words.specs.declared.answer.Answer.TheVariants as answers
+use Rattle.client_words.specs.declared.refusal.Refusal.TheVariants.{ChangesSpent, StateTooLarge}
 use Rattle.client_steps.specs.declared.asked.Asked.{Asked}
 use Rattle.client_steps.specs.declared.asked.Asked.TheVariants as asked
 use Rattle.client_steps.specs.declared.session.Session.{Session}
@@ -26,7 +27,7 @@ abbrev pub answer_for : Asked → Answer
 answer_for (asked.NewState change answer) = answer
 answer_for (asked.Followed change answer) = answer
 answer_for (asked.SameState change answer) = answer
-answer_for (asked.Refused refusal) = refusal
+answer_for (asked.Refused refusal) = answers.Refused refusal
 
 -- what is to change may be changed in this state. Preferences change by what follows alone
 abbrev pub FollowsFrom : ClientState → Asked → Type 0
@@ -36,4 +37,4 @@ FollowsFrom s asked = Unit {0}
 
 -- the answer, or that numbers are spent, or that the new state is too large
 abbrev pub IsAnswerOrRefused : Answer → Answer → Type 0
-IsAnswerOrRefused asked given = (given ≡ asked) ⊎ ((given ≡ ChangesSpent) ⊎ ((size : ℕ) × (given ≡ StateTooLarge size)))
+IsAnswerOrRefused asked given = (given ≡ asked) ⊎ ((given ≡ answers.Refused ChangesSpent) ⊎ ((size : ℕ) × (given ≡ answers.Refused (StateTooLarge size))))

@@ -43,7 +43,9 @@ use Rattle.client_words.specs.declared.command.Command.{Command}
 use Rattle.client_words.specs.declared.command.Command.TheVariants.{Apply, Participate, OptOut, OptIn, Reset, Show, Feature, Fetch, Event, Confirm, Bind, SetPreference, ClearPreference, WriteManifest}
 use Rattle.client_words.specs.declared.command.Command.TheVariants as commands
 use Rattle.client_words.specs.declared.answer.Answer.{Answer}
-use Rattle.client_words.specs.declared.answer.Answer.TheVariants.{Okay, Fetched, Applied, Value, Shown, NoManifest, NoContext, BadContext, BadBinding, NoData, TooManyRecipes, UnknownFeature, OptedOutLimit, NotParticipating, NoSuchExperiment, NoSuchBranch, FeatureTaken, EventLimit, NoSuchChange, ChangesSpent, StateTooLarge}
+use Rattle.client_words.specs.declared.answer.Answer.TheVariants.{Okay, Fetched, Applied, Value, Shown}
+use Rattle.client_words.specs.declared.refusal.Refusal.{Refusal}
+use Rattle.client_words.specs.declared.refusal.Refusal.TheVariants.{NoManifest, NoContext, BadContext, BadBinding, NoData, TooManyRecipes, UnknownFeature, OptedOutLimit, NotParticipating, NoSuchExperiment, NoSuchBranch, FeatureTaken, EventLimit, NoSuchChange, ChangesSpent, StateTooLarge}
 use Rattle.client_words.specs.declared.answer.Answer.TheVariants as answers
 use Rattle.client_steps.specs.declared.session.Session.{Session}
 use Rattle.client_steps.specs.Choosing.{first_taker}
@@ -56,7 +58,7 @@ use Rattle.client_steps.specs.Settings.{Setting}
 -- what is asked for: a new state and session with an answer, or a refusal
 pub data OutcomeOver (S : Type 0) : Type 0 where
   Accepted : (state : S) → (session : Session) → (answer : Answer) → OutcomeOver S
-  Refused : (answer : Answer) → OutcomeOver S
+  Refused : (refusal : Refusal) → OutcomeOver S
 
 -- what a command asks for
 abbrev pub Outcome : Type 0
@@ -106,7 +108,7 @@ fetched e session (Err (payload.TooManyRecipes count)) = Refused (TooManyRecipes
 fetched e session (Err payload.OutOfMemory) = Refused NoData
 
 -- `fetch`
-abbrev pub fetching : State → Session → Result Json Answer → EnrolmentOutcome
+abbrev pub fetching : State → Session → Result Json Refusal → EnrolmentOutcome
 fetching e session (Ok tree) = fetched e session (payload_of tree)
 fetching e session (Err refusal) = Refused refusal
 
@@ -137,7 +139,7 @@ with_enrolment session s e counts = record { enrolment = e; events = counts; out
 -- the same, unless the outbox has no numbers for the changes
 abbrev pub whole : ClientState → Session → List NameCounts → EnrolmentOutcome → Outcome
 whole s session counts (Accepted e next answer) = if is_spent s.enrolment e s.outbox then Refused ChangesSpent else Accepted (with_enrolment session s e counts) next answer
-whole s session counts (Refused answer) = Refused answer
+whole s session counts (Refused refusal) = Refused refusal
 
 -- the counts stay
 abbrev pub enrolling : ClientState → Session → EnrolmentOutcome → Outcome
@@ -173,7 +175,7 @@ releasing s session (Some holder) = enrolling s session (Accepted (enrolment_end
 -- what is asked for, and then the user's value is set or taken away
 abbrev pub valued_by_user : List ℕ → Option Tree → Outcome → Outcome
 valued_by_user name value (Accepted s session answer) = Accepted (with_users_value name value s) session answer
-valued_by_user name value (Refused answer) = Refused answer
+valued_by_user name value (Refused refusal) = Refused refusal
 
 -- `set-pref`, with a value, and `clear-pref`: once nobody holds the preference
 abbrev pub preferring : ClientState → Session → List ℕ → Option Tree → Outcome
@@ -187,7 +189,7 @@ context_read s session (Ok context) = Accepted s (with_context session context) 
 context_read s session (Err key) = Refused (BadContext key)
 
 -- `context`
-abbrev pub reading_context : ClientState → Session → Result Json Answer → Outcome
+abbrev pub reading_context : ClientState → Session → Result Json Refusal → Outcome
 reading_context s session (Ok tree) = context_read s session (context_of tree)
 reading_context s session (Err refusal) = Refused refusal
 
@@ -197,12 +199,12 @@ bindings_read s session (Ok bindings) = Accepted s (with_bindings session bindin
 bindings_read s session (Err feature) = Refused (BadBinding feature)
 
 -- `bind`
-abbrev pub reading_bindings : ClientState → Session → Result Json Answer → Outcome
+abbrev pub reading_bindings : ClientState → Session → Result Json Refusal → Outcome
 reading_bindings s session (Ok tree) = bindings_read s session (bindings_of tree)
 reading_bindings s session (Err refusal) = Refused refusal
 
 -- `manifest`
-abbrev pub setting_manifest : ClientState → Session → Result Manifest Answer → Outcome
+abbrev pub setting_manifest : ClientState → Session → Result Manifest Refusal → Outcome
 setting_manifest s session (Ok manifest) = Accepted s (with_manifest session manifest) Okay
 setting_manifest s session (Err refusal) = Refused refusal
 
@@ -267,11 +269,14 @@ pub record Step : Type 0 where
   pub session : Session
   pub answer : Answer
 
--- a refusal changes nothing. What is asked for is done, unless the new state is too large
+-- a refusal changes nothing
+abbrev pub unchanged : ClientState → Session → Refusal → Step
+unchanged s session refusal = record { state = s; session = session; answer = answers.Refused refusal }
+
+-- what is asked for is done, unless it is refused or the new state is too large
 abbrev pub done : ClientState → Session → Outcome → Step
-done s session (Refused refusal) = record { state = s; session = session; answer = refusal }
-done s session (Accepted t next answer) =
-    if nat_lt max_size (length (encoding t)) then record { state = s; session = session; answer = StateTooLarge (length (encoding t)) } else record { state = t; session = next; answer = answer }
+done s session (Refused refusal) = unchanged s session refusal
+done s session (Accepted t next answer) = if nat_lt max_size (length (encoding t)) then unchanged s session (StateTooLarge (length (encoding t))) else record { state = t; session = next; answer = answer }
 
 unfoldable pub step : Setting → ClientState → Session → Command → Step
 step at s session command = done s session (outcome at s session command)

@@ -14,7 +14,7 @@ use crate::asked::Asked;
 use crate::session::Session;
 use app_context::with_events;
 use client_state::ClientState;
-use client_words::Answer;
+use client_words::{Answer, Refusal};
 use enrol_evolver::evolve;
 use enrol_states::{Row, State};
 use jexl_transforms::TransformTable;
@@ -37,10 +37,10 @@ pub fn applying(
     ensures follows { IfOk result (λ asked. FollowsFrom state.now asked) }
 {
     let Some(linked) = &session.manifest else {
-        return Ok(Asked::Refused(Answer::NoManifest));
+        return Ok(Asked::Refused(Refusal::NoManifest));
     };
     let Some(context) = &session.context else {
-        return Ok(Asked::Refused(Answer::NoContext));
+        return Ok(Asked::Refused(Refusal::NoContext));
     };
     let context = with_events(context, &state.events.view(alloc, now)?)?;
     let coenrolling = linked.coenrolling(alloc)?;

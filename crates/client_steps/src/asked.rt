@@ -4,7 +4,7 @@ ghost use Rattle.client_state.specs.Changes.{of_enrolment, of_next_state};
 
 use crate::session::SessionChange;
 use client_state::StateChange;
-use client_words::Answer;
+use client_words::{Answer, Refusal};
 use enrol_states::{NextState, State};
 use state_codec::RecipeLists;
 
@@ -27,7 +27,7 @@ pub enum Asked {
         answer: Answer,
     },
     /// Nothing: it is refused.
-    Refused(Answer),
+    Refused(Refusal),
 }
 
 impl Asked {

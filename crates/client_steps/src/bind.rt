@@ -13,7 +13,7 @@ use crate::asked::Asked;
 use crate::faults::StepFault;
 use crate::files::read_tree;
 use crate::session::SessionChange;
-use client_words::Answer;
+use client_words::Refusal;
 use host_model::Shelf;
 use json_tree::Tree;
 use pref_bindings::{BindingFault, read_bindings};
@@ -48,7 +48,7 @@ fn bindings_in(alloc: Global, tree: &Tree) -> Result<Asked, AllocError>
 {
     match read_bindings(alloc, tree) {
         Ok(bindings) => Ok(Asked::in_session(SessionChange::Bindings(bindings))),
-        Err(BindingFault::BadBinding(feature)) => Ok(Asked::Refused(Answer::BadBinding(feature))),
+        Err(BindingFault::BadBinding(feature)) => Ok(Asked::Refused(Refusal::BadBinding(feature))),
         Err(BindingFault::OutOfMemory) => Err(AllocError),
     }
 }

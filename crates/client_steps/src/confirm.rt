@@ -7,7 +7,7 @@ ghost use Rattle.client_steps.specs.Steps.{confirming};
 use crate::asked::Asked;
 use change_outbox::ConfirmFault;
 use client_state::{ClientState, StateChange};
-use client_words::Answer;
+use client_words::{Answer, Refusal};
 use std::alloc::AllocError;
 
 /// What `confirm` asks for.
@@ -24,7 +24,7 @@ pub fn confirming(state: &ClientState, number: u64) -> Result<Asked, AllocError>
                 answer: Answer::Okay,
             })
         }
-        Err(ConfirmFault::NoSuchChange(next)) => Ok(Asked::Refused(Answer::NoSuchChange(next))),
+        Err(ConfirmFault::NoSuchChange(next)) => Ok(Asked::Refused(Refusal::NoSuchChange(next))),
         Err(ConfirmFault::OutOfMemory) => Err(AllocError),
     }
 }

@@ -14,7 +14,7 @@ use crate::faults::StepFault;
 use crate::files::read_tree;
 use crate::session::SessionChange;
 use app_context::{ContextFault, read_context};
-use client_words::Answer;
+use client_words::Refusal;
 use host_model::Shelf;
 use json_tree::Tree;
 use sequences::Text;
@@ -48,7 +48,7 @@ fn context_in(alloc: Global, tree: &Tree) -> Result<Asked, AllocError>
 {
     match read_context(alloc, tree) {
         Ok(context) => Ok(Asked::in_session(SessionChange::Context(context))),
-        Err(ContextFault::BadContext(key)) => Ok(Asked::Refused(Answer::BadContext(key))),
+        Err(ContextFault::BadContext(key)) => Ok(Asked::Refused(Refusal::BadContext(key))),
         Err(ContextFault::OutOfMemory) => Err(AllocError),
     }
 }

@@ -8,7 +8,7 @@ ghost use Rattle.client_steps.specs.Steps.{counting};
 
 use crate::asked::Asked;
 use client_state::{ClientState, StateChange};
-use client_words::Answer;
+use client_words::{Answer, Refusal};
 use event_counts::CountFault;
 use sequences::Text;
 use std::alloc::{AllocError, Global};
@@ -32,7 +32,7 @@ pub fn counting(
             change: StateChange::of_events(counted.counts, counted.part),
             answer: Answer::Okay,
         }),
-        Err(CountFault::EventLimit) => Ok(Asked::Refused(Answer::EventLimit)),
+        Err(CountFault::EventLimit) => Ok(Asked::Refused(Refusal::EventLimit)),
         Err(CountFault::OutOfMemory) => Err(AllocError),
     }
 }

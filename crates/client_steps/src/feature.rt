@@ -9,7 +9,7 @@ ghost use Rattle.client_steps.specs.Steps.{serving};
 use crate::asked::Asked;
 use crate::session::Session;
 use client_state::ClientState;
-use client_words::Answer;
+use client_words::{Answer, Refusal};
 use feature_serving::{ServeFault, served};
 use fml_value::to_tree;
 use sequences::Text;
@@ -29,14 +29,14 @@ pub fn serving(
     ensures typed { IfOk result (λ asked. IsTyped state.now session.now (Feature name.now) (answer_for asked)) }
 {
     let Some(linked) = &session.manifest else {
-        return Ok(Asked::Refused(Answer::NoManifest));
+        return Ok(Asked::Refused(Refusal::NoManifest));
     };
     match served(alloc, linked.manifest(), &state.enrolment, name.as_str()) {
         Ok(value) => {
             let tree = to_tree(alloc, &value)?;
             Ok(Asked::same(Answer::Value(tree)))
         }
-        Err(ServeFault::UnknownFeature) => Ok(Asked::Refused(Answer::UnknownFeature)),
+        Err(ServeFault::UnknownFeature) => Ok(Asked::Refused(Refusal::UnknownFeature)),
         Err(ServeFault::OutOfMemory) => Err(AllocError),
     }
 }

@@ -16,7 +16,7 @@ use crate::asked::Asked;
 use crate::faults::StepFault;
 use crate::files::read_tree;
 use client_state::ClientState;
-use client_words::Answer;
+use client_words::{Answer, Refusal};
 use host_model::Shelf;
 use json_tree::Tree;
 use recipe_reader::{Payload, PayloadFault, read_payload};
@@ -67,7 +67,7 @@ fn fetch<F: Shelf>(
     alloc: Global,
     shelf: &mut F,
     name: &Text,
-) -> Result<Result<Payload, Answer>, StepFault>
+) -> Result<Result<Payload, Refusal>, StepFault>
     ensures found { F.tells → IfOk result (λ found. (e : State) (session : Session)
         → fetching e session (file_tree name.now (F.file shelf.old name.now)) ≡ fetched_outcome e session found) }
     ensures kept { IfOk result (λ found. IfOk found (λ payload. AreKept payload.recipes)) }
@@ -84,7 +84,7 @@ fn fetch<F: Shelf>(
 }
 
 /// The payload of a tree, or the refusal of the command.
-fn payload_in(alloc: Global, tree: &Tree) -> Result<Result<Payload, Answer>, AllocError>
+fn payload_in(alloc: Global, tree: &Tree) -> Result<Result<Payload, Refusal>, AllocError>
     ensures found { IfOk result (λ found. (e : State) (session : Session) → fetched e session (payload_of (json_of tree.now)) ≡ fetched_outcome e session found) }
     ensures kept { IfOk result (λ found. IfOk found (λ payload. AreKept payload.recipes)) }
 {
@@ -93,8 +93,8 @@ fn payload_in(alloc: Global, tree: &Tree) -> Result<Result<Payload, Answer>, All
             payload.recipes.as_slice();
             Ok(Ok(payload))
         }
-        Err(PayloadFault::NoData) => Ok(Err(Answer::NoData)),
-        Err(PayloadFault::TooManyRecipes(count)) => Ok(Err(Answer::TooManyRecipes(count))),
+        Err(PayloadFault::NoData) => Ok(Err(Refusal::NoData)),
+        Err(PayloadFault::TooManyRecipes(count)) => Ok(Err(Refusal::TooManyRecipes(count))),
         Err(PayloadFault::OutOfMemory) => Err(AllocError),
     }
 }

@@ -6,7 +6,7 @@ ghost use Rattle.client_steps.specs.Fetching.{shallow_tree, file_tree};
 ghost use Rattle.client_steps.specs.Found.{IsTree};
 
 use crate::faults::StepFault;
-use client_words::Answer;
+use client_words::Refusal;
 use host_model::{Shelf, ShelfAnswer};
 use json_tree::{Tree, TreeFault, read};
 use sequences::Text;
@@ -18,7 +18,7 @@ pub(crate) fn read_tree<F: Shelf>(
     alloc: Global,
     shelf: &mut F,
     name: &Text,
-) -> Result<Result<Tree, Answer>, StepFault>
+) -> Result<Result<Tree, Refusal>, StepFault>
     ensures found { F.tells → IfOk result (λ found. IsTree found (file_tree name.now (F.file shelf.old name.now))) }
     ensures files { F.tells → (other : List ℕ) → F.file shelf.new other ≡ F.file shelf.old other }
     ensures asked { F.asks shelf.old name.now shelf.new }
@@ -28,21 +28,21 @@ pub(crate) fn read_tree<F: Shelf>(
 {
     match shelf.take(alloc, name.as_str()) {
         ShelfAnswer::Bytes(bytes) => Ok(tree_in(alloc, name, &bytes)?),
-        ShelfAnswer::Absent => Ok(Err(Answer::AbsentFile(name.clone()?))),
-        ShelfAnswer::TooLarge(length) => Ok(Err(Answer::FileTooLarge(name.clone()?, length))),
+        ShelfAnswer::Absent => Ok(Err(Refusal::AbsentFile(name.clone()?))),
+        ShelfAnswer::TooLarge(length) => Ok(Err(Refusal::FileTooLarge(name.clone()?, length))),
         ShelfAnswer::Failed => Err(StepFault::ShelfFault),
         ShelfAnswer::OutOfMemory => Err(StepFault::OutOfMemory),
     }
 }
 
 /// The tree of the bytes of the file of this name, or the refusal of a command that wants one.
-fn tree_in(alloc: Global, name: &Text, bytes: &[u8]) -> Result<Result<Tree, Answer>, AllocError>
+fn tree_in(alloc: Global, name: &Text, bytes: &[u8]) -> Result<Result<Tree, Refusal>, AllocError>
     ensures { IfOk result (λ found. IsTree found (shallow_tree name.now (tree_of bytes.now))) }
 {
     match read(alloc, bytes) {
         Ok(tree) => Ok(Ok(tree)),
-        Err(TreeFault::NotJson) => Ok(Err(Answer::NotJson(name.clone()?))),
-        Err(TreeFault::TooDeep) => Ok(Err(Answer::NotJson(name.clone()?))),
+        Err(TreeFault::NotJson) => Ok(Err(Refusal::NotJson(name.clone()?))),
+        Err(TreeFault::TooDeep) => Ok(Err(Refusal::NotJson(name.clone()?))),
         Err(TreeFault::OutOfMemory) => Err(AllocError),
     }
 }

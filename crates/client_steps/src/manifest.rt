@@ -8,15 +8,15 @@ ghost use Rattle.fml_merge.specs.Faults.{bad_default};
 ghost use Rattle.client_state.specs.declared.client_state.ClientState.{ClientState};
 ghost use Rattle.client_steps.specs.declared.session.Session.{Session};
 ghost use Rattle.client_steps.specs.Asked.{asked_outcome, FollowsFrom};
-ghost use Rattle.client_steps.specs.Manifests.{link_refusal, where_fits, manifest_of};
+ghost use Rattle.client_steps.specs.Manifests.{where_fits, manifest_of};
 ghost use Rattle.client_steps.specs.Steps.{setting_manifest};
 
 use crate::asked::Asked;
 use crate::faults::StepFault;
 use crate::linked_manifest::LinkedManifest;
 use crate::session::SessionChange;
-use client_words::Answer;
-use fml_link::{LinkFault, LinkRefusal, link};
+use client_words::Refusal;
+use fml_link::{LinkFault, link};
 use fml_merge::{DefaultFault, check_defaults};
 use fml_types::Manifest;
 use host_model::Shelf;
@@ -52,7 +52,7 @@ fn read_manifest<F: Shelf>(
     shelf: &mut F,
     name: &Text,
     channel: &Text,
-) -> Result<Result<LinkedManifest, Answer>, StepFault>
+) -> Result<Result<LinkedManifest, Refusal>, StepFault>
     ensures found { F.tells → IfOk result (λ found. found ≡ manifest_of (F.file shelf.old) name.now channel.now) }
     ensures files { F.tells → (other : List ℕ) → F.file shelf.new other ≡ F.file shelf.old other }
     ensures asked { IsAskedFrom F.Shelf name.now channel.now shelf.old shelf.new }
@@ -62,35 +62,14 @@ fn read_manifest<F: Shelf>(
 {
     match link(alloc, shelf, name.as_str(), channel.as_str()) {
         Ok(manifest) => Ok(checked(alloc, manifest)?),
-        Err(LinkFault::Refused(refusal)) => Ok(Err(refusal_of(refusal))),
+        Err(LinkFault::Refused(refusal)) => Ok(Err(Refusal::NotLinked(refusal))),
         Err(LinkFault::ShelfFault) => Err(StepFault::ShelfFault),
         Err(LinkFault::OutOfMemory) => Err(StepFault::OutOfMemory),
     }
 }
 
-/// What is answered where the files don't link.
-fn refusal_of(refusal: LinkRefusal) -> Answer
-    ensures { result ≡ link_refusal refusal }
-{
-    match refusal {
-        LinkRefusal::AbsentFile(name) => Answer::AbsentFile(name),
-        LinkRefusal::FileTooLarge(name, length) => Answer::FileTooLarge(name, length),
-        LinkRefusal::NotJson(name) => Answer::NotJson(name),
-        LinkRefusal::BadShape(name, path) => Answer::BadShape(name, path),
-        LinkRefusal::TooManyFiles => Answer::TooManyFiles,
-        LinkRefusal::ImportClash(name) => Answer::ImportClash(name),
-        LinkRefusal::DuplicateName(name) => Answer::DuplicateName(name),
-        LinkRefusal::UnknownType(name) => Answer::UnknownType(name),
-        LinkRefusal::EndlessObject(name) => Answer::EndlessObject(name),
-        LinkRefusal::ObjectTooLarge(name) => Answer::ObjectTooLarge(name),
-        LinkRefusal::UnknownChannel => Answer::UnknownChannel,
-        LinkRefusal::UnknownImport(name) => Answer::UnknownImport(name),
-        LinkRefusal::UnknownOverride(name) => Answer::UnknownOverride(name),
-    }
-}
-
 /// A manifest that is linked, or the refusal of its first default that doesn't fit.
-fn checked(alloc: Global, manifest: Manifest) -> Result<Result<LinkedManifest, Answer>, AllocError>
+fn checked(alloc: Global, manifest: Manifest) -> Result<Result<LinkedManifest, Refusal>, AllocError>
     requires sound { IsSoundManifest manifest }
     requires back { LinksBack manifest }
     ensures { IfOk result (λ found. found ≡ where_fits manifest (bad_default manifest)) }
@@ -99,7 +78,7 @@ fn checked(alloc: Global, manifest: Manifest) -> Result<Result<LinkedManifest, A
     match check_defaults(alloc, &manifest) {
         Ok(()) => Ok(Ok(LinkedManifest::new(manifest))),
         Err(DefaultFault::BadDefault { owner, place }) => {
-            Ok(Err(Answer::BadDefault(owner, place)))
+            Ok(Err(Refusal::BadDefault(owner, place)))
         }
         Err(DefaultFault::OutOfMemory) => Err(AllocError),
     }

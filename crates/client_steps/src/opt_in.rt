@@ -7,7 +7,7 @@ ghost use Rattle.client_steps.specs.Steps.{opting_in, enrolling};
 
 use crate::asked::Asked;
 use client_state::ClientState;
-use client_words::Answer;
+use client_words::Refusal;
 use enrol_states::{OptInFault, opt_in};
 use plain_text::Slug;
 use std::alloc::{AllocError, Global};
@@ -27,11 +27,11 @@ pub fn opting_in(
 {
     match opt_in(alloc, &mut state.enrolment, slug, branch) {
         Ok(next) => Ok(Asked::chosen(next)),
-        Err(OptInFault::NoSuchExperiment) => Ok(Asked::Refused(Answer::NoSuchExperiment)),
-        Err(OptInFault::NotParticipating) => Ok(Asked::Refused(Answer::NotParticipating)),
-        Err(OptInFault::NoSuchBranch) => Ok(Asked::Refused(Answer::NoSuchBranch)),
+        Err(OptInFault::NoSuchExperiment) => Ok(Asked::Refused(Refusal::NoSuchExperiment)),
+        Err(OptInFault::NotParticipating) => Ok(Asked::Refused(Refusal::NotParticipating)),
+        Err(OptInFault::NoSuchBranch) => Ok(Asked::Refused(Refusal::NoSuchBranch)),
         Err(OptInFault::FeatureTaken(holder, feature)) => {
-            Ok(Asked::Refused(Answer::FeatureTaken(holder, feature)))
+            Ok(Asked::Refused(Refusal::FeatureTaken(holder, feature)))
         }
         Err(OptInFault::OutOfMemory) => Err(AllocError),
     }

@@ -7,7 +7,7 @@ ghost use Rattle.client_steps.specs.Steps.{opting_out, enrolling};
 
 use crate::asked::Asked;
 use client_state::ClientState;
-use client_words::Answer;
+use client_words::Refusal;
 use enrol_states::{OptOutFault, opt_out};
 use plain_text::Slug;
 use std::alloc::{AllocError, Global};
@@ -22,7 +22,7 @@ pub fn opting_out(alloc: Global, state: &mut ClientState, slug: &Slug) -> Result
 {
     match opt_out(alloc, &mut state.enrolment, slug) {
         Ok(next) => Ok(Asked::chosen(next)),
-        Err(OptOutFault::OptedOutLimit) => Ok(Asked::Refused(Answer::OptedOutLimit)),
+        Err(OptOutFault::OptedOutLimit) => Ok(Asked::Refused(Refusal::OptedOutLimit)),
         Err(OptOutFault::OutOfMemory) => Err(AllocError),
     }
 }

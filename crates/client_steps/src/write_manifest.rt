@@ -8,7 +8,7 @@ ghost use Rattle.client_steps.specs.WrittenManifests.{IsWritten};
 
 use crate::asked::Asked;
 use crate::session::Session;
-use client_words::Answer;
+use client_words::{Answer, Refusal};
 use fml_imports::single;
 use std::alloc::{AllocError, Global};
 
@@ -21,7 +21,7 @@ pub fn writing_manifest(alloc: Global, session: &Session) -> Result<Asked, Alloc
     ensures written { IfOk result (λ asked. (tree : Tree) → answer_for asked ≡ Answer.Manifest tree → IsWritten session.now tree) }
 {
     let Some(linked) = &session.manifest else {
-        return Ok(Asked::Refused(Answer::NoManifest));
+        return Ok(Asked::Refused(Refusal::NoManifest));
     };
     let tree = single(alloc, linked.manifest())?;
     Ok(Asked::same(Answer::Manifest(tree)))

@@ -3,5 +3,6 @@ pub mod Ids
 mod Joining
 pub mod Kept
 mod Numbers
+mod Pairs
 mod Values
 pub mod Within

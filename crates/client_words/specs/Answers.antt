@@ -1,10 +1,8 @@
 -- The text of an answer, each line of which ends with the byte 10.
 use Rattle.std.specs.Prelude.{ℕ, Bool, true, false, List, [], ◌∷◌, ◌++◌, codes, length, decimal}
 use Rattle.uuid.specs.Text.{hyphenated_text, lower}
-use Rattle.json_tree.specs.Json.{text}
 use Rattle.json_tree.specs.Bytes.{text_of}
 use Rattle.json_tree.specs.Tree.{json_of}
-use Rattle.app_context.specs.Keys.{name_of}
 use Rattle.change_outbox.specs.declared.change.Change.{Change}
 use Rattle.change_outbox.specs.declared.change.ChangeKind.{ChangeKind}
 use Rattle.change_outbox.specs.declared.change.ChangeKind.TheVariants as change
@@ -23,17 +21,14 @@ use Rattle.enrol_states.specs.declared.status.DisqualifiedReason.TheVariants as 
 use Rattle.enrol_states.specs.declared.status.ErrorCause.{ErrorCause}
 use Rattle.enrol_states.specs.declared.status.ErrorCause.TheVariants as error
 use Rattle.client_words.specs.declared.answer.Answer.{Answer}
-use Rattle.client_words.specs.declared.answer.Answer.TheVariants.{Okay, Fetched, Applied, Value, Shown, Manifest, Changes, Preferences, NoManifest, NoContext, AbsentFile, FileTooLarge, NotJson, BadContext, BadBinding, NoData, TooManyRecipes, BadShape, TooManyFiles, ImportClash, DuplicateName, UnknownType, EndlessObject, ObjectTooLarge, UnknownChannel, UnknownImport, UnknownOverride, BadDefault, UnknownFeature, OptedOutLimit, NotParticipating, NoSuchExperiment, NoSuchBranch, FeatureTaken, EventLimit, NoSuchChange, ChangesSpent, StateTooLarge}
+use Rattle.client_words.specs.declared.answer.Answer.TheVariants.{Okay, Fetched, Applied, Value, Shown, Manifest, Changes, Preferences, Refused}
+use Rattle.client_words.specs.Refusals.{refusal_lines}
 use Rattle.client_words.specs.declared.line.LineFault.{LineFault}
 use Rattle.client_words.specs.declared.line.LineFault.TheVariants.{LineTooLong, Blank, UnknownCommand, BadWords, BadSlug, BadId, OutOfMemory}
 
 -- the text of an id: in lower case, with hyphens
 unfoldable pub hyphenated : List ℕ → List ℕ
 hyphenated id = hyphenated_text lower id
-
--- the name of a file, a path or a key, as canonical JSON
-unfoldable pub quoted : List ℕ → List ℕ
-quoted name = text_of (text name)
 
 abbrev pub yes_or_no : Bool → List ℕ
 yes_or_no true = codes "yes"
@@ -142,36 +137,7 @@ answer_lines (Manifest tree) = codes "manifest " ++ text_of (json_of tree) ++ 10
 answer_lines (Changes changes) = changes_lines changes
 answer_lines (Preferences preferences) = preferences_lines preferences
 answer_lines (Shown id experiments rollouts pending opted_out rows) = shown_lines id experiments rollouts pending opted_out rows
-answer_lines NoManifest = codes "refused NoManifest\n"
-answer_lines NoContext = codes "refused NoContext\n"
-answer_lines (AbsentFile name) = codes "refused AbsentFile " ++ quoted name ++ 10 ∷ []
-answer_lines (FileTooLarge name len) = codes "refused FileTooLarge " ++ quoted name ++ codes " " ++ decimal len ++ 10 ∷ []
-answer_lines (NotJson name) = codes "refused NotJson " ++ quoted name ++ 10 ∷ []
-answer_lines (BadContext key) = codes "refused BadContext " ++ quoted (name_of key) ++ 10 ∷ []
-answer_lines (BadBinding feature) = codes "refused BadBinding " ++ quoted feature ++ 10 ∷ []
-answer_lines NoData = codes "refused NoData\n"
-answer_lines (TooManyRecipes count) = codes "refused TooManyRecipes " ++ decimal count ++ 10 ∷ []
-answer_lines (BadShape name path) = codes "refused BadShape " ++ quoted name ++ codes " " ++ quoted path ++ 10 ∷ []
-answer_lines TooManyFiles = codes "refused TooManyFiles\n"
-answer_lines (ImportClash name) = codes "refused ImportClash " ++ quoted name ++ 10 ∷ []
-answer_lines (DuplicateName name) = codes "refused DuplicateName " ++ name ++ 10 ∷ []
-answer_lines (UnknownType name) = codes "refused UnknownType " ++ name ++ 10 ∷ []
-answer_lines (EndlessObject name) = codes "refused EndlessObject " ++ name ++ 10 ∷ []
-answer_lines (ObjectTooLarge name) = codes "refused ObjectTooLarge " ++ name ++ 10 ∷ []
-answer_lines UnknownChannel = codes "refused UnknownChannel\n"
-answer_lines (UnknownImport name) = codes "refused UnknownImport " ++ quoted name ++ 10 ∷ []
-answer_lines (UnknownOverride name) = codes "refused UnknownOverride " ++ name ++ 10 ∷ []
-answer_lines (BadDefault owner path) = codes "refused BadDefault " ++ owner ++ codes " " ++ quoted path ++ 10 ∷ []
-answer_lines UnknownFeature = codes "refused UnknownFeature\n"
-answer_lines OptedOutLimit = codes "refused OptedOutLimit\n"
-answer_lines NotParticipating = codes "refused NotParticipating\n"
-answer_lines NoSuchExperiment = codes "refused NoSuchExperiment\n"
-answer_lines NoSuchBranch = codes "refused NoSuchBranch\n"
-answer_lines (FeatureTaken holder feature) = codes "refused FeatureTaken " ++ holder ++ codes " " ++ feature ++ 10 ∷ []
-answer_lines EventLimit = codes "refused EventLimit\n"
-answer_lines (NoSuchChange next) = codes "refused NoSuchChange " ++ decimal next ++ 10 ∷ []
-answer_lines ChangesSpent = codes "refused ChangesSpent\n"
-answer_lines (StateTooLarge size) = codes "refused StateTooLarge " ++ decimal size ++ 10 ∷ []
+answer_lines (Refused refusal) = refusal_lines refusal
 
 -- the answer to a line that has no command. A blank line has none, and want of memory ends the run without one
 abbrev pub fault_answer : LineFault → List ℕ

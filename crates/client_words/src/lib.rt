@@ -7,11 +7,13 @@ mod arguments;
 mod command;
 mod line;
 mod preferences;
-mod refusals;
+mod refusal;
+mod refusal_texts;
 mod rows;
 mod texts;
 
 pub use answer::Answer;
 pub use command::Command;
 pub use line::{LineFault, MAX_LINE_LEN, bytes_at, read_command};
+pub use refusal::Refusal;
 pub use texts::{answer_text, hyphenated, line_text};

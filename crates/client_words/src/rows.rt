@@ -158,7 +158,8 @@ fn push_status(text: &mut String, status: &Status) -> Result<(), AllocError>
     }
 }
 
-fn push_words(text: &mut String, first: &str, second: &str) -> Result<(), AllocError>
+/// Two words, one behind the other.
+pub(crate) fn push_words(text: &mut String, first: &str, second: &str) -> Result<(), AllocError>
     ensures { OnOk result (string_bytes text.new ≡ string_bytes text.old ++ (first.now ++ second.now)) }
 {
     text.push_str(first)?;

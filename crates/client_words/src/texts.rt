@@ -7,9 +7,7 @@ ghost use Rattle.client_words.specs.Answers as spec;
 
 use crate::answer::Answer;
 use crate::line::LineFault;
-use crate::refusals::{
-    counted, default_text, file_length_text, named, quoted_name, shape_text, taken_text,
-};
+use crate::refusal_texts::refusal_text;
 use crate::rows::{
     push_change_lines, push_out_lines, push_preference_lines, push_row_lines, push_skipped_lines,
 };
@@ -53,44 +51,7 @@ pub fn answer_text(alloc: Global, answer: &Answer) -> Result<Text, AllocError>
             opted_out,
             rows,
         ),
-        Answer::NoManifest => Text::new(alloc, "refused NoManifest\n"),
-        Answer::NoContext => Text::new(alloc, "refused NoContext\n"),
-        Answer::AbsentFile(name) => quoted_name(alloc, "refused AbsentFile ", name.as_str()),
-        Answer::FileTooLarge(name, length) => file_length_text(alloc, name, *length),
-        Answer::NotJson(name) => quoted_name(alloc, "refused NotJson ", name.as_str()),
-        Answer::BadContext(key) => quoted_name(alloc, "refused BadContext ", key.name()),
-        Answer::BadBinding(feature) => {
-            quoted_name(alloc, "refused BadBinding ", feature.as_str())
-        }
-        Answer::NoData => Text::new(alloc, "refused NoData\n"),
-        Answer::TooManyRecipes(count) => counted(
-            alloc,
-            "refused TooManyRecipes ",
-            u128::from(*count),
-        ),
-        Answer::BadShape(name, path) => shape_text(alloc, name, path),
-        Answer::TooManyFiles => Text::new(alloc, "refused TooManyFiles\n"),
-        Answer::ImportClash(name) => quoted_name(alloc, "refused ImportClash ", name.as_str()),
-        Answer::DuplicateName(name) => named(alloc, "refused DuplicateName ", name),
-        Answer::UnknownType(name) => named(alloc, "refused UnknownType ", name),
-        Answer::EndlessObject(name) => named(alloc, "refused EndlessObject ", name),
-        Answer::ObjectTooLarge(name) => named(alloc, "refused ObjectTooLarge ", name),
-        Answer::UnknownChannel => Text::new(alloc, "refused UnknownChannel\n"),
-        Answer::UnknownImport(name) => {
-            quoted_name(alloc, "refused UnknownImport ", name.as_str())
-        }
-        Answer::UnknownOverride(name) => named(alloc, "refused UnknownOverride ", name),
-        Answer::BadDefault(owner, path) => default_text(alloc, owner, path),
-        Answer::UnknownFeature => Text::new(alloc, "refused UnknownFeature\n"),
-        Answer::OptedOutLimit => Text::new(alloc, "refused OptedOutLimit\n"),
-        Answer::NotParticipating => Text::new(alloc, "refused NotParticipating\n"),
-        Answer::NoSuchExperiment => Text::new(alloc, "refused NoSuchExperiment\n"),
-        Answer::NoSuchBranch => Text::new(alloc, "refused NoSuchBranch\n"),
-        Answer::FeatureTaken(holder, feature) => taken_text(alloc, holder, feature),
-        Answer::EventLimit => Text::new(alloc, "refused EventLimit\n"),
-        Answer::NoSuchChange(next) => counted(alloc, "refused NoSuchChange ", u128::from(*next)),
-        Answer::ChangesSpent => Text::new(alloc, "refused ChangesSpent\n"),
-        Answer::StateTooLarge(size) => counted(alloc, "refused StateTooLarge ", *size),
+        Answer::Refused(refusal) => refusal_text(alloc, refusal),
     }
 }
 
@@ -104,10 +65,20 @@ pub fn line_text(alloc: Global, fault: &LineFault) -> Result<Text, AllocError>
         LineFault::Blank => Text::new(alloc, ""),
         LineFault::UnknownCommand => Text::new(alloc, "refused UnknownCommand\n"),
         LineFault::BadWords => Text::new(alloc, "refused BadWords\n"),
-        LineFault::BadSlug(place) => counted(alloc, "refused BadSlug ", *place as u128),
+        LineFault::BadSlug(place) => bad_slug_text(alloc, *place),
         LineFault::BadId => Text::new(alloc, "refused BadId\n"),
         LineFault::OutOfMemory => unreachable!(),
     }
+}
+
+/// What is said of a word that is no slug, with the place of its first bad byte.
+fn bad_slug_text(alloc: Global, place: usize) -> Result<Text, AllocError>
+    ensures { IfOk result (λ text. text ≡ fault_answer (LineFault.BadSlug place)) }
+{
+    let mut text = String::from_str(alloc, "refused BadSlug ")?;
+    text.push_str(Buffer::new().format(place))?;
+    text.push_str("\n")?;
+    Ok(Text::from_string(text))
 }
 
 /// The text of an id, in lower case and with hyphens (RFC 9562).

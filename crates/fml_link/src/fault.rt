@@ -2,6 +2,7 @@
 ghost use Rattle.std.specs.Prelude.{◌≡◌};
 ghost use Rattle.fml_link.specs.declared.fault.LinkFault.TheVariants.{OutOfMemory};
 
+use fml_imports::JoinRefusal;
 use sequences::Text;
 use std::alloc::{AllocError, AllocFailed};
 
@@ -23,21 +24,8 @@ pub enum LinkRefusal {
     /// The first name that a file includes or imports for another channel than the one that the
     /// file of that name is read for.
     ImportClash(Text),
-    /// The first name that is met twice among enums and objects, or twice among features.
-    DuplicateName(Text),
-    /// The first name in a type that is neither an enum's nor an object's, or that is a map's key
-    /// and no enum's.
-    UnknownType(Text),
-    /// The least name of an object whose height is above 32.
-    EndlessObject(Text),
-    /// The least name of an object whose weight is above 16,384.
-    ObjectTooLarge(Text),
-    /// The root doesn't have the channel.
-    UnknownChannel,
-    /// The path of the first import whose channel the imported file doesn't have.
-    UnknownImport(Text),
-    /// The first name under which entries are laid over a feature, and that no feature has.
-    UnknownOverride(Text),
+    /// The files are read, and are joined into no manifest for the channel.
+    NotJoined(JoinRefusal),
 }
 
 /// Why `link` gives no manifest.

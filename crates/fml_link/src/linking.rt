@@ -7,12 +7,12 @@ ghost use Rattle.fml_imports.specs.Sound.{AreRead};
 ghost use Rattle.fml_imports.specs.WellFormed.{IsWellFormed};
 ghost use Rattle.fml_link.specs.Asked.{IsAskedFrom};
 ghost use Rattle.fml_link.specs.Laws.{LinksBack};
-ghost use Rattle.fml_link.specs.Linking.{join_refusal, linked, of_files};
+ghost use Rattle.fml_link.specs.Linking.{linked, of_files};
 ghost use Rattle.fml_link.specs.Outcome.{Gives};
 
 use crate::fault::{LinkFault, LinkRefusal};
 use crate::files::files_of;
-use fml_imports::{JoinFault, JoinRefusal, Linked, join};
+use fml_imports::{JoinFault, Linked, join};
 use fml_types::Manifest;
 use host_model::Shelf;
 use sequences::Sequence;
@@ -28,7 +28,7 @@ use std::alloc::Global;
 /// `BadShape`, or `TooManyFiles` where it brings the 65th name, or `ImportClash` where it includes
 /// or imports a file that is listed for another channel.
 ///
-/// Then the files are joined: `fml_imports::join` says how, and which refusals come of it.
+/// Then the files are joined: `fml_imports::join` says how, and for what that is refused (`NotJoined`).
 ///
 /// The manifest links back: a shelf on which a file is the text of its single file, as
 /// `fml_imports::single` gives it, links that file for the manifest's channel to an equal manifest,
@@ -68,21 +68,9 @@ fn joined(alloc: Global, files: Sequence<Linked>, channel: &str) -> Result<Manif
 {
     match join(alloc, files, channel) {
         Ok(manifest) => Ok(manifest),
-        Err(JoinFault::Refused(refusal)) => Err(LinkFault::Refused(refusal_of(refusal))),
+        Err(JoinFault::Refused(refusal)) => {
+            Err(LinkFault::Refused(LinkRefusal::NotJoined(refusal)))
+        }
         Err(JoinFault::OutOfMemory) => Err(LinkFault::OutOfMemory),
-    }
-}
-
-fn refusal_of(refusal: JoinRefusal) -> LinkRefusal
-    ensures { result ≡ join_refusal refusal }
-{
-    match refusal {
-        JoinRefusal::DuplicateName(name) => LinkRefusal::DuplicateName(name),
-        JoinRefusal::UnknownType(name) => LinkRefusal::UnknownType(name),
-        JoinRefusal::EndlessObject(name) => LinkRefusal::EndlessObject(name),
-        JoinRefusal::ObjectTooLarge(name) => LinkRefusal::ObjectTooLarge(name),
-        JoinRefusal::UnknownChannel => LinkRefusal::UnknownChannel,
-        JoinRefusal::UnknownImport(path) => LinkRefusal::UnknownImport(path),
-        JoinRefusal::UnknownOverride(name) => LinkRefusal::UnknownOverride(name),
     }
 }

@@ -1,4 +1,5 @@
 //! What linking refuses files for.
+use fml_imports::JoinRefusal;
 use fml_link::LinkRefusal;
 use row_tables::add_texts;
 use sequences::Text;
@@ -6,20 +7,6 @@ use std::alloc::AllocError;
 
 /// Adds the refusal's name and what it names.
 pub(crate) fn add_refusal(refusal: &LinkRefusal, found: &mut String) -> Result<(), AllocError> {
-    match refusal {
-        LinkRefusal::DuplicateName(name) => add_named("DuplicateName", name, found),
-        LinkRefusal::UnknownType(name) => add_named("UnknownType", name, found),
-        LinkRefusal::EndlessObject(name) => add_named("EndlessObject", name, found),
-        LinkRefusal::ObjectTooLarge(name) => add_named("ObjectTooLarge", name, found),
-        LinkRefusal::UnknownChannel => found.push_str("UnknownChannel"),
-        LinkRefusal::UnknownImport(path) => add_named("UnknownImport", path, found),
-        LinkRefusal::UnknownOverride(name) => add_named("UnknownOverride", name, found),
-        refusal => add_file_refusal(refusal, found),
-    }
-}
-
-// Adds what a file that is read is refused for.
-fn add_file_refusal(refusal: &LinkRefusal, found: &mut String) -> Result<(), AllocError> {
     match refusal {
         LinkRefusal::AbsentFile(name) => add_named("AbsentFile", name, found),
         LinkRefusal::FileTooLarge(name, length) => {
@@ -30,8 +17,22 @@ fn add_file_refusal(refusal: &LinkRefusal, found: &mut String) -> Result<(), All
         LinkRefusal::BadShape(name, path) => {
             add_texts(found, &["BadShape ", name.as_str(), " ", path.as_str()])
         }
+        LinkRefusal::TooManyFiles => found.push_str("TooManyFiles"),
         LinkRefusal::ImportClash(name) => add_named("ImportClash", name, found),
-        _ => found.push_str("TooManyFiles"),
+        LinkRefusal::NotJoined(refusal) => add_join_refusal(refusal, found),
+    }
+}
+
+// Adds what files that are read are refused for.
+fn add_join_refusal(refusal: &JoinRefusal, found: &mut String) -> Result<(), AllocError> {
+    match refusal {
+        JoinRefusal::DuplicateName(name) => add_named("DuplicateName", name, found),
+        JoinRefusal::UnknownType(name) => add_named("UnknownType", name, found),
+        JoinRefusal::EndlessObject(name) => add_named("EndlessObject", name, found),
+        JoinRefusal::ObjectTooLarge(name) => add_named("ObjectTooLarge", name, found),
+        JoinRefusal::UnknownChannel => found.push_str("UnknownChannel"),
+        JoinRefusal::UnknownImport(path) => add_named("UnknownImport", path, found),
+        JoinRefusal::UnknownOverride(name) => add_named("UnknownOverride", name, found),
     }
 }
 

@@ -18,7 +18,9 @@ use Rattle.fml_types.specs.declared.manifest.Manifest.{Manifest}
 use Rattle.fml_value.specs.Typed.{TypedValue}
 use Rattle.feature_serving.specs.Serving.{served}
 use Rattle.client_words.specs.declared.answer.Answer.{Answer}
-use Rattle.client_words.specs.declared.answer.Answer.TheVariants.{Okay, StateTooLarge}
+use Rattle.client_words.specs.declared.answer.Answer.TheVariants.{Okay}
+use Rattle.client_words.specs.declared.refusal.Refusal.{Refusal}
+use Rattle.client_words.specs.declared.refusal.Refusal.TheVariants.{StateTooLarge}
 use Rattle.client_words.specs.declared.command.Command.{Command}
 use Rattle.client_words.specs.declared.command.Command.TheVariants.{Fetch, Apply, Participate, OptOut, OptIn, Reset, Show, Feature, Event, Confirm, Bind, SetPreference, ClearPreference, WriteManifest}
 use Rattle.client_words.specs.declared.command.Command.TheVariants as commands
@@ -27,7 +29,7 @@ use Rattle.client_steps.specs.Fetching.{file_tree}
 use Rattle.client_steps.specs.Manifests.{manifest_of}
 use Rattle.client_steps.specs.Sessions.{with_manifest}
 use Rattle.client_steps.specs.Settings.{Setting}
-use Rattle.client_steps.specs.Steps.{OutcomeOver, EnrolmentOutcome, Outcome, Accepted, Refused, Step, whole, enrolling, seeing, counting, confirming, participation, opting_out, opting_in, resetting, showing, listing_changes, listing_preferences, fetching, context_read, reading_context, bindings_read, reading_bindings, preferring, setting_manifest, applying, valued, serving, writing_manifest, done, step}
+use Rattle.client_steps.specs.Steps.{OutcomeOver, EnrolmentOutcome, Outcome, Accepted, Refused, Step, whole, enrolling, seeing, counting, confirming, participation, opting_out, opting_in, resetting, showing, listing_changes, listing_preferences, fetching, context_read, reading_context, bindings_read, reading_bindings, preferring, setting_manifest, applying, valued, serving, writing_manifest, done, step, unchanged}
 use Rattle.client_words.specs.declared.line.LineFault.{LineFault}
 use Rattle.client_words.specs.Commands.{command_of}
 use Rattle.client_steps.proofs.EnrolmentOutcomes.{fetching_either, applying_either, opting_out_either, opting_in_either}
@@ -66,15 +68,15 @@ SetsOrStays at s session command m = Sets at s session command m ⊎ ((session.m
 module _ (at : Setting) (s : ClientState) (session : Session) where
   abbrev Keeps : {S : Type 0} → OutcomeOver S → Type 0
   Keeps (Accepted t next answer) = next.manifest ≡ session.manifest
-  Keeps (Refused answer) = Unit {0}
+  Keeps (Refused refusal) = Unit {0}
 
   done-keeps : (asked : Outcome) → Keeps asked → (done s session asked).session.manifest ≡ session.manifest
   done-keeps (Accepted t next answer) keeps = either_step (λ to. to.session.manifest ≡ session.manifest) (nat_lt max_size (length (encoding t))) _ _ refl keeps
-  done-keeps (Refused answer) keeps = refl
+  done-keeps (Refused refusal) keeps = refl
 
   whole-keeps : (counts : List NameCounts) (asked : EnrolmentOutcome) → Keeps asked → Keeps (whole s session counts asked)
   whole-keeps counts (Accepted e next answer) keeps = whole_either (λ (asked : Outcome). Keeps asked) s session counts e next answer tt (λ fits. keeps)
-  whole-keeps counts (Refused answer) keeps = tt
+  whole-keeps counts (Refused refusal) keeps = tt
 
   -- where the counts stay
   enrolling-keeps : (asked : EnrolmentOutcome) → Keeps asked → (done s session (enrolling s session asked)).session.manifest ≡ session.manifest
@@ -84,7 +86,7 @@ module _ (at : Setting) (s : ClientState) (session : Session) where
   context-keeps (Ok context) = refl
   context-keeps (Err key) = tt
 
-  file-keeps : (read : Result Json Answer) → Keeps (reading_context s session read)
+  file-keeps : (read : Result Json Refusal) → Keeps (reading_context s session read)
   file-keeps (Ok tree) = context-keeps (context_of tree)
   file-keeps (Err refusal) = tt
 
@@ -92,7 +94,7 @@ module _ (at : Setting) (s : ClientState) (session : Session) where
   bindings-keep (Ok bindings) = refl
   bindings-keep (Err feature) = tt
 
-  bind-keeps : (read : Result Json Answer) → Keeps (reading_bindings s session read)
+  bind-keeps : (read : Result Json Refusal) → Keeps (reading_bindings s session read)
   bind-keeps (Ok tree) = bindings-keep (bindings_of tree)
   bind-keeps (Err refusal) = tt
 
@@ -117,17 +119,17 @@ module _ (at : Setting) (s : ClientState) (session : Session) where
   stays command m other keeps is = inr (sym keeps ∙ is, λ that sets. other sets.file sets.channel sets.asked)
 
   -- what a `manifest` is answered whose files make this
-  abbrev answer_to : Result Manifest Answer → Answer
+  abbrev answer_to : Result Manifest Refusal → Answer
   answer_to read = (done s session (setting_manifest s session read)).answer
 
   -- it is done, unless the state is too large
   made : (m found : Manifest) (large : Bool)
-      → let to : Step = if large then record { state = s; session = session; answer = StateTooLarge (length (encoding s)) } else record { state = s; session = with_manifest session found; answer = Okay } in
+      → let to : Step = if large then unchanged s session (StateTooLarge (length (encoding s))) else record { state = s; session = with_manifest session found; answer = Okay } in
       to.session.manifest ≡ Some m → ((to.answer ≡ Okay) × (found ≡ m)) ⊎ ((session.manifest ≡ Some m) × (to.answer ≡ Okay → ⊥))
   made m found true is = inr (is, λ okay. absurd cc)
   made m found false is = inl (refl, some_one is)
 
-  manifest-sets : (file channel : List ℕ) (m : Manifest) (read : Result Manifest Answer) → manifest_of at.files file channel ≡ read
+  manifest-sets : (file channel : List ℕ) (m : Manifest) (read : Result Manifest Refusal) → manifest_of at.files file channel ≡ read
       → (done s session (setting_manifest s session read)).session.manifest ≡ Some m → SetsOrStays at s session (commands.Manifest file channel) m
   unfolding step
   manifest-sets file channel m (Ok found) makes is =
@@ -135,10 +137,10 @@ module _ (at : Setting) (s : ClientState) (session : Session) where
         file = file;
         channel = channel;
         asked = refl;
-        answer = subst (λ (read : Result Manifest Answer). answer_to read ≡ Okay) (sym makes) done_as.0;
+        answer = subst (λ (read : Result Manifest Refusal). answer_to read ≡ Okay) (sym makes) done_as.0;
         manifest = makes ∙ ap Ok done_as.1;
       }))
-      (λ refused. inr (refused.0, λ that sets. refused.1 (subst (λ (read : Result Manifest Answer). answer_to read ≡ Okay) makes sets.answer)))
+      (λ refused. inr (refused.0, λ that sets. refused.1 (subst (λ (read : Result Manifest Refusal). answer_to read ≡ Okay) makes sets.answer)))
       (made m found (nat_lt max_size (length (encoding s))) is)
   manifest-sets file channel m (Err refusal) makes is = inr (is, λ that sets. none that sets)
     where
@@ -153,17 +155,17 @@ module _ (at : Setting) (s : ClientState) (session : Session) where
   unfolding step
   sets_or_stays (commands.Manifest file channel) m is = manifest-sets file channel m (manifest_of at.files file channel) refl is
   sets_or_stays (commands.Context file) m is = stays (commands.Context file) m (λ f c e. cc) (done-keeps (reading_context s session (file_tree file (at.files file))) (file-keeps (file_tree file (at.files file)))) is
-  sets_or_stays (Fetch file) m is = stays (Fetch file) m (λ f c e. cc) (enrolling-keeps (fetching s.enrolment session (file_tree file (at.files file))) (fetching_either s.enrolment session (λ (asked : EnrolmentOutcome). Keeps asked) (λ answer. tt) (file_tree file (at.files file)) (λ tree found is loads. refl))) is
-  sets_or_stays Apply m is = stays Apply m (λ f c e. cc) (enrolling-keeps (applying at.now s.enrolment session session.manifest (seeing at.now s.events session.context)) (applying_either s.enrolment session (λ (asked : EnrolmentOutcome). Keeps asked) (λ answer. tt) at.now session.manifest (seeing at.now s.events session.context) (λ m c. refl))) is
+  sets_or_stays (Fetch file) m is = stays (Fetch file) m (λ f c e. cc) (enrolling-keeps (fetching s.enrolment session (file_tree file (at.files file))) (fetching_either s.enrolment session (λ (asked : EnrolmentOutcome). Keeps asked) (λ refusal. tt) (file_tree file (at.files file)) (λ tree found is loads. refl))) is
+  sets_or_stays Apply m is = stays Apply m (λ f c e. cc) (enrolling-keeps (applying at.now s.enrolment session session.manifest (seeing at.now s.events session.context)) (applying_either s.enrolment session (λ (asked : EnrolmentOutcome). Keeps asked) (λ refusal. tt) at.now session.manifest (seeing at.now s.events session.context) (λ m c. refl))) is
   sets_or_stays (Participate part on) m is = stays (Participate part on) m (λ f c e. cc) (enrolling-keeps (participation s.enrolment session part on) refl) is
-  sets_or_stays (OptOut slug) m is = stays (OptOut slug) m (λ f c e. cc) (enrolling-keeps (opting_out s.enrolment session slug) (opting_out_either s.enrolment session (λ (asked : EnrolmentOutcome). Keeps asked) (λ answer. tt) slug refl)) is
-  sets_or_stays (OptIn slug branch) m is = stays (OptIn slug branch) m (λ f c e. cc) (enrolling-keeps (opting_in s.enrolment session slug branch) (opting_in_either s.enrolment session (λ (asked : EnrolmentOutcome). Keeps asked) (λ answer. tt) slug branch refl)) is
+  sets_or_stays (OptOut slug) m is = stays (OptOut slug) m (λ f c e. cc) (enrolling-keeps (opting_out s.enrolment session slug) (opting_out_either s.enrolment session (λ (asked : EnrolmentOutcome). Keeps asked) (λ refusal. tt) slug refl)) is
+  sets_or_stays (OptIn slug branch) m is = stays (OptIn slug branch) m (λ f c e. cc) (enrolling-keeps (opting_in s.enrolment session slug branch) (opting_in_either s.enrolment session (λ (asked : EnrolmentOutcome). Keeps asked) (λ refusal. tt) slug branch refl)) is
   sets_or_stays (Reset id) m is = stays (Reset id) m (λ f c e. cc) (done-keeps (whole s session [] (resetting s.enrolment session id)) (whole-keeps [] (resetting s.enrolment session id) refl)) is
   sets_or_stays Show m is = stays Show m (λ f c e. cc) (done-keeps (showing s session) refl) is
   sets_or_stays (Feature name) m is = stays (Feature name) m (λ f c e. cc) (done-keeps (serving s session name session.manifest) (feature-keeps name session.manifest)) is
-  sets_or_stays (Event name count) m is = stays (Event name count) m (λ f c e. cc) (done-keeps (counting at.now s session name count) (counting_either at s session (λ (asked : Outcome). Keeps asked) (λ answer. tt) name count (λ room. refl))) is
+  sets_or_stays (Event name count) m is = stays (Event name count) m (λ f c e. cc) (done-keeps (counting at.now s session name count) (counting_either at s session (λ (asked : Outcome). Keeps asked) (λ refusal. tt) name count (λ room. refl))) is
   sets_or_stays commands.Changes m is = stays commands.Changes m (λ f c e. cc) (done-keeps (listing_changes s session) refl) is
-  sets_or_stays (Confirm number) m is = stays (Confirm number) m (λ f c e. cc) (done-keeps (confirming s session number) (confirming_either at s session (λ (asked : Outcome). Keeps asked) (λ answer. tt) number (λ known. refl))) is
+  sets_or_stays (Confirm number) m is = stays (Confirm number) m (λ f c e. cc) (done-keeps (confirming s session number) (confirming_either at s session (λ (asked : Outcome). Keeps asked) (λ refusal. tt) number (λ known. refl))) is
   sets_or_stays (Bind file) m is = stays (Bind file) m (λ f c e. cc) (done-keeps (reading_bindings s session (file_tree file (at.files file))) (bind-keeps (file_tree file (at.files file)))) is
   sets_or_stays (SetPreference name value) m is = stays (SetPreference name value) m (λ f c e. cc) (done-keeps (preferring s session name (Some value)) (preferring-keeps name (Some value))) is
   sets_or_stays (ClearPreference name) m is = stays (ClearPreference name) m (λ f c e. cc) (done-keeps (preferring s session name None) (preferring-keeps name None)) is

@@ -13,7 +13,8 @@ use Rattle.change_outbox.specs.Laws.{Action, Append, Confirm, AreAccepted, all_a
 use Rattle.change_outbox.specs.declared.change.Change.{Change}
 use Rattle.change_outbox.proofs.Histories.{kept}
 use Rattle.client_state.specs.declared.client_state.ClientState.{ClientState}
-use Rattle.client_words.specs.declared.answer.Answer.TheVariants.{Okay, NoSuchChange}
+use Rattle.client_words.specs.declared.answer.Answer.TheVariants.{Okay}
+use Rattle.client_words.specs.declared.refusal.Refusal.TheVariants.{NoSuchChange}
 use Rattle.client_words.specs.declared.command.Command.{Command}
 use Rattle.client_words.specs.declared.command.Command.TheVariants as commands
 use Rattle.client_words.specs.declared.line.LineFault.{LineFault}

@@ -6,8 +6,9 @@ use Rattle.json_tree.specs.Bytes.{text_of}
 use Rattle.json_tree.specs.Tree.{json_of}
 use Rattle.json_tree.specs.declared.tree.Tree.{Tree}
 use Rattle.client_words.specs.declared.answer.Answer.{Answer}
-use Rattle.client_words.specs.declared.answer.Answer.TheVariants.{Okay, Fetched, Applied, Value, Shown, Manifest, Changes, Preferences}
+use Rattle.client_words.specs.declared.answer.Answer.TheVariants.{Okay, Fetched, Applied, Value, Shown, Manifest, Changes, Preferences, Refused}
 use Rattle.client_words.specs.Answers.{answer_lines, change_line, changes_lines, fetched_lines, preference_line, preferences_lines, shown_lines}
+use Rattle.client_words.specs.Refusals.{refusal_lines}
 use Rattle.session_run.specs.Values.{value_line}
 use Rattle.session_run.specs.WrittenManifests.{manifest_line}
 
@@ -24,7 +25,7 @@ neither : {answer : Answer} (letter : ℕ) → (letter ≡ 118 → ⊥) → (let
 neither letter no_value no_manifest = (λ is. absurd (no_value is), λ is. absurd (no_manifest is))
 
 by_letter : (answer : Answer) → ByLetter answer (first (answer_lines answer))
-unfolding answer_lines fetched_lines shown_lines change_line changes_lines preference_line preferences_lines
+unfolding answer_lines fetched_lines shown_lines change_line changes_lines preference_line preferences_lines refusal_lines
 by_letter (Value tree) = (λ is. (tree, refl), λ is. absurd (omega (arith, is)))
 by_letter (Manifest tree) = (λ is. absurd (omega (arith, is)), λ is. (tree, refl))
 by_letter Okay = neither 111 (λ is. omega (arith, is)) (λ is. omega (arith, is))
@@ -35,7 +36,7 @@ by_letter (Changes []) = neither 101 (λ is. omega (arith, is)) (λ is. omega (a
 by_letter (Changes (change ∷ changes)) = neither 99 (λ is. omega (arith, is)) (λ is. omega (arith, is))
 by_letter (Preferences []) = neither 101 (λ is. omega (arith, is)) (λ is. omega (arith, is))
 by_letter (Preferences (preference ∷ preferences)) = neither 112 (λ is. omega (arith, is)) (λ is. omega (arith, is))
-by_letter refusal = neither 114 (λ is. omega (arith, is)) (λ is. omega (arith, is))
+by_letter (Refused refusal) = neither 114 (λ is. omega (arith, is)) (λ is. omega (arith, is))
 
 -- ---- the text
 

@@ -1,12 +1,8 @@
 -- The words of each status.
-use Rattle.std.proofs.Common.{◌≡◌, ◌++◌, List, ℕ, OnOk, string_bytes, codes, ◌∙◌, ap, sym, subst, append_assoc}
+use Rattle.std.proofs.Common.{◌≡◌, ◌++◌, List, ℕ, OnOk, string_bytes, codes, ◌∙◌, ap, sym, subst}
 use Rattle.client_words.specs.Answers.{disqualified_name, status_words}
+use Rattle.client_words.proofs.Pairs.{two_pairs}
 use Rattle.client_words.proofs.rows.push_status.Goals as goal
-
--- two pairs of words behind a text
-two_pairs : (old mid first second third fourth name words : List ℕ) → mid ≡ old ++ (first ++ second) → second ≡ name → (first ++ name) ++ (third ++ fourth) ≡ words → mid ++ (third ++ fourth) ≡ old ++ words
-two_pairs old mid first second third fourth name words placed named is =
-    ap (λ (u : List ℕ). u ++ (third ++ fourth)) (placed ∙ ap (λ (n : List ℕ). old ++ (first ++ n)) named) ∙ append_assoc old (first ++ name) (third ++ fourth) ∙ ap (λ (u : List ℕ). old ++ u) is
 
 pub returns-in-NotEnrolled : goal.returns-in-NotEnrolled
 returns-in-NotEnrolled c =

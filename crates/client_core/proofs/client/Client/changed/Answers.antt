@@ -4,7 +4,7 @@ use Rattle.std.specs.Prelude.{IfOk, if◌then◌else◌}
 use Rattle.client_state.specs.Changes.{state_after}
 use Rattle.client_state.specs.Following.{followed}
 use Rattle.client_state.specs.declared.client_state.ClientState.{ClientState}
-use Rattle.client_words.specs.declared.answer.Answer.TheVariants.{ChangesSpent}
+use Rattle.client_words.specs.declared.refusal.Refusal.TheVariants.{ChangesSpent}
 use Rattle.client_core.specs.declared.client.Client.{Client}
 use Rattle.client_core.specs.Clients.{state_of, session_of}
 use Rattle.client_core.specs.Prepared.{Leads}
