@@ -25,3 +25,4 @@ mod Trees
 mod SoundValues
 pub mod WrittenManifests
 pub mod AskedFiles
+mod TakingPart

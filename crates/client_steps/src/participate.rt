@@ -1,5 +1,7 @@
 // `participate`: the client takes part in experiments, in rollouts or in both, or leaves them.
-ghost use Rattle.std.specs.Prelude.{◌≡◌, IfOk};
+ghost use Rattle.std.specs.Prelude.{◌≡◌, ◌↔◌, true, IfOk, IsTrue};
+ghost use Rattle.enrol_states.specs.Commands.{after_participate};
+ghost use Rattle.sequences.specs.ListParts.{IsPart};
 ghost use Rattle.client_state.specs.Sound.{IsConsistent};
 ghost use Rattle.client_steps.specs.declared.session.Session.{Session};
 ghost use Rattle.client_steps.specs.Asked.{asked_outcome, FollowsFrom};
@@ -8,11 +10,11 @@ ghost use Rattle.client_steps.specs.Steps.{participation, enrolling};
 use crate::asked::Asked;
 use client_state::ClientState;
 use client_words::Answer;
-use enrol_states::{Kinds, participate};
-use state_codec::RecipeLists;
+use enrol_states::{Kinds, NextState, State, participate};
+use sequences::ListPart;
 use std::alloc::{AllocError, Global};
 
-/// What `participate` asks for.
+/// What `participate` asks for. Where the client already takes part, and is to, all stays as it is.
 pub fn participating(
     alloc: Global,
     state: &ClientState,
@@ -24,6 +26,38 @@ pub fn participating(
         ≡ enrolling state.now session (participation state.now.enrolment session kinds on)) }
     ensures follows { IfOk result (λ asked. FollowsFrom state.now asked) }
 {
+    if on && takes_part(&state.enrolment, kinds) {
+        return Ok(Asked::same(Answer::Okay));
+    }
     let next = participate(alloc, &state.enrolment, kinds, on)?;
-    Ok(Asked::enrolled(next, RecipeLists::AsBefore, Answer::Okay))
+    let rows = row_part(&state.enrolment, &next, on);
+    Ok(Asked::chosen(NextState {
+        state: next,
+        opted_out: ListPart::none(),
+        rows,
+    }))
+}
+
+// Whether the client already takes part in all recipes of these kinds.
+#[tactic(auto, using(crate::proofs::TakingPart::both_told, crate::proofs::TakingPart::experiments_told, crate::proofs::TakingPart::rollouts_told))]
+fn takes_part(enrolment: &State, kinds: Kinds) -> bool
+    ensures { IsTrue result ↔ (after_participate enrolment.now kinds true ≡ enrolment.now) }
+{
+    match kinds {
+        Kinds::Both => enrolment.experiments && enrolment.rollouts,
+        Kinds::Experiments => enrolment.experiments,
+        Kinds::Rollouts => enrolment.rollouts,
+    }
+}
+
+// The part of the rows that may differ: none where the client is to take part.
+fn row_part(old: &State, new: &State, on: bool) -> ListPart
+    requires { IsTrue on → new.now.rows ≡ old.now.rows }
+    ensures { IsPart result old.now.rows new.now.rows }
+{
+    if on {
+        ListPart::none()
+    } else {
+        ListPart::whole(old.rows.len(), new.rows.len())
+    }
 }
