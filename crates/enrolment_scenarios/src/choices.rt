@@ -1,18 +1,18 @@
-//! Rows on the commands over states with recipes.
-ghost use Rattle.std.specs.Prelude.{◌≡◌, ◌≤◌, IfOk};
+//! Rows on the commands over states with recipes. Lines have a comma between them, and each is a switch, `reset`, `out` or `end`
+//! and a slug, or a slug and a branch.
+ghost use Rattle.std.specs.Prelude.{◌≡◌, IfOk, OnOk};
 ghost use Rattle.enrol_states.specs.Consistent.{IsConsistent};
 
 use crate::inputs::{recipes, slug};
-use crate::shown::{list_parts_text, parts_text, state_text, status_text};
-use anyhow::{Context, Result, bail, ensure};
+use crate::shown::{add_list_parts, add_parts, add_state, add_status};
 use enrol_states::{
     Kinds, MAX_RECIPES, NextState, OptInFault, OptOutFault, State, end_enrolment, is_exclusive,
     opt_in, opt_out, participate, reset,
 };
-use plain_text::{Slug, read_number};
+use plain_text::Slug;
 use recipe_reader::Recipes;
-use row_tables::{cut, displayed, halves, word};
-use std::alloc::Global;
+use row_tables::{Fault, add_all_displayed, add_between, add_displayed, add_texts, cut, number};
+use std::alloc::{AllocError, Global};
 use uuid::Uuid;
 
 const NOW: u64 = 1_700_000_000;
@@ -28,80 +28,131 @@ const MESSAGING: &str = "{\"featureId\":\"messaging\",\"value\":{}}";
 const BOTH: &str =
     "{\"featureId\":\"homescreen\",\"value\":{}},{\"featureId\":\"messaging\",\"value\":{}}";
 
-// A recipe's record, with what stands for its kind and its features.
-fn record(alloc: Global, slug: &str, kind: &str, features: &str) -> Result<String> {
-    Ok(format!(in alloc;
-        "{{\"slug\":\"{slug}\",\"schemaVersion\":\"1.12.0\",\"isRollout\":{kind},\"bucketConfig\":{{\"randomizationUnit\":\"nimbus_id\",\"namespace\":\"ns\",\"start\":0,\"count\":10000,\"total\":10000}},\"branches\":[{{\"slug\":\"control\",\"ratio\":0,\"features\":[{features}]}},{{\"slug\":\"treatment\",\"ratio\":1,\"features\":[{features}]}}]}}"
-    )?)
-}
-
-// The state of a new store, with these recipes.
-pub(crate) fn with_recipes(alloc: Global, records: &str) -> Result<State>
-    ensures { IfOk result IsConsistent }
-{
-    let recipes = recipes(alloc, records)?;
-    ensure!(recipes.as_slice().len() <= MAX_RECIPES, "too many recipes");
-    let mut state = State::new(alloc, ID, NOW);
-    state.live = recipes;
-    Ok(state)
-}
-
-// Adds a recipe's record, behind a comma where it isn't the first.
-fn add_record(
+/// What is found of a client with recipes: of the kinds `choices`, `opt-outs`, `parts`, `changed`, `opt-in`, `status`,
+/// `reset` and `alone`.
+pub(crate) fn find_of_client(
     alloc: Global,
-    records: &mut String,
-    slug: &str,
     kind: &str,
-    features: &str,
-) -> Result<()> {
-    let record = record(alloc, slug, kind, features)?;
-    if !records.is_empty() {
-        records.push(',')?;
-    }
-    Ok(records.push_str(record.as_str())?)
+    input: &str,
+    found: &mut String,
+) -> Result<(), Fault> {
+    let mut state = client_for(alloc, kind)?;
+    let outcome = find_in(alloc, &mut state, kind, input, found);
+    drop(state);
+    outcome
 }
 
-// Alpha with both features, beta and delta with one each, and a rollout with both.
-fn rivals(alloc: Global) -> Result<State>
+fn find_in(
+    alloc: Global,
+    state: &mut State,
+    kind: &str,
+    input: &str,
+    found: &mut String,
+) -> Result<(), Fault>
+    requires { IsConsistent state.old }
+{
+    match kind {
+        "choices" => find_choices(alloc, state, input, found),
+        "opt-outs" => find_opt_outs(alloc, state, input, found),
+        "alone" => find_alone(alloc, state, input, found),
+        _ => find_after_lines(alloc, state, kind, input, found),
+    }
+}
+
+// The client of a new store: without recipes for `opt-outs`, with the one recipe alpha for `choices`, and else with four of
+// them.
+fn client_for(alloc: Global, kind: &str) -> Result<State, Fault>
     ensures { IfOk result IsConsistent }
 {
     let mut records = String::new(alloc);
-    add_record(alloc, &mut records, "alpha", "false", BOTH)?;
-    add_record(alloc, &mut records, "beta", "false", MESSAGING)?;
-    add_record(alloc, &mut records, "delta", "false", HOME)?;
-    add_record(alloc, &mut records, "aroll", "true", BOTH)?;
-    with_recipes(alloc, records.as_str())
-}
-
-fn chosen(alloc: Global, state: &mut State, name: &str, branch: &str) -> Result<NextState>
-    requires { IsConsistent state.old }
-    ensures { IfOk result (λ next. IsConsistent next.state) }
-{
-    let (name, branch) = (slug(alloc, name)?, slug(alloc, branch)?);
-    match opt_in(alloc, state, &name, &branch) {
-        Ok(next) => Ok(next),
-        Err(_) => bail!("the opt-in is refused"),
+    match kind {
+        "opt-outs" => {}
+        "choices" => add_record("alpha", "false", HOME, &mut records)?,
+        _ => add_rivals(&mut records)?,
     }
+    client_with(alloc, records.as_str())
 }
 
-fn without(alloc: Global, state: &mut State, name: &str) -> Result<NextState>
-    requires { IsConsistent state.old }
-    ensures same { state.new ≡ state.old }
-    ensures consistent { IfOk result (λ next. IsConsistent next.state) }
+// Adds the records of alpha with both features, beta and delta with one each, and a rollout with both.
+fn add_rivals(records: &mut String) -> Result<(), AllocError> {
+    add_record("alpha", "false", BOTH, records)?;
+    add_record("beta", "false", MESSAGING, records)?;
+    add_record("delta", "false", HOME, records)?;
+    add_record("aroll", "true", BOTH, records)
+}
+
+// Adds a recipe's record, with what stands for its kind and its features, behind a comma where it isn't the first.
+fn add_record(
+    slug: &str,
+    kind: &str,
+    features: &str,
+    records: &mut String,
+) -> Result<(), AllocError> {
+    add_between(records, ",")?;
+    add_texts(
+        records,
+        &[
+            r#"{"slug":""#,
+            slug,
+            r#"","schemaVersion":"1.12.0","isRollout":"#,
+            kind,
+            r#","bucketConfig":{"randomizationUnit":"nimbus_id","namespace":"ns","start":0,"count":10000,"total":10000},"branches":[{"slug":"control","ratio":0,"features":["#,
+            features,
+            r#"]},{"slug":"treatment","ratio":1,"features":["#,
+            features,
+            "]}]}",
+        ],
+    )
+}
+
+/// The client of a new store, with the recipes of these records.
+pub(crate) fn client_with(alloc: Global, records: &str) -> Result<State, Fault>
+    ensures { IfOk result IsConsistent }
 {
-    let name = slug(alloc, name)?;
-    match opt_out(alloc, state, &name) {
-        Ok(next) => Ok(next),
-        Err(_) => bail!("the opt-out is refused"),
+    let recipes = recipes(alloc, records)?;
+    if recipes.as_slice().len() > MAX_RECIPES {
+        drop(recipes);
+        return Err(Fault::NoRow);
     }
+    let mut state = State::new(alloc, ID, NOW);
+    drop(std::mem::replace(&mut state.live, recipes));
+    Ok(state)
 }
 
-fn ended(alloc: Global, state: &mut State, name: &str) -> Result<NextState>
+fn do_lines(alloc: Global, state: &mut State, lines: &str) -> Result<(), Fault>
     requires { IsConsistent state.old }
-    ensures { IfOk result (λ next. IsConsistent next.state) }
+    ensures { OnOk result (IsConsistent state.new) }
 {
-    let name = slug(alloc, name)?;
-    Ok(end_enrolment(state, &name)?)
+    for line in lines.split(',') {
+        do_line(alloc, state, line.trim())?;
+    }
+    Ok(())
+}
+
+fn do_line(alloc: Global, state: &mut State, line: &str) -> Result<(), Fault>
+    requires { IsConsistent state.old }
+    ensures { OnOk result (IsConsistent state.new) }
+{
+    if line.is_empty() {
+        return Ok(());
+    }
+    let next = after_line(alloc, state, line)?;
+    drop(std::mem::replace(state, next));
+    Ok(())
+}
+
+/// The state after a line.
+pub(crate) fn after_line(alloc: Global, state: &mut State, line: &str) -> Result<State, Fault>
+    requires { IsConsistent state.old }
+    ensures { IfOk result IsConsistent }
+{
+    if let Some((kinds, on)) = switch(line) {
+        return Ok(participate(alloc, state, kinds, on)?);
+    }
+    if line == "reset" {
+        return Ok(reset(alloc, state, OTHER_ID)?);
+    }
+    Ok(after_slug(alloc, state, line)?.state)
 }
 
 // Participation in a part is off or on: of one kind where the line names it, as in `rollouts off`.
@@ -117,220 +168,282 @@ fn switch(line: &str) -> Option<(Kinds, bool)> {
     }
 }
 
-// The state after a line of one slug: `out` or `end` and the slug, or the slug and a branch.
-fn of_slug(alloc: Global, state: &mut State, line: &str) -> Result<NextState>
+// What comes after a line of one slug: `out` or `end` and the slug, or the slug and a branch.
+fn after_slug(alloc: Global, state: &mut State, line: &str) -> Result<NextState, Fault>
     requires { IsConsistent state.old }
     ensures { IfOk result (λ next. IsConsistent next.state) }
 {
-    match line.split_once(' ') {
-        Some(("out", name)) => without(alloc, state, name),
-        Some(("end", name)) => ended(alloc, state, name),
-        Some((name, branch)) => chosen(alloc, state, name, branch),
-        None => bail!("no such line: {line}"),
+    let (first, second) = cut(line);
+    match first {
+        "out" => after_opt_out(alloc, state, second),
+        "end" => after_end(alloc, state, second),
+        _ => after_opt_in(alloc, state, first, second),
     }
 }
 
-// The state after a line: a switch, `reset`, or a line of one slug.
-pub(crate) fn step(alloc: Global, state: &mut State, line: &str) -> Result<State>
+fn after_opt_out(alloc: Global, state: &mut State, name: &str) -> Result<NextState, Fault>
     requires { IsConsistent state.old }
-    ensures { IfOk result IsConsistent }
+    ensures same { state.new ≡ state.old }
+    ensures consistent { IfOk result (λ next. IsConsistent next.state) }
 {
-    if let Some((part, on)) = switch(line) {
-        return Ok(participate(alloc, state, part, on)?);
-    }
-    if line == "reset" {
-        return Ok(reset(alloc, state, OTHER_ID)?);
-    }
-    Ok(of_slug(alloc, state, line)?.state)
+    let slug = slug(alloc, name)?;
+    opt_out(alloc, state, &slug).ok().ok_or(Fault::NoRow)
 }
 
-// The state after lines, between which there is a comma.
-fn run(alloc: Global, state: State, lines: &str) -> Result<State>
-    requires { IsConsistent state }
-    ensures { IfOk result IsConsistent }
+fn after_end(alloc: Global, state: &mut State, name: &str) -> Result<NextState, Fault>
+    requires { IsConsistent state.old }
+    ensures { IfOk result (λ next. IsConsistent next.state) }
 {
-    let mut state = state;
-    for line in lines.split(',') {
-        if !line.is_empty() {
-            state = step(alloc, &mut state, line.trim())?;
-        }
-    }
-    Ok(state)
+    let slug = slug(alloc, name)?;
+    end_enrolment(state, &slug).ok().ok_or(Fault::OutOfMemory)
 }
 
-/// The opt-outs and rows to which lines lead over the one recipe alpha. Row: the lines.
-pub(crate) fn shown_after(alloc: Global, input: &str) -> Result<String> {
-    let state = alpha_alone(alloc)?;
-    let state = run(alloc, state, input)?;
-    state_text(alloc, &state)
-}
-
-fn alpha_alone(alloc: Global) -> Result<State>
-    ensures { IfOk result IsConsistent }
+fn after_opt_in(
+    alloc: Global,
+    state: &mut State,
+    name: &str,
+    branch: &str,
+) -> Result<NextState, Fault>
+    requires { IsConsistent state.old }
+    ensures { IfOk result (λ next. IsConsistent next.state) }
 {
-    let record = record(alloc, "alpha", "false", HOME)?;
-    with_recipes(alloc, record.as_str())
+    let slug = slug(alloc, name)?;
+    after_opt_in_to(alloc, state, &slug, branch)
 }
 
-// The state after lines over four recipes.
-fn rivals_after(alloc: Global, lines: &str) -> Result<State>
-    ensures { IfOk result IsConsistent }
+fn after_opt_in_to(
+    alloc: Global,
+    state: &mut State,
+    name: &Slug,
+    branch: &str,
+) -> Result<NextState, Fault>
+    requires { IsConsistent state.old }
+    ensures { IfOk result (λ next. IsConsistent next.state) }
 {
-    let state = rivals(alloc)?;
-    run(alloc, state, lines)
+    let branch = slug(alloc, branch)?;
+    opt_in(alloc, state, name, &branch).ok().ok_or(Fault::NoRow)
 }
 
-/// What the client takes part in, the opt-outs and the rows to which lines lead over four recipes, of which aroll is a
-/// rollout. Row: the lines.
-pub(crate) fn parts_after(alloc: Global, input: &str) -> Result<String> {
-    let state = rivals_after(alloc, input)?;
-    parts_text(alloc, &state)
-}
-
-/// The parts of the opt-outs and of the rows that a line of one slug changes after lines over four recipes. Row: the lines, and
-/// the line.
-pub(crate) fn changed_parts(alloc: Global, input: &str) -> Result<String> {
-    let (lines, line) = halves(input)?;
-    let mut state = rivals_after(alloc, lines)?;
-    let next = of_slug(alloc, &mut state, line)?;
-    list_parts_text(alloc, next.opted_out, next.rows)
-}
-
-/// The answer to an opt-in after lines over four recipes. Row: the lines, a slug and a branch.
-pub(crate) fn opt_in_after(alloc: Global, input: &str) -> Result<String> {
-    let (lines, words) = halves(input)?;
-    let mut state = rivals_after(alloc, lines)?;
-    opt_in_answer(alloc, &mut state, words)
-}
-
-// The answer to an opt-in to a slug and a branch.
-fn opt_in_answer(alloc: Global, state: &mut State, words: &str) -> Result<String>
+// The opt-outs and rows to which lines lead over the one recipe alpha. Row: the lines.
+fn find_choices(
+    alloc: Global,
+    state: &mut State,
+    lines: &str,
+    found: &mut String,
+) -> Result<(), Fault>
     requires { IsConsistent state.old }
 {
-    let (name, branch) = cut(words);
-    let (name, branch) = (slug(alloc, name)?, slug(alloc, branch)?);
-    answer_text(alloc, state, &name, &branch)
+    do_lines(alloc, state, lines)?;
+    Ok(add_state(state, found)?)
 }
 
-// The answer to an opt-in, in words.
-fn answer_text(alloc: Global, state: &mut State, slug: &Slug, branch: &Slug) -> Result<String>
+// What is found after lines over four recipes, of which aroll is a rollout. Row: the lines, and behind ` | ` what is asked. Of
+// the kind `parts` it is what the client takes part in, the opt-outs and the rows; of `changed` the parts of these two that a
+// line of one slug changes; of `reset` what a reset leaves.
+fn find_after_lines(
+    alloc: Global,
+    state: &mut State,
+    kind: &str,
+    input: &str,
+    found: &mut String,
+) -> Result<(), Fault>
     requires { IsConsistent state.old }
 {
-    match opt_in(alloc, state, slug, branch) {
-        Ok(_) => word(alloc, "ok"),
-        Err(fault) => fault_text(alloc, &fault),
+    let (lines, asked) = input.split_once(" | ").unwrap_or((input, ""));
+    do_lines(alloc, state, lines)?;
+    match kind {
+        "parts" => Ok(add_parts(state, found)?),
+        "changed" => find_changed(alloc, state, asked, found),
+        "opt-in" => find_opt_in(alloc, state, asked, found),
+        "status" => find_status(state, asked, found),
+        "reset" => Ok(add_client(state, found)?),
+        _ => Err(Fault::NoRow),
     }
 }
 
-fn fault_text(alloc: Global, fault: &OptInFault) -> Result<String> {
+// Adds the parts of the opt-outs and of the rows that a line of one slug changes.
+fn find_changed(
+    alloc: Global,
+    state: &mut State,
+    line: &str,
+    found: &mut String,
+) -> Result<(), Fault>
+    requires { IsConsistent state.old }
+{
+    let next = after_slug(alloc, state, line)?;
+    let (opted_out, rows) = (next.opted_out, next.rows);
+    drop(next);
+    Ok(add_list_parts(opted_out, rows, found)?)
+}
+
+// Adds the answer to an opt-in to a slug and a branch.
+fn find_opt_in(
+    alloc: Global,
+    state: &mut State,
+    asked: &str,
+    found: &mut String,
+) -> Result<(), Fault>
+    requires { IsConsistent state.old }
+{
+    let (name, branch) = cut(asked);
+    let slug = slug(alloc, name)?;
+    find_opt_in_to(alloc, state, &slug, branch, found)
+}
+
+fn find_opt_in_to(
+    alloc: Global,
+    state: &mut State,
+    name: &Slug,
+    branch: &str,
+    found: &mut String,
+) -> Result<(), Fault>
+    requires { IsConsistent state.old }
+{
+    let branch = slug(alloc, branch)?;
+    match opt_in(alloc, state, name, &branch).err() {
+        Some(fault) => Ok(add_fault(&fault, found)?),
+        None => Ok(found.push_str("ok")?),
+    }
+}
+
+fn add_fault(fault: &OptInFault, found: &mut String) -> Result<(), AllocError> {
     match fault {
+        OptInFault::NotParticipating => found.push_str("NotParticipating"),
+        OptInFault::NoSuchExperiment => found.push_str("NoSuchExperiment"),
+        OptInFault::NoSuchBranch => found.push_str("NoSuchBranch"),
         OptInFault::FeatureTaken(holder, feature) => {
-            Ok(format!(in alloc; "FeatureTaken {} {}", holder.text(), feature.as_str())?)
+            add_texts(
+                found,
+                &["FeatureTaken ", holder.text(), " ", feature.as_str()],
+            )
         }
-        fault => word(alloc, name_of(fault)),
+        OptInFault::OutOfMemory => found.push_str("OutOfMemory"),
     }
 }
 
-fn name_of(fault: &OptInFault) -> &'static str {
-    match fault {
-        OptInFault::NotParticipating => "NotParticipating",
-        OptInFault::NoSuchExperiment => "NoSuchExperiment",
-        OptInFault::NoSuchBranch => "NoSuchBranch",
-        OptInFault::FeatureTaken(_, _) => "FeatureTaken",
-        OptInFault::OutOfMemory => "OutOfMemory",
-    }
-}
-
-/// What a state says of a slug after lines over four recipes. Row: the lines, and the slug.
-pub(crate) fn status_after(alloc: Global, input: &str) -> Result<String> {
-    let (lines, name) = halves(input)?;
-    let state = rivals_after(alloc, lines)?;
+// Adds what a state says of a slug.
+fn find_status(state: &State, name: &str, found: &mut String) -> Result<(), Fault>
+    requires { IsConsistent state.now }
+{
     match state.status_of(name) {
-        Some(status) => status_text(alloc, status),
-        None => word(alloc, "nothing"),
+        Some(status) => Ok(add_status(status, found)?),
+        None => Ok(found.push_str("nothing")?),
     }
 }
 
-/// What a reset leaves of the client after lines over four recipes: its id, the moments of install and update, whether
-/// it takes part in experiments and in rollouts, the number of live recipes, whether any are pending, and whether its
-/// copy is the same. Row: the lines.
-pub(crate) fn reset_after(alloc: Global, input: &str) -> Result<String> {
-    let state = rivals_after(alloc, input)?;
-    let is_same = is_copied(&state)?;
-    client_text(alloc, &state, is_same)
+// Adds whether a client has the other id, the moments of install and update, whether it takes part in experiments and in
+// rollouts, the number of live recipes, whether any are pending, and whether its copy is the same.
+fn add_client(state: &State, found: &mut String) -> Result<(), AllocError> {
+    let is_same = is_copied(state)?;
+    add_displayed(found, &(state.id == OTHER_ID))?;
+    found.push_str(" ")?;
+    add_all_displayed(found, &[state.installed, state.updated])?;
+    found.push_str(" ")?;
+    add_all_displayed(found, &[state.experiments, state.rollouts])?;
+    found.push_str(" ")?;
+    add_displayed(found, &state.live.as_slice().len())?;
+    found.push_str(" ")?;
+    add_all_displayed(found, &[state.pending.is_some(), is_same])
 }
 
-fn is_copied(state: &State) -> Result<bool> {
-    Ok(state.clone()? == *state)
+fn is_copied(state: &State) -> Result<bool, AllocError> {
+    let copy = state.clone()?;
+    let is_same = copy == *state;
+    drop(copy);
+    Ok(is_same)
 }
 
-fn client_text(alloc: Global, state: &State, is_same: bool) -> Result<String> {
-    let has_other_id = state.id == OTHER_ID;
-    let (count, is_pending) = (state.live.as_slice().len(), state.pending.is_some());
-    Ok(format!(in alloc;
-        "{has_other_id} {} {} {} {} {count} {is_pending} {is_same}",
-        state.installed, state.updated, state.experiments, state.rollouts
-    )?)
-}
-
-/// Whether one opt-out more is refused after so many, whether its slug is opted out then, and whether one that is made
-/// again changes nothing. Row: the number, and the slug of the one that is made again.
-pub(crate) fn opt_outs(alloc: Global, input: &str) -> Result<String> {
-    let (number, again) = cut(input);
-    let count = read_number(number.as_bytes()).context("no number")?;
-    let mut state = opted_out_of(alloc, count)?;
-    let is_limit = is_at_limit(alloc, &mut state)?;
-    let stays = stays_opted_out(alloc, &mut state, again)?;
-    let is_in = state.is_opted_out("one-more");
-    Ok(format!(in alloc; "{is_limit} {is_in} {stays}")?)
-}
-
-fn is_at_limit(alloc: Global, state: &mut State) -> Result<bool>
+// Whether one opt-out more is refused after so many, whether its slug is opted out then, and whether one that is made
+// again changes nothing. Row: the number, and the slug of the one that is made again.
+fn find_opt_outs(
+    alloc: Global,
+    state: &mut State,
+    input: &str,
+    found: &mut String,
+) -> Result<(), Fault>
     requires { IsConsistent state.old }
-    ensures { state.new ≡ state.old }
 {
-    let name = slug(alloc, "one-more")?;
-    let more = opt_out(alloc, state, &name);
-    Ok(matches!(more, Err(OptOutFault::OptedOutLimit)))
+    let (count, again) = cut(input);
+    let count = number(count).ok_or(Fault::NoRow)?;
+    opt_out_of_all(alloc, state, count)?;
+    add_opt_outs(alloc, state, again, found)
 }
 
-fn stays_opted_out(alloc: Global, state: &mut State, name: &str) -> Result<bool>
+fn opt_out_of_all(alloc: Global, state: &mut State, count: u64) -> Result<(), Fault>
     requires { IsConsistent state.old }
-    ensures { state.new ≡ state.old }
+    ensures { OnOk result (IsConsistent state.new) }
 {
-    let next = without(alloc, state, name)?.state;
-    Ok(next.is_opted_out(name) && next == *state)
-}
-
-// The state of a new store after as many opt-outs.
-fn opted_out_of(alloc: Global, count: u64) -> Result<State>
-    ensures { IfOk result IsConsistent }
-{
-    let mut state = State::new(alloc, ID, NOW);
     for number in 0..count {
-        let name = format!(in alloc; "slug-{number}")?;
-        state = without(alloc, &mut state, name.as_str())?.state;
+        opt_out_of_one(alloc, state, number)?;
     }
-    Ok(state)
+    Ok(())
 }
 
-/// Whether features are left to one recipe of a kind where the client is enrolled in the experiment delta, which has the
-/// home screen, and in beta. Row: whether beta is a rollout, and its feature.
-pub(crate) fn leaves_alone(alloc: Global, input: &str) -> Result<String> {
-    let (kind, feature) = cut(input);
-    let mut state = rivals_after(alloc, "beta control,delta control")?;
-    state.live = beta_and_delta(alloc, kind, feature)?;
-    displayed(alloc, &is_exclusive(alloc, &state)?)
+fn opt_out_of_one(alloc: Global, state: &mut State, number: u64) -> Result<(), Fault>
+    requires { IsConsistent state.old }
+    ensures { OnOk result (IsConsistent state.new) }
+{
+    let line = format!(in alloc; "out slug-{number}")?;
+    do_line(alloc, state, line.as_str())
 }
 
-fn beta_and_delta(alloc: Global, kind: &str, feature: &str) -> Result<Recipes> {
-    let feature = if feature == "homescreen" {
-        HOME
-    } else {
-        MESSAGING
+fn add_opt_outs(
+    alloc: Global,
+    state: &mut State,
+    again: &str,
+    found: &mut String,
+) -> Result<(), Fault>
+    requires { IsConsistent state.old }
+{
+    let is_limit = is_at_limit(alloc, state)?;
+    let is_in = state.is_opted_out("one-more");
+    let stays = stays_opted_out(alloc, state, again)?;
+    Ok(add_all_displayed(found, &[is_limit, is_in, stays])?)
+}
+
+fn is_at_limit(alloc: Global, state: &mut State) -> Result<bool, Fault>
+    requires { IsConsistent state.old }
+    ensures { state.new ≡ state.old }
+{
+    let slug = slug(alloc, "one-more")?;
+    let fault = opt_out(alloc, state, &slug).err();
+    Ok(fault == Some(OptOutFault::OptedOutLimit))
+}
+
+fn stays_opted_out(alloc: Global, state: &mut State, name: &str) -> Result<bool, Fault>
+    requires { IsConsistent state.old }
+{
+    let next = after_opt_out(alloc, state, name)?;
+    let stays = next.state.is_opted_out(name) && next.state == *state;
+    drop(next);
+    Ok(stays)
+}
+
+// Whether features are left to one recipe of a kind where the client is enrolled in the experiment delta, which has the
+// home screen, and in beta. Row: whether beta is a rollout, and its feature.
+fn find_alone(
+    alloc: Global,
+    state: &mut State,
+    input: &str,
+    found: &mut String,
+) -> Result<(), Fault>
+    requires { IsConsistent state.old }
+{
+    do_lines(alloc, state, "beta control,delta control")?;
+    let recipes = beta_and_delta(alloc, input)?;
+    drop(std::mem::replace(&mut state.live, recipes));
+    let is_alone = is_exclusive(alloc, state)?;
+    Ok(add_displayed(found, &is_alone)?)
+}
+
+fn beta_and_delta(alloc: Global, text: &str) -> Result<Recipes, Fault> {
+    let (kind, feature) = cut(text);
+    let feature = match feature {
+        "homescreen" => HOME,
+        _ => MESSAGING,
     };
     let mut records = String::new(alloc);
-    add_record(alloc, &mut records, "beta", kind, feature)?;
-    add_record(alloc, &mut records, "delta", "false", HOME)?;
+    add_record("beta", kind, feature, &mut records)?;
+    add_record("delta", "false", HOME, &mut records)?;
     recipes(alloc, records.as_str())
 }

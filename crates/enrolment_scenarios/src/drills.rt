@@ -2,69 +2,79 @@
 ghost use Rattle.std.specs.Prelude.{◌≤◌};
 
 use crate::inputs::slug;
-use crate::shown::one_line;
-use anyhow::{Context, Result, bail, ensure};
-use enrol_states::{
-    DisqualifiedReason, EnrolledReason, ErrorCause, NotEnrolledReason, Row, State, Status,
-};
-use plain_text::read_number;
+use crate::shown::add_lines;
+use crate::statuses::status;
+use enrol_states::{Row, State};
 use recipe_drill::{Drill, MAX_RECIPES, summary};
-use row_tables::{cut, displayed};
+use row_tables::{Fault, add_displayed, count, cut, number};
+use sequences::SharedList;
 use std::alloc::Global;
 use std::str::from_utf8;
 use uuid::Uuid;
 
-// The drill from 7 on.
-fn drill(alloc: Global, count: u32) -> Result<Drill> {
-    ensure!(1 <= count && count <= MAX_RECIPES, "a count out of range");
-    Ok(Drill::new(alloc, 7, count)?)
-}
-
 /// The length of the recipes of the drill from 7 on, and their last bytes. Row: the number of recipes and of bytes.
-pub(crate) fn recipes_of(alloc: Global, input: &str) -> Result<String> {
-    let (count, length) = cut(input);
-    let count = u32::try_from(number(count)?)?;
-    let length = number(length)?;
-    let drill = drill(alloc, count)?;
-    end_text(alloc, drill.recipes.as_slice(), length)
+pub(crate) fn find_recipes(alloc: Global, input: &str, found: &mut String) -> Result<(), Fault> {
+    let (number, length) = cut(input);
+    let length = count(length).ok_or(Fault::NoRow)?;
+    let drill = drill(alloc, number)?;
+    add_end(drill.recipes.as_slice(), length, found)
 }
 
-// The number of bytes, and so many of the last ones.
-fn end_text(alloc: Global, bytes: &[u8], length: usize) -> Result<String> {
-    let end = from_utf8(last(bytes, length))?;
-    Ok(format!(in alloc; "{} {end}", bytes.len())?)
+// The drill from 7 on with so many recipes.
+fn drill(alloc: Global, recipes: &str) -> Result<Drill, Fault> {
+    match number(recipes).and_then(|number| u32::try_from(number).ok()) {
+        Some(count) if 1 <= count && count <= MAX_RECIPES => Ok(Drill::new(alloc, 7, count)?),
+        _ => Err(Fault::NoRow),
+    }
+}
+
+// Adds the number of bytes, and so many of the last ones.
+fn add_end(bytes: &[u8], length: usize, found: &mut String) -> Result<(), Fault> {
+    add_displayed(found, &bytes.len())?;
+    found.push_str(" ")?;
+    match from_utf8(last(bytes, length)) {
+        Ok(end) => Ok(found.push_str(end)?),
+        Err(_) => Err(Fault::NoRow),
+    }
 }
 
 /// A part of the drill from 7 on with one recipe: of the manifest its length, its first bytes or its last ones. Row: the
 /// name of the part, and of these the number of bytes.
-pub(crate) fn part_of(alloc: Global, input: &str) -> Result<String> {
-    let drill = drill(alloc, 1)?;
+pub(crate) fn find_part(alloc: Global, input: &str, found: &mut String) -> Result<(), Fault> {
+    let drill = drill(alloc, "1")?;
+    add_part(&drill, input, found)
+}
+
+fn add_part(drill: &Drill, input: &str, found: &mut String) -> Result<(), Fault> {
     let (part, length) = cut(input);
     match part {
-        "id" => one_line(alloc, drill.id.as_str()),
-        "script" => text_of(alloc, drill.script.as_slice()),
-        "context" => text_of(alloc, drill.context.as_slice()),
-        _ => part_of_manifest(alloc, drill.manifest.as_slice(), part, length),
+        "id" => add_text(drill.id.as_str().as_bytes(), found),
+        "script" => add_text(drill.script.as_slice(), found),
+        "context" => add_text(drill.context.as_slice(), found),
+        _ => add_part_of_manifest(drill.manifest.as_slice(), part, length, found),
     }
 }
 
-fn part_of_manifest(alloc: Global, manifest: &[u8], part: &str, length: &str) -> Result<String> {
-    match part {
-        "length" => displayed(alloc, &manifest.len()),
-        "first" => text_of(alloc, first(manifest, number(length)?)),
-        "last" => text_of(alloc, last(manifest, number(length)?)),
-        _ => bail!("no part: {part}"),
+fn add_part_of_manifest(
+    manifest: &[u8],
+    part: &str,
+    length: &str,
+    found: &mut String,
+) -> Result<(), Fault> {
+    match (part, count(length)) {
+        ("length", _) => Ok(add_displayed(found, &manifest.len())?),
+        ("first", Some(length)) => add_text(first(manifest, length), found),
+        ("last", Some(length)) => add_text(last(manifest, length), found),
+        _ => Err(Fault::NoRow),
     }
 }
 
-// The lines of these bytes in one.
-fn text_of(alloc: Global, bytes: &[u8]) -> Result<String> {
-    one_line(alloc, from_utf8(bytes)?)
-}
-
-fn number(text: &str) -> Result<usize> {
-    let number = read_number(text.as_bytes()).context("no number")?;
-    Ok(usize::try_from(number)?)
+// Adds the lines of these bytes in one.
+fn add_text(bytes: &[u8], found: &mut String) -> Result<(), Fault> {
+    match from_utf8(bytes) {
+        Ok(text) => Ok(add_lines(text, found)?),
+        Err(_) => Err(Fault::NoRow),
+    }
 }
 
 fn first(bytes: &[u8], length: usize) -> &[u8] {
@@ -76,43 +86,46 @@ fn last(bytes: &[u8], length: usize) -> &[u8] {
 }
 
 /// The summary of a state of 20 rows. Row: a letter for each row, which begins the name of its status; `F` is an error.
-pub(crate) fn summary_of(alloc: Global, input: &str) -> Result<String> {
-    let state = state_of(alloc, input)?;
-    let summary = summary(alloc, u64::MAX, 20, &state)?;
-    one_line(alloc, summary.as_str())
-}
-
-// A state whose rows have these statuses.
-fn state_of(alloc: Global, letters: &str) -> Result<State> {
+pub(crate) fn find_summary(alloc: Global, input: &str, found: &mut String) -> Result<(), Fault> {
     let mut state = State::new(alloc, Uuid::nil(), 0);
+    let outcome = find_summary_of(alloc, &mut state, input, found);
+    drop(state);
+    outcome
+}
+
+fn find_summary_of(
+    alloc: Global,
+    state: &mut State,
+    letters: &str,
+    found: &mut String,
+) -> Result<(), Fault> {
+    add_rows(alloc, letters, &mut state.rows)?;
+    let summary = summary(alloc, u64::MAX, 20, state)?;
+    Ok(add_lines(summary.as_str(), found)?)
+}
+
+// Adds a row for each letter.
+fn add_rows(alloc: Global, letters: &str, rows: &mut SharedList<Row>) -> Result<(), Fault> {
     for letter in letters.as_bytes() {
-        state.rows.push(row(alloc, *letter)?)?;
+        rows.push(row(alloc, *letter)?)?;
     }
-    Ok(state)
+    Ok(())
 }
 
-fn row(alloc: Global, letter: u8) -> Result<Row> {
-    let (slug, status) = (slug(alloc, "drill-0000")?, status(alloc, letter)?);
-    Ok(Row { slug, status })
-}
-
-fn status(alloc: Global, letter: u8) -> Result<Status> {
-    let branch = slug(alloc, "treatment")?;
-    Ok(match letter {
-        b'E' => Status::Enrolled {
-            reason: EnrolledReason::Qualified,
-            branch,
-        },
-        b'N' => Status::NotEnrolled {
-            reason: NotEnrolledReason::NotSelected,
-        },
-        b'D' => Status::Disqualified {
-            reason: DisqualifiedReason::OptOut,
-            branch,
-        },
-        b'W' => Status::WasEnrolled { branch, ended: 5 },
-        _ => Status::Error {
-            cause: ErrorCause::Faulted,
-        },
+fn row(alloc: Global, letter: u8) -> Result<Row, Fault> {
+    let slug = slug(alloc, "drill-0000")?;
+    Ok(Row {
+        slug,
+        status: status(alloc, status_text(letter))?,
     })
+}
+
+fn status_text(letter: u8) -> &'static str {
+    match letter {
+        b'E' => "Enrolled treatment",
+        b'N' => "NotEnrolled",
+        b'D' => "Disqualified OptOut treatment",
+        b'W' => "WasEnrolled treatment",
+        _ => "Error",
+    }
 }

@@ -1,64 +1,66 @@
 //! Rows on points, buckets and branches.
 ghost use Rattle.std.specs.Prelude.{◌<◌, ◌^◌, IfOk};
 
-use anyhow::{Context, Result, ensure};
-use plain_text::read_number;
-use row_tables::{cut, displayed};
+use row_tables::{Fault, add_displayed, cut, number};
 use sampling::{choose_branch, in_bucket, point};
-use std::alloc::Global;
 
 // The end of the points.
 const END: u64 = 1 << 48;
 
 /// A text's point. Row: the text.
-pub(crate) fn point_of(alloc: Global, input: &str) -> Result<String> {
-    displayed(alloc, &point(input.as_bytes()))
+pub(crate) fn find_point(input: &str, found: &mut String) -> Result<(), Fault> {
+    Ok(add_displayed(found, &point(input.as_bytes()))?)
 }
 
 /// Whether a point is in a range of buckets. Row: the point, the first bucket, how many there are in the range and in
 /// all.
-pub(crate) fn is_in_bucket(alloc: Global, input: &str) -> Result<String> {
-    let (at, rest) = cut(input);
-    let (start, rest) = cut(rest);
-    let (count, total) = cut(rest);
-    let total = small_number(total)?;
-    ensure!(total > 0, "no bucket");
-    let is_in = in_bucket(
-        point_at(at)?,
-        small_number(start)?,
-        small_number(count)?,
-        total,
-    );
-    displayed(alloc, &is_in)
+pub(crate) fn find_bucket(input: &str, found: &mut String) -> Result<(), Fault> {
+    let (at, numbers) = cut(input);
+    let point = point_at(at)?;
+    let [start, count, total] = three_numbers(numbers)?;
+    if total == 0 {
+        return Err(Fault::NoRow);
+    }
+    let is_in = in_bucket(point, start, count, total);
+    Ok(add_displayed(found, &is_in)?)
 }
 
-/// The number of a point's branch. Row: the point, and the ratios.
-pub(crate) fn branch_of(alloc: Global, input: &str) -> Result<String> {
+/// The number of a point's branch. Row: the point, and two or three ratios.
+pub(crate) fn find_branch(input: &str, found: &mut String) -> Result<(), Fault> {
     let (at, ratios) = cut(input);
-    let (first, rest) = cut(ratios);
-    let (second, third) = cut(rest);
-    let ratios = [
-        small_number(first)?,
-        small_number(second)?,
-        if third.is_empty() {
-            0
-        } else {
-            small_number(third)?
-        },
-    ];
-    ensure!(ratios[0] > 0 || ratios[1] > 0, "no branch");
-    displayed(alloc, &choose_branch(point_at(at)?, &ratios))
+    let point = point_at(at)?;
+    let ratios = three_numbers(ratios)?;
+    if ratios[0] == 0 && ratios[1] == 0 {
+        return Err(Fault::NoRow);
+    }
+    let place = choose_branch(point, &ratios);
+    Ok(add_displayed(found, &place)?)
 }
 
-fn point_at(text: &str) -> Result<u64>
+fn point_at(text: &str) -> Result<u64, Fault>
     ensures { IfOk result (λ n. n < 2 ^ 48) }
 {
-    let number = read_number(text.as_bytes()).context("no number")?;
-    ensure!(number < END, "no point");
-    Ok(number)
+    match number(text) {
+        Some(number) if number < END => Ok(number),
+        _ => Err(Fault::NoRow),
+    }
 }
 
-fn small_number(text: &str) -> Result<u32> {
-    let number = read_number(text.as_bytes()).context("no number")?;
-    Ok(u32::try_from(number)?)
+// The numbers of three words, of which one that isn't there is 0.
+fn three_numbers(text: &str) -> Result<[u32; 3], Fault> {
+    let (first, rest) = cut(text);
+    let (second, third) = cut(rest);
+    Ok([
+        small_number(first)?,
+        small_number(second)?,
+        small_number(third)?,
+    ])
+}
+
+fn small_number(text: &str) -> Result<u32, Fault> {
+    if text.is_empty() {
+        return Ok(0);
+    }
+    let number = number(text).ok_or(Fault::NoRow)?;
+    u32::try_from(number).ok().ok_or(Fault::NoRow)
 }

@@ -1,15 +1,11 @@
 //! Rows on what follows from a verdict, and on what stays without a live recipe.
 use crate::inputs::{recipe, slug};
-use crate::shown::status_text;
-use anyhow::{Context, Result, bail};
-use enrol_states::{
-    DisqualifiedReason, EnrolledReason, ErrorCause, NotEnrolledReason, Outcome, Status, Verdict,
-    candidate, ended,
-};
-use plain_text::read_number;
+use crate::shown::add_status;
+use crate::statuses::status;
+use enrol_states::{ErrorCause, Outcome, Status, Verdict, candidate, ended};
 use recipe_reader::Recipe;
-use row_tables::{cut, halves, word};
-use std::alloc::Global;
+use row_tables::{Fault, cut, number, parts};
+use std::alloc::{AllocError, Global};
 
 // An experiment with the branches `control` and `treatment`.
 const EXPERIMENT: &str =
@@ -21,49 +17,89 @@ const ROLLOUT: &str =
 
 /// What follows from a verdict on an experiment, or on a rollout where `rollout` is given. Row: the
 /// status before, or `none`, and the verdict.
-pub(crate) fn outcome_of(alloc: Global, given: &str, input: &str) -> Result<String> {
+pub(crate) fn find_outcome(
+    alloc: Global,
+    given: &str,
+    input: &str,
+    found: &mut String,
+) -> Result<(), Fault> {
     let record = if given == "rollout" {
         ROLLOUT
     } else {
         EXPERIMENT
     };
-    let (old, verdict) = halves(input)?;
-    let old = old_status(alloc, old)?;
-    let verdict = verdict_of(alloc, verdict)?;
     let recipe = recipe(alloc, record)?;
-    next(alloc, old.as_ref(), &verdict, &recipe)
+    let outcome = find_outcome_of(alloc, &recipe, input, found);
+    drop(recipe);
+    outcome
 }
 
-// What follows, but for a pause where the client is enrolled.
-fn next(alloc: Global, old: Option<&Status>, verdict: &Verdict, recipe: &Recipe) -> Result<String> {
+fn find_outcome_of(
+    alloc: Global,
+    recipe: &Recipe,
+    input: &str,
+    found: &mut String,
+) -> Result<(), Fault> {
+    let (old, verdict) = parts(input)?;
+    let verdict = verdict_of(alloc, verdict)?;
+    find_next(alloc, old, &verdict, recipe, found)
+}
+
+fn find_next(
+    alloc: Global,
+    old: &str,
+    verdict: &Verdict,
+    recipe: &Recipe,
+    found: &mut String,
+) -> Result<(), Fault> {
+    if old == "none" {
+        return Ok(add_next(alloc, None, verdict, recipe, found)?);
+    }
+    let old = status(alloc, old)?;
+    Ok(add_next(alloc, Some(&old), verdict, recipe, found)?)
+}
+
+// Adds what follows, but for a pause where the client is enrolled.
+fn add_next(
+    alloc: Global,
+    old: Option<&Status>,
+    verdict: &Verdict,
+    recipe: &Recipe,
+    found: &mut String,
+) -> Result<(), AllocError> {
     match (old, verdict) {
-        (Some(Status::Enrolled { .. }), Verdict::EnrollmentsPaused) => { word(alloc, "never") }
-        _ => outcome_text(alloc, &candidate(alloc, old, verdict, recipe)?),
+        (Some(Status::Enrolled { .. }), Verdict::EnrollmentsPaused) => found.push_str("never"),
+        _ => add_outcome(&candidate(alloc, old, verdict, recipe)?, found),
     }
 }
 
-fn outcome_text(alloc: Global, outcome: &Outcome) -> Result<String> {
+fn add_outcome(outcome: &Outcome, found: &mut String) -> Result<(), AllocError> {
     match outcome {
-        Outcome::Keep(status) => status_text(alloc, status),
+        Outcome::Keep(status) => add_status(status, found),
         Outcome::Wish { won, lost } => {
-            let (won, lost) = (status_text(alloc, won)?, status_text(alloc, lost)?);
-            Ok(format!(in alloc; "{won}, or {lost}")?)
+            add_status(won, found)?;
+            found.push_str(", or ")?;
+            add_status(lost, found)
         }
     }
 }
 
 /// What stays of a status without a live recipe. Row: a moment, and the status.
-pub(crate) fn end_of(alloc: Global, input: &str) -> Result<String> {
-    let (now, status) = cut(input);
-    let now = read_number(now.as_bytes()).context("no moment")?;
-    let old = old_status(alloc, status)?.context("no status")?;
-    match ended(alloc, &old, now)? {
-        Some(status) => status_text(alloc, &status),
-        None => word(alloc, "dropped"),
+pub(crate) fn find_end(alloc: Global, input: &str, found: &mut String) -> Result<(), Fault> {
+    let (now, text) = cut(input);
+    let now = number(now).ok_or(Fault::NoRow)?;
+    let old = status(alloc, text)?;
+    Ok(add_end(alloc, &old, now, found)?)
+}
+
+fn add_end(alloc: Global, old: &Status, now: u64, found: &mut String) -> Result<(), AllocError> {
+    match ended(alloc, old, now)? {
+        Some(status) => add_status(&status, found),
+        None => found.push_str("dropped"),
     }
 }
 
-fn verdict_of(alloc: Global, text: &str) -> Result<Verdict> {
+fn verdict_of(alloc: Global, text: &str) -> Result<Verdict, Fault> {
     match plain_verdict(text) {
         Some(verdict) => Ok(verdict),
         None => Ok(Verdict::Qualified(slug(alloc, text)?)),
@@ -85,58 +121,4 @@ fn plain_verdict(text: &str) -> Option<Verdict> {
         "NoUnit" => Some(Verdict::Failed(ErrorCause::NoUnit)),
         _ => None,
     }
-}
-
-// A status of each kind. Why a client isn't enrolled, and what can't be judged, don't matter.
-fn old_status(alloc: Global, text: &str) -> Result<Option<Status>> {
-    let (word, rest) = cut(text);
-    if word == "none" {
-        return Ok(None);
-    }
-    Ok(Some(match word {
-        "NotEnrolled" => Status::NotEnrolled {
-            reason: NotEnrolledReason::NotSelected,
-        },
-        "Error" => Status::Error {
-            cause: ErrorCause::NoUnit,
-        },
-        "Disqualified" => old_disqualification(alloc, rest)?,
-        _ => old_enrolment(alloc, word, rest)?,
-    }))
-}
-
-fn old_enrolment(alloc: Global, word: &str, branch: &str) -> Result<Status> {
-    let branch = slug(alloc, branch)?;
-    Ok(match word {
-        "Enrolled" => Status::Enrolled {
-            reason: EnrolledReason::Qualified,
-            branch,
-        },
-        "OptedIn" => Status::Enrolled {
-            reason: EnrolledReason::OptIn,
-            branch,
-        },
-        "WasEnrolled" => Status::WasEnrolled { branch, ended: 5 },
-        _ => bail!("no status: {word}"),
-    })
-}
-
-// A reason, and the branch.
-fn old_disqualification(alloc: Global, text: &str) -> Result<Status> {
-    let (reason, branch) = cut(text);
-    Ok(Status::Disqualified {
-        reason: disqualified_reason(reason)?,
-        branch: slug(alloc, branch)?,
-    })
-}
-
-fn disqualified_reason(text: &str) -> Result<DisqualifiedReason> {
-    Ok(match text {
-        "Error" => DisqualifiedReason::Error,
-        "FeatureConflict" => DisqualifiedReason::FeatureConflict,
-        "NotSelected" => DisqualifiedReason::NotSelected,
-        "NotTargeted" => DisqualifiedReason::NotTargeted,
-        "OptOut" => DisqualifiedReason::OptOut,
-        _ => bail!("no reason: {text}"),
-    })
 }

@@ -1,12 +1,13 @@
 //! Rows on the verdict on a recipe, of which the client has a row or none.
-ghost use Rattle.std.specs.Prelude.{IfOk};
+ghost use Rattle.std.specs.Prelude.{◌≡◌, ◌++◌, ◌∷◌, [], IfOk, IsTrue, OnOk};
 ghost use Rattle.enrol_states.specs.Consistent.{IsConsistent};
-ghost use Rattle.jexl_transforms.specs.Table.{HasStandardNames};
+ghost use Rattle.jexl_transforms.specs.Answering.{AnswersAs};
+ghost use Rattle.jexl_transforms.specs.Meaning.{is_standard};
+ghost use Rattle.jexl_transforms.specs.Table.{HasStandardNames, names_of};
 ghost use Rattle.recipe_reader.specs.Records.{IsValid};
 
 use crate::choices;
 use crate::inputs::{recipe, tree};
-use anyhow::{Result, bail};
 use app_context::{Context, read_context};
 use enrol_evolver::{evolve, verdict};
 use enrol_states::{State, Verdict};
@@ -16,9 +17,9 @@ use jexl_transforms::{
 };
 use jexl_value::{Attributes, Value};
 use recipe_reader::Recipe;
-use row_tables::{debugged, halves, word};
+use row_tables::{Fault, add_debugged, add_texts, cut, parts};
 use sequences::Sequence;
-use std::alloc::Global;
+use std::alloc::{AllocError, Global};
 
 const NOW: u64 = 1_700_000_000;
 
@@ -29,121 +30,218 @@ const CONTEXT: &str =
 /// The verdict on a recipe. Given: what is sampled, and the first and the number of the buckets that may enrol, of
 /// 10,000. Row: what the record has besides, and what the client did before with the recipe that has nothing besides:
 /// `apply`, or a line of the rows on choices.
-pub(crate) fn verdict_on(alloc: Global, given: &str, input: &str) -> Result<String> {
-    let version: Transform = Box::new(
-        alloc,
-        |attributes: &Attributes, subject: &Value, arguments: &[Value]| {
-            version_transform(attributes, subject, arguments)
-        },
-    )?;
-    let date: Transform = Box::new(
-        alloc,
-        |attributes: &Attributes, subject: &Value, arguments: &[Value]| {
-            date_transform(attributes, subject, arguments)
-        },
-    )?;
-    let bucket: Transform = Box::new(
-        alloc,
-        move |attributes: &Attributes, subject: &Value, arguments: &[Value]| {
-            bucket_transform(alloc, attributes, subject, arguments)
-        },
-    )?;
-    let sum: Transform = Box::new(
-        alloc,
-        |attributes: &Attributes, subject: &Value, arguments: &[Value]| {
-            event_sum_transform(attributes, subject, arguments)
-        },
-    )?;
-    let nonzero: Transform = Box::new(
-        alloc,
-        |attributes: &Attributes, subject: &Value, arguments: &[Value]| {
-            event_nonzero_transform(attributes, subject, arguments)
-        },
-    )?;
-    let seen: Transform = Box::new(
-        alloc,
-        |attributes: &Attributes, subject: &Value, arguments: &[Value]| {
-            event_seen_transform(attributes, subject, arguments)
-        },
-    )?;
+pub(crate) fn find_verdict(
+    alloc: Global,
+    given: &str,
+    input: &str,
+    found: &mut String,
+) -> Result<(), Fault> {
+    let (Ok(version), Ok(date), Ok(bucket), Ok(sum), Ok(nonzero), Ok(seen)) = (
+        Box::new(
+            alloc,
+            |attributes: &Attributes, subject: &Value, arguments: &[Value]| {
+                version_transform(attributes, subject, arguments)
+            },
+        ),
+        Box::new(
+            alloc,
+            |attributes: &Attributes, subject: &Value, arguments: &[Value]| {
+                date_transform(attributes, subject, arguments)
+            },
+        ),
+        Box::new(
+            alloc,
+            move |attributes: &Attributes, subject: &Value, arguments: &[Value]| {
+                bucket_transform(alloc, attributes, subject, arguments)
+            },
+        ),
+        Box::new(
+            alloc,
+            |attributes: &Attributes, subject: &Value, arguments: &[Value]| {
+                event_sum_transform(attributes, subject, arguments)
+            },
+        ),
+        Box::new(
+            alloc,
+            |attributes: &Attributes, subject: &Value, arguments: &[Value]| {
+                event_nonzero_transform(attributes, subject, arguments)
+            },
+        ),
+        Box::new(
+            alloc,
+            |attributes: &Attributes, subject: &Value, arguments: &[Value]| {
+                event_seen_transform(attributes, subject, arguments)
+            },
+        ),
+    ) else {
+        return Err(Fault::OutOfMemory);
+    };
     let mut table = TransformTable::new(alloc);
     let (Ok(()), Ok(()), Ok(()), Ok(()), Ok(()), Ok(())) = (
-        table.push(alloc, "versionCompare", version),
-        table.push(alloc, "date", date),
-        table.push(alloc, "bucketSample", bucket),
-        table.push(alloc, "eventSum", sum),
-        table.push(alloc, "eventCountNonZero", nonzero),
-        table.push(alloc, "eventLastSeen", seen),
+        put(alloc, &mut table, "versionCompare", version),
+        put(alloc, &mut table, "date", date),
+        put(alloc, &mut table, "bucketSample", bucket),
+        put(alloc, &mut table, "eventSum", sum),
+        put(alloc, &mut table, "eventCountNonZero", nonzero),
+        put(alloc, &mut table, "eventLastSeen", seen),
     ) else {
-        bail!("no table");
+        return Err(Fault::OutOfMemory);
     };
-    judged(alloc, &table, given, input)
+    find_verdict_by(alloc, &table, given, input, found)
 }
 
-fn judged(alloc: Global, table: &TransformTable, given: &str, input: &str) -> Result<String>
+// Puts a transform of a standard name at the end of a table.
+fn put(
+    alloc: Global,
+    table: &mut TransformTable,
+    name: &str,
+    transform: Transform,
+) -> Result<(), Fault>
+    requires standard { IsTrue (is_standard name.now) }
+    requires callable { Transform.IsAlwaysCallable transform }
+    requires answers { AnswersAs name.now (Transform.post transform) }
+    ensures { OnOk result (names_of table.new ≡ names_of table.old ++ name.now ∷ []) }
+{
+    table
+        .push(alloc, name, transform)
+        .ok()
+        .ok_or(Fault::OutOfMemory)
+}
+
+fn find_verdict_by(
+    alloc: Global,
+    table: &TransformTable,
+    given: &str,
+    input: &str,
+    found: &mut String,
+) -> Result<(), Fault>
     requires { HasStandardNames table.now }
 {
-    let (members, lines) = halves(input)?;
-    let recipe = recipe_with(alloc, given, members)?;
-    let context = context(alloc)?;
-    let state = client_after(alloc, table, &context, given, lines)?;
-    let verdict = verdict(alloc, &recipe, &state, &context, table, NOW)?;
-    verdict_text(alloc, &verdict)
+    let mut state = client(alloc, given)?;
+    let outcome = find_verdict_in(alloc, table, &mut state, given, input, found);
+    drop(state);
+    outcome
 }
 
-fn context(alloc: Global) -> Result<Context> {
-    let read = read_context(alloc, &tree(alloc, CONTEXT)?);
-    match read {
-        Ok(context) => Ok(context),
-        Err(_) => bail!("no context"),
-    }
-}
-
-fn record(alloc: Global, given: &str, members: &str) -> Result<String> {
-    let mut words = given.split(' ');
-    let (Some(unit), Some(start), Some(count)) = (words.next(), words.next(), words.next()) else {
-        bail!("no buckets: {given}");
-    };
-    Ok(format!(in alloc;
-        "{{\"slug\":\"alpha\",\"schemaVersion\":\"1.12.0\",\"bucketConfig\":{{\"randomizationUnit\":\"{unit}\",\"namespace\":\"ns\",\"start\":{start},\"count\":{count},\"total\":10000}},\"branches\":[{{\"slug\":\"control\",\"ratio\":0}},{{\"slug\":\"treatment\",\"ratio\":1}}]{members}}}"
-    )?)
-}
-
-fn recipe_with(alloc: Global, given: &str, members: &str) -> Result<Recipe>
-    ensures { IfOk result IsValid }
+// The client of a new store, with the recipe that has nothing besides.
+fn client(alloc: Global, given: &str) -> Result<State, Fault>
+    ensures { IfOk result IsConsistent }
 {
-    let record = record(alloc, given, members)?;
-    recipe(alloc, record.as_str())
+    let mut record = String::new(alloc);
+    add_record(given, "", &mut record)?;
+    choices::client_with(alloc, record.as_str())
 }
 
-// The client after lines, between which there is a comma.
-fn client_after(
+fn find_verdict_in(
+    alloc: Global,
+    table: &TransformTable,
+    state: &mut State,
+    given: &str,
+    input: &str,
+    found: &mut String,
+) -> Result<(), Fault>
+    requires table { HasStandardNames table.now }
+    requires consistent { IsConsistent state.old }
+{
+    let context = context(alloc)?;
+    find_verdict_after(alloc, table, &context, state, given, input, found)
+}
+
+fn context(alloc: Global) -> Result<Context, Fault> {
+    let tree = tree(alloc, CONTEXT)?;
+    read_context(alloc, &tree).ok().ok_or(Fault::NoRow)
+}
+
+fn find_verdict_after(
     alloc: Global,
     table: &TransformTable,
     context: &Context,
+    state: &mut State,
     given: &str,
-    lines: &str,
-) -> Result<State>
-    requires { HasStandardNames table.now }
-    ensures { IfOk result IsConsistent }
+    input: &str,
+    found: &mut String,
+) -> Result<(), Fault>
+    requires table { HasStandardNames table.now }
+    requires consistent { IsConsistent state.old }
 {
-    let record = record(alloc, given, "")?;
-    let mut state = choices::with_recipes(alloc, record.as_str())?;
-    for line in lines.split(',') {
-        if !line.is_empty() {
-            state = client_step(alloc, table, context, &mut state, line.trim())?;
-        }
-    }
-    Ok(state)
+    let (members, lines) = parts(input)?;
+    do_lines(alloc, table, context, state, lines)?;
+    let recipe = recipe_with(alloc, given, members)?;
+    let outcome = add_verdict_on(alloc, table, context, state, &recipe, found);
+    drop(recipe);
+    outcome
 }
 
-fn client_step(
+fn recipe_with(alloc: Global, given: &str, members: &str) -> Result<Recipe, Fault>
+    ensures { IfOk result IsValid }
+{
+    let mut record = String::new(alloc);
+    add_record(given, members, &mut record)?;
+    recipe(alloc, record.as_str())
+}
+
+fn add_record(given: &str, members: &str, record: &mut String) -> Result<(), AllocError> {
+    let (unit, rest) = cut(given);
+    let (start, count) = cut(rest);
+    add_texts(
+        record,
+        &[
+            r#"{"slug":"alpha","schemaVersion":"1.12.0","bucketConfig":{"randomizationUnit":""#,
+            unit,
+            r#"","namespace":"ns","start":"#,
+            start,
+            r#","count":"#,
+            count,
+            r#","total":10000},"branches":[{"slug":"control","ratio":0},{"slug":"treatment","ratio":1}]"#,
+            members,
+            "}",
+        ],
+    )
+}
+
+fn do_lines(
+    alloc: Global,
+    table: &TransformTable,
+    context: &Context,
+    state: &mut State,
+    lines: &str,
+) -> Result<(), Fault>
+    requires consistent { IsConsistent state.old }
+    requires table { HasStandardNames table.now }
+    ensures { OnOk result (IsConsistent state.new) }
+{
+    for line in lines.split(',') {
+        do_line(alloc, table, context, state, line.trim())?;
+    }
+    Ok(())
+}
+
+fn do_line(
     alloc: Global,
     table: &TransformTable,
     context: &Context,
     state: &mut State,
     line: &str,
-) -> Result<State>
+) -> Result<(), Fault>
+    requires consistent { IsConsistent state.old }
+    requires table { HasStandardNames table.now }
+    ensures { OnOk result (IsConsistent state.new) }
+{
+    if line.is_empty() {
+        return Ok(());
+    }
+    let next = after_line(alloc, table, context, state, line)?;
+    drop(std::mem::replace(state, next));
+    Ok(())
+}
+
+fn after_line(
+    alloc: Global,
+    table: &TransformTable,
+    context: &Context,
+    state: &mut State,
+    line: &str,
+) -> Result<State, Fault>
     requires consistent { IsConsistent state.old }
     requires table { HasStandardNames table.now }
     ensures { IfOk result IsConsistent }
@@ -151,18 +249,34 @@ fn client_step(
     if line == "apply" {
         return Ok(evolve(alloc, state, context, Sequence::new(alloc), table, NOW)?);
     }
-    choices::step(alloc, state, line)
+    choices::after_line(alloc, state, line)
 }
 
-fn verdict_text(alloc: Global, verdict: &Verdict) -> Result<String> {
+fn add_verdict_on(
+    alloc: Global,
+    table: &TransformTable,
+    context: &Context,
+    state: &State,
+    recipe: &Recipe,
+    found: &mut String,
+) -> Result<(), Fault>
+    requires table { HasStandardNames table.now }
+    requires consistent { IsConsistent state.now }
+    requires valid { IsValid recipe.now }
+{
+    let verdict = verdict(alloc, recipe, state, context, table, NOW)?;
+    Ok(add_verdict(&verdict, found)?)
+}
+
+fn add_verdict(verdict: &Verdict, found: &mut String) -> Result<(), AllocError> {
     match verdict {
-        Verdict::DifferentAppName => word(alloc, "DifferentAppName"),
-        Verdict::DifferentChannel => word(alloc, "DifferentChannel"),
-        Verdict::OptOut => word(alloc, "OptOut"),
-        Verdict::EnrollmentsPaused => word(alloc, "EnrollmentsPaused"),
-        Verdict::NotTargeted => word(alloc, "NotTargeted"),
-        Verdict::NotSelected => word(alloc, "NotSelected"),
-        Verdict::Failed(cause) => debugged(alloc, cause),
-        Verdict::Qualified(branch) => word(alloc, branch.text()),
+        Verdict::DifferentAppName => found.push_str("DifferentAppName"),
+        Verdict::DifferentChannel => found.push_str("DifferentChannel"),
+        Verdict::OptOut => found.push_str("OptOut"),
+        Verdict::EnrollmentsPaused => found.push_str("EnrollmentsPaused"),
+        Verdict::NotTargeted => found.push_str("NotTargeted"),
+        Verdict::NotSelected => found.push_str("NotSelected"),
+        Verdict::Failed(cause) => add_debugged(found, cause),
+        Verdict::Qualified(branch) => found.push_str(branch.text()),
     }
 }

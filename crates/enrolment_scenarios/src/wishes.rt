@@ -1,81 +1,116 @@
 //! Rows on conflicts: which wishes are granted, where recipes of one kind share features.
+ghost use Rattle.enrol_conflicts.specs.Settlement.{HaveOwnSlugs};
+
 use crate::inputs::slug;
-use anyhow::{Result, bail, ensure};
 use enrol_conflicts::{Candidate, settle, slugs_rise};
 use recipe_reader::Kind;
-use row_tables::cut;
+use row_tables::{Fault, add_texts, cut};
 use sequences::{Sequence, Text};
 use std::alloc::{AllocError, Global};
 
 /// The slugs of the wishes that are granted, each with a comma before it, over the names of coenrolling features. Row:
 /// the wishes with `, ` between them, each a slug, `experiment` or `rollout`, the features with `+` between them, `in`
 /// or `out` as the client was enrolled or not, and the moment of publishing or `none`.
-pub(crate) fn granted(alloc: Global, coenrolling: &str, input: &str) -> Result<String> {
-    let wishes = wishes(alloc, input)?;
-    ensure!(slugs_rise(&wishes), "slugs in disorder");
-    let coenrolling = texts(alloc, coenrolling)?;
-    let granted = settle(alloc, &wishes, coenrolling.as_slice())?;
-    Ok(slugs_of(alloc, &wishes, granted.as_slice())?)
+pub(crate) fn find_granted(
+    alloc: Global,
+    coenrolling: &str,
+    input: &str,
+    found: &mut String,
+) -> Result<(), Fault> {
+    let mut wishes = Vec::new(alloc);
+    add_wishes(alloc, input, &mut wishes)?;
+    find_granted_of(alloc, &wishes, coenrolling, found)
 }
 
-// The slugs of the wishes that are granted, each with a comma before it.
-fn slugs_of(alloc: Global, wishes: &[Candidate], granted: &[bool]) -> Result<String, AllocError> {
-    let mut line = String::new(alloc);
+fn find_granted_of(
+    alloc: Global,
+    wishes: &[Candidate],
+    coenrolling: &str,
+    found: &mut String,
+) -> Result<(), Fault> {
+    if !slugs_rise(wishes) {
+        return Err(Fault::NoRow);
+    }
+    let coenrolling = texts(alloc, coenrolling)?;
+    Ok(add_granted(alloc, wishes, coenrolling.as_slice(), found)?)
+}
+
+fn add_granted(
+    alloc: Global,
+    wishes: &[Candidate],
+    coenrolling: &[Text],
+    found: &mut String,
+) -> Result<(), AllocError>
+    requires { HaveOwnSlugs wishes.now }
+{
+    let granted = settle(alloc, wishes, coenrolling)?;
+    add_slugs(wishes, granted.as_slice(), found)
+}
+
+// Adds the slugs of the wishes that are granted, each with a comma before it.
+fn add_slugs(wishes: &[Candidate], granted: &[bool], found: &mut String) -> Result<(), AllocError> {
     for (wish, is_granted) in wishes.iter().zip(granted) {
         if *is_granted {
-            line.push_str(", ")?;
-            line.push_str(wish.slug.text())?;
+            add_texts(found, &[", ", wish.slug.text()])?;
         }
     }
-    Ok(line)
+    Ok(())
 }
 
-fn wishes(alloc: Global, input: &str) -> Result<Vec<Candidate>> {
-    let mut wishes = Vec::new(alloc);
-    for text in input.split(',') {
-        wishes.push(wish(alloc, text.trim())?)?;
+fn add_wishes(alloc: Global, input: &str, wishes: &mut Vec<Candidate>) -> Result<(), Fault> {
+    for text in input.split(", ") {
+        wishes.push(wish(alloc, text)?)?;
     }
-    Ok(wishes)
+    Ok(())
 }
 
-fn wish(alloc: Global, text: &str) -> Result<Candidate> {
+fn wish(alloc: Global, text: &str) -> Result<Candidate, Fault> {
     let (name, rest) = cut(text);
     let (kind, rest) = cut(rest);
     let (features, rest) = cut(rest);
     let (enrolled, published) = cut(rest);
-    let (kind, published) = (kind_of(kind)?, moment_of(published)?);
+    let kind = kind_of(kind)?;
+    let published = moment_of(published)?;
+    let features = texts(alloc, features)?;
     Ok(Candidate {
         slug: slug(alloc, name)?,
         kind,
-        features: texts(alloc, features)?,
+        features,
         was_enrolled: enrolled == "in",
         published,
     })
 }
 
-fn kind_of(text: &str) -> Result<Kind> {
+fn kind_of(text: &str) -> Result<Kind, Fault> {
     match text {
         "experiment" => Ok(Kind::Experiment),
         "rollout" => Ok(Kind::Rollout),
-        _ => bail!("no kind: {text}"),
+        _ => Err(Fault::NoRow),
     }
 }
 
-fn moment_of(text: &str) -> Result<Option<i64>> {
-    match text {
-        "none" => Ok(None),
-        number => Ok(Some(number.parse::<i64>()?)),
+fn moment_of(text: &str) -> Result<Option<i64>, Fault> {
+    if text == "none" {
+        return Ok(None);
+    }
+    match text.parse::<i64>() {
+        Ok(moment) => Ok(Some(moment)),
+        Err(_) => Err(Fault::NoRow),
     }
 }
 
 // The texts between which there is a `+`.
-fn texts(alloc: Global, names: &str) -> Result<Sequence<Text>> {
+fn texts(alloc: Global, names: &str) -> Result<Sequence<Text>, Fault> {
     let mut texts = Sequence::new(alloc);
-    if names.is_empty() {
-        return Ok(texts);
-    }
-    for name in names.split('+') {
-        texts.push(Text::new(alloc, name)?)?;
-    }
+    add_names(alloc, names, &mut texts)?;
     Ok(texts)
+}
+
+fn add_names(alloc: Global, names: &str, texts: &mut Sequence<Text>) -> Result<(), AllocError> {
+    for name in names.split('+') {
+        if !name.is_empty() {
+            texts.push(Text::new(alloc, name)?)?;
+        }
+    }
+    Ok(())
 }

@@ -14,15 +14,12 @@
 //! Any other line is no row, and counts as one that differs.
 #![tactic(auto)]
 
-mod answers;
 mod cutting;
 mod fault;
 mod judging;
 mod line;
 mod pieces;
-mod tables;
 
-pub use answers::{debugged, displayed, halves, word};
 pub use cutting::{
     add_all_displayed, add_between, add_bytes, add_debugged, add_displayed, add_none, add_texts,
     byte, count, cut, number, parts,
@@ -30,4 +27,3 @@ pub use cutting::{
 pub use fault::Fault;
 pub use judging::{Kinds, Question, report_on};
 pub use pieces::Piece;
-pub use tables::{Row, Tables};
