@@ -13,7 +13,8 @@ use Rattle.client_state.specs.Following.{changes_from, followed, spends}
 use Rattle.client_state.specs.Sound.{IsConsistent}
 use Rattle.client_state.specs.declared.client_state.ClientState.{ClientState}
 use Rattle.client_state.specs.declared.state_change.StateChange.{StateChange}
-use Rattle.client_words.specs.declared.answer.Answer.TheVariants.{ChangesSpent, Okay}
+use Rattle.client_words.specs.declared.answer.Answer.TheVariants.{Okay}
+use Rattle.client_words.specs.declared.refusal.Refusal.TheVariants.{ChangesSpent}
 use Rattle.state_codec.specs.declared.recipe_lists.RecipeLists.TheVariants.{AsBefore}
 use Rattle.client_steps.proofs.Outboxes.{no_changes_from}
 use Rattle.client_steps.specs.Steps.{Accepted, Refused, enrolling}
