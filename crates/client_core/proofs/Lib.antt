@@ -1,3 +1,4 @@
 pub mod Preferring
 pub mod Asking
 pub mod Holding
+mod Typing

@@ -1,5 +1,5 @@
 // A step is prepared: its new state, the changed rows and its answer are built before the first write.
-ghost use Rattle.std.specs.Prelude.{◌≡◌, ◌≤◌, List, ℕ, Option, None, IfOk, IsErrOf, IsTrue, false, length};
+ghost use Rattle.std.specs.Prelude.{◌≡◌, ◌≤◌, ◌<◌, List, ℕ, Option, None, IfOk, IfErr, IsErrOf, IsTrue, false, length};
 ghost use Rattle.host_model.specs.Causes.{Rose};
 ghost use Rattle.enrol_states.specs.State.{last_moment};
 ghost use Rattle.jexl_transforms.specs.Table.{HasStandardNames};
@@ -7,6 +7,7 @@ ghost use Rattle.client_state.specs.Changes.{state_after, IsChangeOf, IsWholeCha
 ghost use Rattle.client_state.specs.Following.{followed, spends};
 ghost use Rattle.client_state.specs.Sound.{max_size};
 ghost use Rattle.client_state.specs.Encoding.{encoding};
+ghost use Rattle.client_store.specs.Changes.{changed, IsChange};
 ghost use Rattle.client_words.specs.Commands.{IsCommand};
 ghost use Rattle.client_steps.specs.Asked.{asked_outcome, answer_for, changed_outcome, FollowsFrom, IsAnswerOrRefused};
 ghost use Rattle.client_steps.specs.Commands.{names_file, HasAsked};
@@ -24,6 +25,7 @@ use client_steps::{
     listing_preferences, participating, reading_bindings, reading_context, resetting, serving,
     setting_manifest, showing, writing_manifest,
 };
+use client_store::Change;
 use client_words::{Answer, Command, Refusal};
 use host_model::Shelf;
 use jexl_transforms::TransformTable;
@@ -223,9 +225,9 @@ impl Client {
         ensures step { IfOk result (λ prepared. Leads self.new prepared (done (state_of self.old) (session_of self.old) (Accepted (state_after change.now (state_of self.old)) (session_of self.old) answer))) }
         ensures answer { IfOk result (λ prepared. IsAnswerOrRefused answer (answer_in prepared)) }
     {
-        match self.store.sized(change)? {
-            Ok(next) => Ok(Prepared {
-                change: self.store.change_to(alloc, next, change)?,
+        match self.next(alloc, change)? {
+            Ok(change) => Ok(Prepared {
+                change,
                 session: SessionChange::Stays,
                 answer,
             }),
@@ -233,6 +235,25 @@ impl Client {
                 SessionChange::Stays,
                 Answer::Refused(Refusal::StateTooLarge(size)),
             )),
+        }
+    }
+
+    // The change to the next state, where that is another one, or else how many bytes its encoding has, which are too many.
+    fn next(
+        &mut self,
+        alloc: Global,
+        change: &StateChange,
+    ) -> Result<Result<Option<Change>, u128>, AllocError>
+        requires { IsWholeChangeOf (state_of self.old) change.now }
+        ensures same { IsSameClient self.old self.new }
+        ensures made { IfOk result (λ next. IfOk next (IsChange self.new.store)) }
+        ensures state { IfOk result (λ next. IfOk next (λ c. changed (state_of self.old) c ≡ state_after change.now (state_of self.old))) }
+        ensures fits { IfOk result (λ next. IfOk next (λ _. length (encoding (state_after change.now (state_of self.old))) ≤ max_size)) }
+        ensures large { IfOk result (λ next. IfErr next (λ size. (size ≡ length (encoding (state_after change.now (state_of self.old)))) × (max_size < size))) }
+    {
+        match self.store.sized(change)? {
+            Ok(next) => Ok(Ok(self.store.change_to(alloc, next, change)?)),
+            Err(size) => Ok(Err(size)),
         }
     }
 
