@@ -8,6 +8,7 @@ use Rattle.std.specs.Cmp.Lexicographic.{slice_cmp}
 use Rattle.std.proofs.lemmas.Cmp.{nat_list_cmp_total, tied_itself}
 use Rattle.std.proofs.lemmas.Map.Keys.{IsDistinct-from_sorted, apart_from_distinct, sorted_from_all_adjacent, Less-from_sorted}
 use Rattle.std.proofs.lemmas.Option.{slice_get-map, slice_get_within, get_or_from_slice_get}
+use Rattle.std.proofs.lemmas.Bool.{cases_order}
 use Rattle.enrol_conflicts.specs.declared.candidate.Candidate.{Candidate}
 use Rattle.enrol_conflicts.specs.Laws.{DifferInOrder}
 
@@ -22,18 +23,8 @@ apart ws s i j v w l a b e =
     let d : eq_by_cmp (slice_cmp nat_cmp) (get_or ks i v.slug) (get_or ks j v.slug) ≡ false = apart_from_distinct (eq_by_cmp (slice_cmp nat_cmp)) ks i j v.slug (IsDistinct-from_sorted (slice_cmp nat_cmp) ks s) l (slice_get_within ks j w.slug (slug_at ws j w b)) in
     true≢false (sym (ap is_eq (tied_itself nat_list_cmp_total v.slug)) ∙ ap (λ k. is_eq (slice_cmp nat_cmp v.slug k)) (e ∙ sym q) ∙ ap (λ k. is_eq (slice_cmp nat_cmp k (get_or ks j v.slug))) (sym p) ∙ d)
 
-which : (i j : ℕ) → (i ≡ j) ⊎ ((i < j) ⊎ (j < i))
-which zero zero = inl refl
-which zero (suc j) = inr (inl (omega arith))
-which (suc i) zero = inr (inr (omega arith))
-which (suc i) (suc j) = more (which i j) where
-  more : (i ≡ j) ⊎ ((i < j) ⊎ (j < i)) → (suc i ≡ suc j) ⊎ ((suc i < suc j) ⊎ (suc j < suc i))
-  more (inl e) = inl (ap suc e)
-  more (inr (inl l)) = inr (inl (omega (arith, l)))
-  more (inr (inr l)) = inr (inr (omega (arith, l)))
-
 pub own_slugs : DifferInOrder
-own_slugs ws s i j v w a b e = from (which i j) where
+own_slugs ws s i j v w a b e = from (cases_order i j) where
   from : (i ≡ j) ⊎ ((i < j) ⊎ (j < i)) → i ≡ j
   from (inl q) = q
   from (inr (inl l)) = absurd (apart ws s i j v w l a b e)

@@ -3,6 +3,7 @@ use Rattle.std.proofs.Common.{◌≡◌, ℕ, ◌+◌, ◌≤◌, Bool, true, fa
 use Rattle.std.specs.Prelude.{All, IsTrue, IsUtf8, ◌||◌, not, nat_le, bytes_eq, unwrap_or, option_and_then, if◌then◌else◌}
 use Rattle.std.specs.List.{AllByRecursion}
 use Rattle.std.proofs.lemmas.List.Elements.{All-from_recursion}
+use Rattle.std.proofs.lemmas.Bool.{or_right, or_parts}
 use Rattle.plain_text.specs.Names.{is_name}
 use Rattle.recipe_reader.specs.Payloads.{AreValid, has_slug, recipe_with}
 use Rattle.recipe_reader.specs.Kinds.{kind_of}
@@ -48,14 +49,6 @@ has_recipe : (slug : List ℕ) (rs : List Recipe) (r : Recipe) → recipe_with s
 has_recipe slug [] r e = absurd cc
 has_recipe slug (q ∷ qs) r e = has_recipe_at slug q qs r (bytes_eq q.slug slug) (has_recipe slug qs r) e
 
-or_true : (a b : Bool) → b ≡ true → (a || b) ≡ true
-or_true true b e = refl
-or_true false b e = e
-
-left_false : (a b : Bool) → (a || b) ≡ false → a ≡ false
-left_false true b e = absurd cc
-left_false false b e = refl
-
 taking_part : (a b : Bool) → (a || not b) ≡ false → b ≡ true
 taking_part true b e = absurd cc
 taking_part false true e = refl
@@ -70,9 +63,9 @@ live_row context s now slug r st valid old found e =
     record {
       slug = subst IsSlug same (slug_fits r valid);
       status = fits.status;
-      recipe = or_true (was_enrolled st) (has_slug slug s.live) (has_recipe slug s.live r found);
+      recipe = or_right (was_enrolled st) (has_slug slug s.live) (has_recipe slug s.live r found);
       branch = λ b there. ap (λ o. offers o b) found ∙ fits.branch b there;
-      choice = λ enrolled. subst (λ t. is_in s.opted_out t ≡ false) same (left_false (is_in s.opted_out r.slug) (not (takes_part s (kind_of r))) (fits.choice enrolled));
+      choice = λ enrolled. subst (λ t. is_in s.opted_out t ≡ false) same (or_parts (is_in s.opted_out r.slug) (not (takes_part s (kind_of r))) (fits.choice enrolled)).0;
       participation = λ enrolled. ap (may_take_part s) found ∙ taking_part (is_in s.opted_out r.slug) (takes_part s (kind_of r)) (fits.choice enrolled);
     }
 

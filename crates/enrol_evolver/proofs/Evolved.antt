@@ -5,6 +5,7 @@ use Rattle.std.specs.Option.{option_or}
 use Rattle.std.specs.List.{AllByRecursion}
 use Rattle.std.specs.List.Sorted.{IsStrictlySortedBy}
 use Rattle.std.specs.Cmp.Lexicographic.{bytes_decides}
+use Rattle.std.proofs.lemmas.Bool.{or_parts}
 use Rattle.recipe_reader.specs.Payloads as payloads
 use Rattle.recipe_reader.specs.Payloads.{AreInOrder, recipe_with}
 use Rattle.recipe_reader.specs.declared.recipe.Recipe.{Recipe}
@@ -58,14 +59,10 @@ not_row : (slug : List ℕ) (qs : List Row) → is_in (slugs_of qs) slug ≡ fal
 not_row slug [] e = refl
 not_row slug (q ∷ qs) e = no_row_at slug q qs (bytes_eq q.slug slug) (not_row slug qs) e
 
-neither : (a b : Bool) → (a || b) ≡ false → (a ≡ false) × (b ≡ false)
-neither true b e = absurd cc
-neither false b e = (refl, e)
-
 none_after : (context : Context) (s : State) (now : ℕ) (slug : List ℕ) (b : Bool) → is_in (all_slugs s) slug ≡ b → (if b then status_after context s now slug else None) ≡ status_after context s now slug
 none_after context s now slug true e = refl
 none_after context s now slug false e =
-    let parts = neither (is_in (map (λ (p : Recipe). p.slug) s.live) slug) (is_in (slugs_of s.rows) slug) (sym (in-fold (slugs_of s.rows) (map (λ (p : Recipe). p.slug) s.live) slug) ∙ e) in
+    let parts = or_parts (is_in (map (λ (p : Recipe). p.slug) s.live) slug) (is_in (slugs_of s.rows) slug) (sym (in-fold (slugs_of s.rows) (map (λ (p : Recipe). p.slug) s.live) slug) ∙ e) in
     sym (ap (status_with context s now slug) (not_live slug s.live parts.0) ∙ ap (option_and_then (λ old. status_ended old now)) (not_row slug s.rows parts.1))
 
 -- ---- the rows as they are defined

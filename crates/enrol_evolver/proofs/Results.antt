@@ -13,10 +13,6 @@ pub if_matched : {T E : Type 0} (r : Result T E) (a b : T) (Q : E → Type 0) �
 if_matched (Ok t) a b Q e h = h ∙ e
 if_matched (Err x) a b Q e h = tt
 
-pub no_items : {X : Type 0} (xs : List X) → length xs ≡ 0 → xs ≡ []
-no_items [] e = refl
-no_items (x ∷ xs) e = absurd cc
-
 -- one more item
 pub flat_map-more : {X Y : Type 0} (f : X → List Y) (xs : List X) (i : ℕ) (x : X) (ys zs : List Y) → i < length xs → x ≡ get_or xs i x → ys ≡ flat_map f (take i xs) → zs ≡ ys ++ f x → zs ≡ flat_map f (take (i + 1) xs)
 flat_map-more f xs i x ys zs less here before more =

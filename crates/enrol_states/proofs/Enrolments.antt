@@ -10,6 +10,7 @@ use Rattle.std.proofs.lemmas.List.Elements.{All-cons, All-head, All-tail, All-ni
 use Rattle.std.proofs.lemmas.List.Filters.{length-filter_both}
 use Rattle.std.proofs.lemmas.List.Kept.{IsStrictlySortedBy-filter}
 use Rattle.std.proofs.lemmas.Map.Views.{any-filter_same}
+use Rattle.std.proofs.lemmas.Bool.{or_parts}
 use Rattle.recipe_reader.specs.Payloads.{slug_cmp, has_slug, recipe_with}
 use Rattle.recipe_reader.specs.declared.recipe.Recipe.{Recipe}
 use Rattle.enrol_states.specs.Order.{Rise, AreAbove, IsPlace, is_in}
@@ -93,10 +94,6 @@ without-at t (u ∷ us) (suc i) d less rise e =
     let below : slug_cmp u t ≡ Less = subst (λ v. slug_cmp u v ≡ Less) same (each_at (λ v. slug_cmp u v ≡ Less) us i d (omega arith) rise.0) in
     ap (λ rest. u ∷ rest) (without-at t us i d (omega arith) rise.1 e) ∙ sym (ap (λ b. if not b then u ∷ without_text t us else without_text t us) (lesser_texts u t below))
 
-neither : (a b : Bool) → (a || b) ≡ false → (a ≡ false) × (b ≡ false)
-neither true b h = absurd cc
-neither false b h = (refl, h)
-
 kept_none : (b : Bool) (u s : List ℕ) (rest : List (List ℕ)) → bytes_eq u s ≡ false → is_in rest s ≡ false → is_in (if b then u ∷ rest else rest) s ≡ false
 kept_none true u s rest other none = ap (λ c. c || is_in rest s) other ∙ none
 kept_none false u s rest other none = none
@@ -105,7 +102,7 @@ kept_none false u s rest other none = none
 pub is_in-without : (s t : List ℕ) (ts : List (List ℕ)) → is_in ts s ≡ false → is_in (without_text t ts) s ≡ false
 is_in-without s t [] none = refl
 is_in-without s t (u ∷ us) none =
-    let apart = neither (bytes_eq u s) (is_in us s) none in
+    let apart = or_parts (bytes_eq u s) (is_in us s) none in
     kept_none (not (bytes_eq u t)) u s (without_text t us) apart.0 (is_in-without s t us apart.1)
 
 not_not : (b : Bool) → b ≡ not (not b)

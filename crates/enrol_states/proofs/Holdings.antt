@@ -7,7 +7,7 @@ use Rattle.std.specs.BTreeSet.{BTreeSet}
 use Rattle.std.specs.Cmp.{first_so, second_so}
 use Rattle.std.specs.Cmp.Lexicographic.{texts_ties, bytes_decides}
 use Rattle.std.specs.List.{list_any}
-use Rattle.std.proofs.lemmas.Bool.{cases_lt}
+use Rattle.std.proofs.lemmas.Bool.{cases_lt, false_from_ne_true, and_from}
 use Rattle.std.proofs.lemmas.List.{get_or_default}
 use Rattle.std.proofs.lemmas.List.Folds.{list_any_more}
 use Rattle.recipe_reader.specs.Payloads.{slug_cmp, recipe_with}
@@ -122,9 +122,6 @@ of_each_kind : (s : State) → AreApart s Rollout → AreApart s Experiment → 
 of_each_kind s rollouts experiments Rollout = rollouts
 of_each_kind s rollouts experiments Experiment = experiments
 
-and_so : (a b : Bool) → a ≡ true → b ≡ true → (a && b) ≡ true
-and_so a b one two = ap (λ c. c && b) one ∙ two
-
 -- the earlier of two rows of one kind and the later hold nothing in common
 not_both : (s : State) (kind : Kind) (i j : ℕ) (d : Row) (f : List ℕ) → AreApart s kind → i < j → j < length s.rows → holds s kind (get_or s.rows i d) f ≡ true → holds s kind (get_or s.rows j d) f ≡ true → ⊥
 not_both s kind i j d f apart before within one two =
@@ -144,7 +141,7 @@ shared_not s slug other f r q rollouts experiments one two found found_other apa
     let same_kind = first_so (kind_eq (kind_of r) (kind_of q)) (has_feature r f && (has_feature q f && not (is_in s.coenrolling f))) shared in
     let has = first_so (has_feature r f) (has_feature q f && not (is_in s.coenrolling f)) rest in
     let other_alone = second_so (has_feature r f) (has_feature q f && not (is_in s.coenrolling f)) rest in
-    let alone = and_so (has_feature r f) (not (is_in s.coenrolling f)) has (second_so (has_feature q f) (not (is_in s.coenrolling f)) other_alone) in
+    let alone = and_from (has_feature r f) (not (is_in s.coenrolling f)) has (second_so (has_feature q f) (not (is_in s.coenrolling f)) other_alone) in
     let here = holding_there s (kind_of r) slug f r one one.row found (kind_itself (kind_of r)) alone in
     let there = holding_there s (kind_of r) other f q two one.row found_other same_kind other_alone in
     let each = of_each_kind s rollouts experiments (kind_of r) in
@@ -160,13 +157,9 @@ shared_not s slug other f r q rollouts experiments one two found found_other apa
       ]
     ]
 
-not_true : (b : Bool) → (b ≡ true → ⊥) → b ≡ false
-not_true true none = absurd (none refl)
-not_true false none = refl
-
 pub apart_exclusive : (s : State) → AreApart s Rollout → AreApart s Experiment → AreExclusive s
 apart_exclusive s rollouts experiments slug other f r q one two found found_other apart =
-    not_true (share s.coenrolling r q f) (λ shared. shared_not s slug other f r q rollouts experiments (enrolled_at slug s.rows one) (enrolled_at other s.rows two) found found_other apart shared)
+    false_from_ne_true (share s.coenrolling r q f) (λ shared. shared_not s slug other f r q rollouts experiments (enrolled_at slug s.rows one) (enrolled_at other s.rows two) found found_other apart shared)
 
 itself : (a : List ℕ) → slug_cmp a a ≡ Equal
 itself a = is_Equal (slug_cmp a a) (sym (texts_ties a a) ∙ (bytes_decides a a).1 refl)
@@ -183,14 +176,14 @@ both_held s kind i j d f rise ex before within one two =
     let apart = lesser_texts here.slug there.slug (rises_by slug_of s.rows i j d before within rise) in
     let none = ex here.slug there.slug f p.0 q.0 (enrolled_now s i d rise (omega (arith, before, within)) p.1.enrolled) (enrolled_now s j d rise within q.1.enrolled) p.1.found q.1.found apart in
     let shared : share s.coenrolling p.0 q.0 f ≡ true =
-    and_so (kind_eq (kind_of p.0) (kind_of q.0)) (has_feature p.0 f && has_alone s.coenrolling q.0 f) (kinds_both kind (kind_of p.0) (kind_of q.0) p.1.same_kind q.1.same_kind)
-    (and_so (has_feature p.0 f) (has_alone s.coenrolling q.0 f) (first_so (has_feature p.0 f) (not (is_in s.coenrolling f)) p.1.alone) q.1.alone)
+    and_from (kind_eq (kind_of p.0) (kind_of q.0)) (has_feature p.0 f && has_alone s.coenrolling q.0 f) (kinds_both kind (kind_of p.0) (kind_of q.0) p.1.same_kind q.1.same_kind)
+    (and_from (has_feature p.0 f) (has_alone s.coenrolling q.0 f) (first_so (has_feature p.0 f) (not (is_in s.coenrolling f)) p.1.alone) q.1.alone)
     in
     absurd cc
 
 pub exclusive_apart : (s : State) (kind : Kind) → Rise (slugs_of s.rows) → AreExclusive s → AreApart s kind
 exclusive_apart s kind rise ex j row f within h =
-    not_true (is_held s kind (take j s.rows) f)
+    false_from_ne_true (is_held s kind (take j s.rows) f)
     (λ held.
     let earlier = among (λ (q : Row). holds s kind q f) s.rows j held in
     both_held s kind earlier.place j row f rise ex earlier.before within (earlier.passes row) h)
@@ -254,7 +247,7 @@ some_taken s kind rows i row r set f same within here some held both apart =
     let held_here : is_held s kind (take i rows) f ≡ true = sym (held f) ∙ first_so (has_text set f) (has_feature r f) both in
     let earlier = among (λ (q : Row). holds s kind q f) rows i held_here in
     let its = holding s kind (get_or rows earlier.place row) f (earlier.passes row) in
-    let alone = and_so (has_feature r f) (not (is_in s.coenrolling f)) (second_so (has_text set f) (has_feature r f) both) (second_so (has_feature its.0 f) (not (is_in s.coenrolling f)) its.1.alone) in
+    let alone = and_from (has_feature r f) (not (is_in s.coenrolling f)) (second_so (has_text set f) (has_feature r f) both) (second_so (has_feature its.0 f) (not (is_in s.coenrolling f)) its.1.alone) in
     let holds_it : holds s kind (get_or rows i row) f ≡ true = ap (λ q. holds s kind q f) (sym here) ∙ ap (λ o. recipe_holds s.coenrolling o f) some ∙ alone in
     let none : is_held s kind (take i rows) f ≡ false =
     subst (λ qs. is_held s kind (take i qs) f ≡ false) (sym same) (apart i row f (subst (λ qs. i < length qs) same within) (subst (λ (qs : List Row). holds s kind (get_or qs i row) f ≡ true) same holds_it))

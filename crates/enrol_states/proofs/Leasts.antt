@@ -8,6 +8,7 @@ use Rattle.std.specs.Ordering.{is_eq, is_le, is_lt, ordering_reverse}
 use Rattle.std.specs.List.{list_any}
 use Rattle.std.proofs.lemmas.List.Folds.{list_any_more}
 use Rattle.std.proofs.lemmas.List.{take_all}
+use Rattle.std.proofs.lemmas.Bool.{or_right, or_left}
 use Rattle.recipe_reader.specs.Payloads.{slug_cmp}
 use Rattle.enrol_states.specs.Least.{IsLeast, lesser_of}
 use Rattle.enrol_states.proofs.Ordered.{turned_down}
@@ -35,13 +36,6 @@ le_Less a b e = ap is_le e
 pub IsLeast-same : (P Q : List ℕ → Bool) (r : Option (List ℕ)) → ((t : List ℕ) → P t ≡ Q t) → IsLeast P r → IsLeast Q r
 IsLeast-same P Q None same least = λ t. sym (same t) ∙ least t
 IsLeast-same P Q (Some s) same least = (sym (same s) ∙ least.0, λ t passes. least.1 t (same t ∙ passes))
-
-or_left : (a b : Bool) → a ≡ true → (a || b) ≡ true
-or_left a b h = ap (λ c. c || b) h
-
-or_right : (a b : Bool) → b ≡ true → (a || b) ≡ true
-or_right true b h = refl
-or_right false b h = h
 
 -- what one of two tests says, where the first or the second passes
 either_so : {A : Type 0} (a b : Bool) → (a || b) ≡ true → (a ≡ true → A) → (b ≡ true → A) → A

@@ -5,6 +5,7 @@ use Rattle.std.specs.Cmp.Lexicographic.{bytes_decides}
 use Rattle.std.specs.List.{AllByRecursion, list_any}
 use Rattle.std.specs.Ordering.{match_ordering}
 use Rattle.std.specs.Prelude.{bytes_eq, if◌then◌else◌, ⊤}
+use Rattle.std.proofs.lemmas.Bool.{or_right}
 use Rattle.json_tree.specs.Json.{Json, get, get_member, members_of}
 use Rattle.event_counts.specs.declared.interval.Interval.TheVariants.{Hours, Days, Weeks}
 use Rattle.event_counts.specs.declared.name_counts.NameCounts.{NameCounts}
@@ -137,10 +138,6 @@ found_within name ns n moment within is = subst (IsWithin moment) is (one_within
 or_left : (a b c : Bool) → a || b ≡ true → (b ≡ true → c ≡ true) → a || c ≡ true
 or_left true b c is rest = refl
 or_left false b c is rest = rest is
-
-or_right : (a b : Bool) → b ≡ true → a || b ≡ true
-or_right true b is = refl
-or_right false b is = is
 
 any-left : (test : Event → Bool) (es : List Event) (e : Event) → list_any test es ≡ true → list_any test (es ++ e ∷ []) ≡ true
 any-left test [] e is = absurd (cc)

@@ -5,6 +5,7 @@ use Rattle.std.specs.Cmp.Lexicographic.{slice_cmp}
 use Rattle.std.specs.Ordering.{nat_cmp, is_eq, is_lt}
 use Rattle.std.proofs.lemmas.List.{take-append-drop}
 use Rattle.std.proofs.lemmas.Map.Text.{is_eq-slice_cmp}
+use Rattle.std.proofs.lemmas.Bool.{or_parts}
 use Rattle.fml_types.specs.Named.{IsAbove, IsBelow, AreRising, has_name, with_name}
 use Rattle.fml_types.proofs.Places.{below_at}
 use Rattle.fml_imports.specs.Merging.{with_new, count_below, is_first, IsFirstAbove}
@@ -89,10 +90,6 @@ either a b h c same = ap (λ d. d || b) same ∙ h
 neither : (a b : Bool) → (a || b) ≡ false → (c : Bool) → c ≡ a → (c || b) ≡ false
 neither a b h c same = ap (λ d. d || b) same ∙ h
 
-first_false : (a b : Bool) → (a || b) ≡ false → a ≡ false
-first_false true b h = absurd cc
-first_false false b h = refl
-
 module _ {T U : Type 0} (others : List (List ℕ × U)) (done left : List (List ℕ × T)) (p : List ℕ × T) (rising : AreRising (done ++ left)) (above : IsAbove p.0 done) where
   abbrev lower_left : List (List ℕ × T)
   lower_left = take (count_below p.0 left) left
@@ -116,7 +113,7 @@ module _ {T U : Type 0} (others : List (List ℕ × U)) (done left : List (List 
   module _ (new : (is_first p.0 upper_left || has_name p.0 others) ≡ false) where
     placed : with_name p (done ++ left) ≡ ((done ++ lower_left) ++ p ∷ []) ++ upper_left
     placed =
-        ap (with_name p) joins ∙ with_between p (done ++ lower_left) upper_left above_done ((is_split p.0 left (rising_right done left rising)).1 (first_false (is_first p.0 upper_left) (has_name p.0 others) new))
+        ap (with_name p) joins ∙ with_between p (done ++ lower_left) upper_left above_done ((is_split p.0 left (rising_right done left rising)).1 (or_parts (is_first p.0 upper_left) (has_name p.0 others) new).0)
         ∙ sym (append_assoc (done ++ lower_left) (p ∷ []) upper_left)
 
     -- a new name
@@ -126,7 +123,7 @@ module _ {T U : Type 0} (others : List (List ℕ × U)) (done left : List (List 
         ∙ ap (λ l. Ok l) placed
 
     pub put_rises : AreRising (((done ++ lower_left) ++ p ∷ []) ++ upper_left)
-    put_rises = subst AreRising placed (rises_with p (done ++ left) (named ∙ first_false (is_first p.0 upper_left) (has_name p.0 others) new) rising)
+    put_rises = subst AreRising placed (rises_with p (done ++ left) (named ∙ (or_parts (is_first p.0 upper_left) (has_name p.0 others) new).0) rising)
 
     -- what is above the name is above all before it
     pub put_below : (next : List ℕ) → slice_cmp nat_cmp p.0 next ≡ Less → IsAbove next ((done ++ lower_left) ++ p ∷ [])

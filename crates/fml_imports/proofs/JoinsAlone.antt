@@ -5,6 +5,7 @@ use Rattle.std.specs.Option.{option_or}
 use Rattle.std.specs.Cmp.Lexicographic.{slice_cmp, bytes_decides}
 use Rattle.std.specs.Ordering.{nat_cmp, ordering_reverse, is_eq, is_lt}
 use Rattle.std.proofs.lemmas.Cmp.{nat_list_cmp_total}
+use Rattle.std.proofs.lemmas.Bool.{or_parts, or_from}
 use Rattle.fml_types.specs.Ground.{grounding}
 use Rattle.fml_types.specs.Named.{IsAbove, IsBelow, AreRising, has_name, with_name}
 use Rattle.fml_types.specs.Shapes.{shape_of}
@@ -27,7 +28,7 @@ use Rattle.fml_imports.specs.declared.fault.JoinRefusal.{JoinRefusal}
 use Rattle.fml_imports.specs.declared.fault.JoinRefusal.TheVariants.{DuplicateName}
 use Rattle.fml_imports.specs.declared.joining.Linked.{Linked}
 use Rattle.fml_imports.proofs.Alls.{all_nil, all_cons, all_head, all_tail, all_map}
-use Rattle.fml_imports.proofs.Names.{sides, turned, left_false, right_false}
+use Rattle.fml_imports.proofs.Names.{sides, turned}
 use Rattle.fml_imports.proofs.ReadsAgain.{alone}
 
 abbrev done : {A : Type 0} → A → Result A JoinRefusal
@@ -75,19 +76,15 @@ each_added P add with step ps (p ∷ rest) all rising =
     ∙ each_added P add with step (ps ++ p ∷ []) rest (all_tail P p rest all) (subst AreRising (sym joins) rising)
     ∙ ap (λ l. done (with l)) joins
 
-either_false : (a b : Bool) → a ≡ false → b ≡ false → (a || b) ≡ false
-either_false true b first second = absurd cc
-either_false false b first second = second
-
 not_taken : {A : Type 0} (b : Bool) (e : JoinRefusal) (t : A) → b ≡ false → (if b then Err e else done t) ≡ done t
 not_taken b e t h = ap (λ (c : Bool). if c then Err e else done t) h
 
 enum_added : (es : List (List ℕ × EnumDefinition)) (e : List ℕ × EnumDefinition) → has_name e.0 es ≡ false → with_enum (record { enums = es; objects = []; features = [] }) e ≡ done (record { enums = with_name e es; objects = []; features = [] })
-enum_added es e new = not_taken (has_name e.0 es || false) (DuplicateName e.0) (record { enums = with_name e es; objects = []; features = [] }) (either_false (has_name e.0 es) false new refl)
+enum_added es e new = not_taken (has_name e.0 es || false) (DuplicateName e.0) (record { enums = with_name e es; objects = []; features = [] }) (or_from (has_name e.0 es) false new refl)
 
 object_added : (es : List (List ℕ × EnumDefinition)) (os : List (List ℕ × ObjectDefinition)) (o : List ℕ × ObjectDefinition) → has_name o.0 es ≡ false → has_name o.0 os ≡ false
     → with_object (record { enums = es; objects = os; features = [] }) o ≡ done (record { enums = es; objects = with_name o os; features = [] })
-object_added es os o apart new = not_taken (has_name o.0 es || has_name o.0 os) (DuplicateName o.0) (record { enums = es; objects = with_name o os; features = [] }) (either_false (has_name o.0 es) (has_name o.0 os) apart new)
+object_added es os o apart new = not_taken (has_name o.0 es || has_name o.0 os) (DuplicateName o.0) (record { enums = es; objects = with_name o os; features = [] }) (or_from (has_name o.0 es) (has_name o.0 os) apart new)
 
 feature_added : (es : List (List ℕ × EnumDefinition)) (os : List (List ℕ × ObjectDefinition)) (fs : List (List ℕ × FeatureDefinition)) (f : List ℕ × FeatureDefinition) → has_name f.0 fs ≡ false
     → with_feature (record { enums = es; objects = os; features = fs }) f ≡ done (record { enums = es; objects = os; features = with_name f fs })
@@ -99,14 +96,14 @@ apart_from : (o : List ℕ × ObjectDefinition) (os : List (List ℕ × ObjectDe
 apart_from o os [] apart = refl
 apart_from o os (e ∷ es) apart =
     let here = all_head (λ (x : List ℕ × EnumDefinition). has_name x.0 (o ∷ os) ≡ false) e es apart in
-    either_false (bytes_eq e.0 o.0) (has_name o.0 es) (turned e.0 o.0 ∙ left_false (bytes_eq o.0 e.0) (has_name e.0 os) here)
+    or_from (bytes_eq e.0 o.0) (has_name o.0 es) (turned e.0 o.0 ∙ (or_parts (bytes_eq o.0 e.0) (has_name e.0 os) here).0)
     (apart_from o os es (all_tail (λ (x : List ℕ × EnumDefinition). has_name x.0 (o ∷ os) ≡ false) e es apart))
 
 all_apart : (es : List (List ℕ × EnumDefinition)) (os : List (List ℕ × ObjectDefinition)) → All (λ (e : List ℕ × EnumDefinition). has_name e.0 os ≡ false) es → All (λ (o : List ℕ × ObjectDefinition). has_name o.0 es ≡ false) os
 all_apart es [] apart = all_nil (λ (o : List ℕ × ObjectDefinition). has_name o.0 es ≡ false)
 all_apart es (o ∷ os) apart =
     all_cons (λ (x : List ℕ × ObjectDefinition). has_name x.0 es ≡ false) o os (apart_from o os es apart)
-    (all_apart es os (all_map (λ (e : List ℕ × EnumDefinition). has_name e.0 (o ∷ os) ≡ false) (λ (e : List ℕ × EnumDefinition). has_name e.0 os ≡ false) es (λ e h. right_false (bytes_eq o.0 e.0) (has_name e.0 os) h) apart))
+    (all_apart es os (all_map (λ (e : List ℕ × EnumDefinition). has_name e.0 (o ∷ os) ≡ false) (λ (e : List ℕ × EnumDefinition). has_name e.0 os ≡ false) es (λ e h. (or_parts (bytes_eq o.0 e.0) (has_name e.0 os) h).1) apart))
 
 -- ---- the tables
 

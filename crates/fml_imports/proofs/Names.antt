@@ -19,14 +19,6 @@ sides a b = sym (eq_reverse (slice_cmp nat_cmp a b)) ∙ sym (ap is_eq (nat_list
 pub turned : (a b : List ℕ) → bytes_eq a b ≡ bytes_eq b a
 turned a b = sym (is_eq-slice_cmp a b) ∙ sides a b
 
-pub left_false : (a b : Bool) → (a || b) ≡ false → a ≡ false
-left_false true b h = absurd cc
-left_false false b h = refl
-
-pub right_false : (a b : Bool) → (a || b) ≡ false → b ≡ false
-right_false true b h = absurd cc
-right_false false b h = h
-
 -- ---- where a name stands
 
 is-placed : (b : Bool) (o : Option ℕ) (h : Bool) → is_some o ≡ h → is_some (if b then Some 0 else option_map suc o) ≡ (b || h)

@@ -5,8 +5,9 @@ use Rattle.std.specs.Cmp.Lexicographic.{slice_cmp}
 use Rattle.std.specs.Ordering.{nat_cmp, ordering_reverse, is_eq, is_lt}
 use Rattle.std.proofs.lemmas.Cmp.{nat_list_cmp_total}
 use Rattle.std.proofs.lemmas.Map.Text.{is_eq-slice_cmp}
+use Rattle.std.proofs.lemmas.Bool.{or_parts}
 use Rattle.fml_types.specs.Named.{IsAbove, IsBelow, AreRising, has_name, with_name}
-use Rattle.fml_imports.proofs.Names.{sides, left_false, right_false}
+use Rattle.fml_imports.proofs.Names.{sides}
 
 pub less_trans : (a b c : List ℕ) → slice_cmp nat_cmp a b ≡ Less → slice_cmp nat_cmp b c ≡ Less → slice_cmp nat_cmp a c ≡ Less
 less_trans a b c h k = nat_list_cmp_total.trans a b c h k
@@ -79,4 +80,4 @@ rises_at p q qs Greater e apart rising rest = (below_with q.0 p qs (turned_down 
 
 pub rises_with : {T : Type 0} (p : List ℕ × T) (ps : List (List ℕ × T)) → has_name p.0 ps ≡ false → AreRising ps → AreRising (with_name p ps)
 rises_with p [] new rising = (tt, tt)
-rises_with p (q ∷ qs) new rising = rises_at p q qs (slice_cmp nat_cmp p.0 q.0) refl (left_false (bytes_eq q.0 p.0) (has_name p.0 qs) new) rising (rises_with p qs (right_false (bytes_eq q.0 p.0) (has_name p.0 qs) new) rising.1)
+rises_with p (q ∷ qs) new rising = rises_at p q qs (slice_cmp nat_cmp p.0 q.0) refl (or_parts (bytes_eq q.0 p.0) (has_name p.0 qs) new).0 rising (rises_with p qs (or_parts (bytes_eq q.0 p.0) (has_name p.0 qs) new).1 rising.1)

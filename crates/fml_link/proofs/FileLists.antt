@@ -1,8 +1,9 @@
 -- The list of files starts with its root, and has no name twice.
 use Rattle.std.proofs.Common.{◌≡◌, ℕ, zero, suc, Bool, true, false, List, [], ◌∷◌, ◌++◌, Option, Some, None, Ok, refl, sym, ap, ◌∙◌, subst}
 use Rattle.std.specs.Prelude.{◌&&◌, ◌||◌, not, bytes_eq, slice_get}
+use Rattle.std.proofs.lemmas.Bool.{or_parts}
 use Rattle.fml_types.specs.Named.{has_name}
-use Rattle.fml_imports.proofs.Names.{turned, left_false, right_false}
+use Rattle.fml_imports.proofs.Names.{turned}
 use Rattle.fml_link.specs.Files.{file_module, named_by, with_named, after_file, list_after}
 use Rattle.fml_link.specs.Laws.{are_distinct, StartWithRoot, AreDistinct}
 use Rattle.fml_link.proofs.Linked.{bind_ok}
@@ -64,9 +65,9 @@ push_distinct : (list : Listed) (f : List ℕ × List ℕ) → are_distinct list
 push_distinct [] f distinct new = refl
 push_distinct (g ∷ gs) f distinct new =
     let apart = split_true (has_name g.0 gs) (are_distinct gs) distinct in
-    let other : bytes_eq f.0 g.0 ≡ false = turned f.0 g.0 ∙ left_false (bytes_eq g.0 f.0) (has_name f.0 gs) new in
+    let other : bytes_eq f.0 g.0 ≡ false = turned f.0 g.0 ∙ (or_parts (bytes_eq g.0 f.0) (has_name f.0 gs) new).0 in
     both_true (has_name g.0 (gs ++ f ∷ [])) (are_distinct (gs ++ f ∷ [])) (has_push g.0 f gs ∙ ap (λ b. b || bytes_eq f.0 g.0) apart.0 ∙ other)
-    (push_distinct gs f apart.1 (right_false (bytes_eq g.0 f.0) (has_name f.0 gs) new))
+    (push_distinct gs f apart.1 (or_parts (bytes_eq g.0 f.0) (has_name f.0 gs) new).1)
 
 added_distinct : (one : Listed) (f : List ℕ × List ℕ) (more : Listed) → are_distinct one ≡ true → IsAdded one f more → are_distinct more ≡ true
 added_distinct one f more kept added = subst (λ l. are_distinct l ≡ true) (sym added.2) (push_distinct one f kept added.0)

@@ -1,7 +1,7 @@
 -- What lexing gives are the tokens, or the first fault.
 use Rattle.std.proofs.Common.{◌≡◌, ℕ, zero, suc, ◌+◌, ◌^◌, ◌<◌, ◌≤◌, Bool, true, false, List, [], ◌∷◌, ◌++◌, length, Option, Some, None, Ok, Err, refl, sym, ap, subst, arith, length-append}
 use Rattle.std.specs.Prelude.{◌&&◌, ◌==◌, nat_lt}
-use Rattle.std.proofs.lemmas.Bool.{eqb-true, ltb-true, ltb-false}
+use Rattle.std.proofs.lemmas.Bool.{eqb-true, ltb-true, ltb-false, and_parts}
 use Rattle.jexl_lexer.specs.declared.lexer.TheConstants.{MAX_TOKENS}
 use Rattle.jexl_lexer.specs.declared.token.Sign.{Sign}
 use Rattle.jexl_lexer.specs.declared.token.Sign.TheVariants.{And, Or, Equal, NotEqual, AtMost, AtLeast, FloorDiv, Less, Greater, Plus, Minus, Star, Percent, Caret, Bang, Question, Colon, Dot, Comma, LeftRound, RightRound, LeftSquare, RightSquare, LeftBrace, RightBrace, Bar}
@@ -18,10 +18,6 @@ abbrev pub Tells : List ℕ → TokenRead → Type 0
 Tells bs (Ok x) = Begins bs x.0 x.1
 Tells bs (Err f) = FaultAt bs f
 
-and_true : (a b : Bool) → (a && b) ≡ true → (a ≡ true) × (b ≡ true)
-and_true true b e = (refl, e)
-and_true false b e = absurd cc
-
 and_false : (a b : Bool) → (a && b) ≡ false → a ≡ true → b ≡ true → ⊥
 and_false true b e f g = cc
 and_false false b e f g = cc
@@ -29,7 +25,7 @@ and_false false b e f g = cc
 decimal_is : (bs : List ℕ) → decimal bs ≡ true → IsDecimal bs
 decimal_is [] e = absurd cc
 decimal_is (b ∷ []) e = absurd cc
-decimal_is (b ∷ c ∷ bs) e = let p = and_true (b == 46) (is_digit c) e in (eqb-true b 46 p.0, p.1)
+decimal_is (b ∷ c ∷ bs) e = let p = and_parts (b == 46) (is_digit c) e in (eqb-true b 46 p.0, p.1)
 
 decimal_not : (bs : List ℕ) → decimal bs ≡ false → IsDecimal bs → ⊥
 decimal_not [] e h = h

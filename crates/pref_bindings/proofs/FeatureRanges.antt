@@ -113,10 +113,6 @@ order_behind (b ∷ bs) (suc i) order = order_behind bs i order.1
 
 -- ---- those of a feature are among those that aren't below it
 
-negated : (b : Bool) → not b ≡ true → b ≡ false
-negated true e = absurd cc
-negated false e = refl
-
 pub none_below : (feature : List ℕ) (bs : List Binding) → AllByRecursion (λ b. is_below feature b ≡ false) (filter (λ b. not (is_below feature b)) bs)
 none_below feature [] = tt
 none_below feature (b ∷ bs) = at (is_below feature b) refl (none_below feature bs) where

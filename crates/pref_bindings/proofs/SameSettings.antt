@@ -1,6 +1,6 @@
 -- What a branch sets is the same in whatever order the bindings of its features are looked up.
 use Rattle.std.proofs.Common.{Ordering, ◌≡◌, ◌⊎◌, inl, inr, ℕ, Bool, true, false, cond, List, [], ◌∷◌, ◌++◌, Option, Some, None, Less, Equal, Greater, refl, sym, ap, ◌∙◌, subst}
-use Rattle.std.specs.Prelude.{◌||◌, bytes_eq, find, fold, option_and_then, option_map}
+use Rattle.std.specs.Prelude.{bytes_eq, find, fold, option_and_then, option_map}
 use Rattle.std.specs.BTreeMap.{insert_entry, is_at}
 use Rattle.std.specs.BTreeSet.{insert_key}
 use Rattle.std.specs.Cmp.Lexicographic.{nat_list_cmp_total, bytes_decides}
@@ -10,6 +10,7 @@ use Rattle.std.specs.Map.{lookup}
 use Rattle.std.specs.Ordering.{is_eq, match_ordering}
 use Rattle.std.proofs.lemmas.Cmp.{tied_itself}
 use Rattle.std.proofs.lemmas.Map.Entries.{lookup_head, lookup_tail}
+use Rattle.std.proofs.lemmas.Bool.{or_right, or_left}
 use Rattle.json_tree.specs.declared.tree.Tree.{Tree}
 use Rattle.fml_types.specs.declared.manifest.Manifest.{Manifest}
 use Rattle.recipe_reader.specs.Payloads.{slug_cmp}
@@ -292,20 +293,12 @@ same_order vs ws same = same_settings (in_order vs) (in_order ws) (rise_all [] v
 
 -- ---- the bindings of the branch's features
 
-or_yes : (a b : Bool) → a ≡ true → (a || b) ≡ true
-or_yes true b e = refl
-or_yes false b e = absurd cc
-
-or_behind : (a b : Bool) → b ≡ true → (a || b) ≡ true
-or_behind true b e = refl
-or_behind false b e = e
-
 in_those : (b : Binding) (bs : List Binding) → IsAmong b bs → is_in (preferences_of bs) b.preference ≡ true
 in_those b [] is = absurd is
 in_those b (c ∷ bs) is =
     elim is [
-      | inl here ↦ or_yes (bytes_eq c.preference b.preference) (is_in (preferences_of bs) b.preference) ((bytes_decides c.preference b.preference).1 (ap (λ (d : Binding). d.preference) (sym here)))
-      | inr behind ↦ or_behind (bytes_eq c.preference b.preference) (is_in (preferences_of bs) b.preference) (in_those b bs behind)
+      | inl here ↦ or_left (bytes_eq c.preference b.preference) (is_in (preferences_of bs) b.preference) ((bytes_decides c.preference b.preference).1 (ap (λ (d : Binding). d.preference) (sym here)))
+      | inr behind ↦ or_right (bytes_eq c.preference b.preference) (is_in (preferences_of bs) b.preference) (in_those b bs behind)
     ]
 
 apart : (b c : Binding) (bs : List Binding) → is_in (preferences_of bs) b.preference ≡ false → IsAmong c bs → b.preference ≡ c.preference → ⊥

@@ -1,10 +1,10 @@
 -- Slugs and names are short, and in UTF-8.
-use Rattle.std.proofs.Common.{◌≡◌, ◌<◌, ◌≤◌, ◌∷◌, [], List, ℕ, suc, Bool, true, false, Option, Some, None, length, IsTrue, IsUtf8, refl, arith, ne_eqb}
+use Rattle.std.proofs.Common.{◌≡◌, ◌<◌, ◌≤◌, ◌∷◌, [], List, ℕ, suc, true, Option, Some, None, length, IsTrue, IsUtf8, refl, arith, ne_eqb}
 use Rattle.std.specs.Prelude.{◌&&◌, nat_le, nat_lt, not}
 use Rattle.std.specs.List.{list_all}
 use Rattle.std.specs.Option.{is_some}
 use Rattle.std.specs.Str.{IsAscii}
-use Rattle.std.proofs.lemmas.Bool.{leb-true}
+use Rattle.std.proofs.lemmas.Bool.{leb-true, and_parts}
 use Rattle.std.proofs.lemmas.Bool.Decides.{nat_tests}
 use Rattle.std.proofs.lemmas.Str.{IsUtf8-from_ascii}
 use Rattle.std.proofs.lemmas.Str.Ascii.{IsAscii-cons}
@@ -18,10 +18,6 @@ use Rattle.recipe_reader.specs.declared.recipe.Recipe.{Recipe}
 use Rattle.recipe_reader.proofs.Again.{recipe_parts}
 use Rattle.recipe_reader.proofs.Steps.{slug_ok}
 use Rattle.enrol_states.specs.Statuses.{IsSlug}
-
-both : (a b : Bool) → (a && b) ≡ true → (a ≡ true) × (b ≡ true)
-both true b is = (refl, is)
-both false b is = absurd cc
 
 -- ---- slugs
 
@@ -49,14 +45,14 @@ recipe_slug r valid =
 -- ---- names
 
 pub name_short : (name : List ℕ) → IsTrue (is_name name) → length name ≤ 80
-name_short name is = leb-true (length name) 80 (both _ _ (both (nat_lt 0 (length name) && nat_le (length name) 80) _ is).0).1
+name_short name is = leb-true (length name) 80 (and_parts _ _ (and_parts (nat_lt 0 (length name) && nat_le (length name) 80) _ is).0).1
 
 below_128 : (x : ℕ) → is_name_byte x ≡ true → x < 128
 below_128 x is = grind (arith, nat_tests)
 
 ascii_all : (bytes : List ℕ) → list_all is_name_byte bytes ≡ true → IsAscii bytes
 ascii_all [] is = λ i. omega arith
-ascii_all (x ∷ bytes) is = let parts = both (is_name_byte x) (list_all is_name_byte bytes) is in IsAscii-cons x bytes (below_128 x parts.0) (ascii_all bytes parts.1)
+ascii_all (x ∷ bytes) is = let parts = and_parts (is_name_byte x) (list_all is_name_byte bytes) is in IsAscii-cons x bytes (below_128 x parts.0) (ascii_all bytes parts.1)
 
 pub name_utf8 : (name : List ℕ) → IsTrue (is_name name) → IsUtf8 name
-name_utf8 name is = IsUtf8-from_ascii name (ascii_all name (both _ (list_all is_name_byte name) is).1)
+name_utf8 name is = IsUtf8-from_ascii name (ascii_all name (and_parts _ (list_all is_name_byte name) is).1)
