@@ -4,13 +4,13 @@ use Rattle.std.proofs.lemmas.List.{length-map}
 use Rattle.std.specs.List.{list_any}
 use Rattle.std.proofs.lemmas.Option.{slice_get-map, slice_get-get_or, slice_get_within, same_Some}
 use Rattle.std.proofs.lemmas.Bool.{and_parts, and_from}
+use Rattle.sequences.proofs.Texts.{is_Less}
 use Rattle.enrol_conflicts.specs.declared.candidate.Candidate.{Candidate}
 use Rattle.recipe_reader.specs.Kinds.{kind_eq}
 use Rattle.recipe_reader.proofs.SameKind.{kind_Decides}
 use Rattle.enrol_states.specs.Order.{is_in}
 use Rattle.enrol_conflicts.specs.Settlement.{rank_cmp, is_before, clashes, any_granted, is_blocked, Settled}
 use Rattle.enrol_conflicts.specs.Laws.{Clashes, IsBlocked, IsSettledInWords, SettledSays}
-use Rattle.enrol_conflicts.proofs.Ranks.{Less-is}
 use Rattle.enrol_conflicts.proofs.Exclusion.{Contains-is_in, is_in-Contains, clash_from, any_granted-at}
 use Rattle.enrol_conflicts.proofs.Pass.{map_by_places}
 
@@ -54,7 +54,7 @@ is_blocked-Decides ws coenrolling gs w = (there, back) where
   there : is_blocked coenrolling ws gs w ≡ true → IsBlocked ws coenrolling gs w
   there h =
       let f = granted_find (λ v. is_before v w && clashes coenrolling v w) ws gs h in
-      (f.0, f.1, f.2, f.3, Less-is (rank_cmp f.1 w) (and_parts (is_before f.1 w) (clashes coenrolling f.1 w) f.4).0, (clashes-Decides coenrolling f.1 w).0 (and_parts (is_before f.1 w) (clashes coenrolling f.1 w) f.4).1)
+      (f.0, f.1, f.2, f.3, is_Less (rank_cmp f.1 w) (and_parts (is_before f.1 w) (clashes coenrolling f.1 w) f.4).0, (clashes-Decides coenrolling f.1 w).0 (and_parts (is_before f.1 w) (clashes coenrolling f.1 w) f.4).1)
 
   back : IsBlocked ws coenrolling gs w → is_blocked coenrolling ws gs w ≡ true
   back h = any_granted-at (λ v. is_before v w && clashes coenrolling v w) ws gs h.0 h.1 h.2 h.3 (and_from (is_before h.1 w) (clashes coenrolling h.1 w) (ap is_lt h.4) ((clashes-Decides coenrolling h.1 w).1 h.5))

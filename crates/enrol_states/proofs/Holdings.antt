@@ -10,6 +10,7 @@ use Rattle.std.specs.List.{list_any}
 use Rattle.std.proofs.lemmas.Bool.{cases_lt, false_from_ne_true, and_from}
 use Rattle.std.proofs.lemmas.List.{get_or_default}
 use Rattle.std.proofs.lemmas.List.Folds.{list_any_more}
+use Rattle.sequences.proofs.Texts.{is_Equal}
 use Rattle.recipe_reader.specs.Payloads.{slug_cmp, recipe_with}
 use Rattle.recipe_reader.specs.Kinds.{kind_of, kind_eq}
 use Rattle.recipe_reader.specs.declared.kinds.Kind.{Kind}
@@ -28,7 +29,6 @@ use Rattle.enrol_states.specs.declared.state.State.{State}
 use Rattle.enrol_states.specs.declared.state.Row.{Row}
 use Rattle.enrol_states.proofs.Ordered.{rises_by, lesser_texts}
 use Rattle.enrol_states.proofs.Lookups.{slug_of, status-at}
-use Rattle.enrol_states.proofs.Leasts.{is_Equal}
 
 -- ---- one row
 

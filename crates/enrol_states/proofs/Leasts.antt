@@ -4,11 +4,12 @@ use Rattle.std.specs.Prelude.{IsTrue, bytes_eq, if◌then◌else◌}
 use Rattle.std.specs.Cmp.{alike_right, second_so}
 use Rattle.std.specs.Cmp.Lexicographic.{nat_list_cmp_total, texts_ties, bytes_decides}
 use Rattle.std.specs.BTreeMap.Comparable.{le_lt_trans}
-use Rattle.std.specs.Ordering.{is_eq, is_le, is_lt, ordering_reverse}
+use Rattle.std.specs.Ordering.{is_le, is_lt, ordering_reverse}
 use Rattle.std.specs.List.{list_any}
 use Rattle.std.proofs.lemmas.List.Folds.{list_any_more}
 use Rattle.std.proofs.lemmas.List.{take_all}
 use Rattle.std.proofs.lemmas.Bool.{or_right, or_left}
+use Rattle.sequences.proofs.Texts.{is_Equal}
 use Rattle.recipe_reader.specs.Payloads.{slug_cmp}
 use Rattle.enrol_states.specs.Least.{IsLeast, lesser_of}
 use Rattle.enrol_states.proofs.Ordered.{turned_down}
@@ -21,11 +22,6 @@ le_at a b c Greater e first second = absurd cc
 
 pub le_trans : (a b c : List ℕ) → IsTrue (is_le (slug_cmp a b)) → IsTrue (is_le (slug_cmp b c)) → IsTrue (is_le (slug_cmp a c))
 le_trans a b c first second = le_at a b c (slug_cmp b c) refl first second
-
-pub is_Equal : (o : Ordering) → is_eq o ≡ true → o ≡ Equal
-is_Equal Less e = absurd cc
-is_Equal Equal e = refl
-is_Equal Greater e = absurd cc
 
 pub le_itself : (a b : List ℕ) → a ≡ b → IsTrue (is_le (slug_cmp a b))
 le_itself a b same = ap is_le (is_Equal (slug_cmp a b) (sym (texts_ties a b) ∙ (bytes_decides a b).1 same))

@@ -6,6 +6,7 @@ use Rattle.std.specs.Ordering.{nat_cmp, is_eq, is_lt}
 use Rattle.std.proofs.lemmas.List.{take-append-drop}
 use Rattle.std.proofs.lemmas.Map.Text.{is_eq-slice_cmp}
 use Rattle.std.proofs.lemmas.Bool.{or_parts}
+use Rattle.sequences.proofs.Texts.{is_Less, turned_down}
 use Rattle.fml_types.specs.Named.{IsAbove, IsBelow, AreRising, has_name, with_name}
 use Rattle.fml_types.proofs.Places.{below_at}
 use Rattle.fml_imports.specs.Merging.{with_new, count_below, is_first, IsFirstAbove}
@@ -13,7 +14,7 @@ use Rattle.fml_imports.specs.Outcome.{◌>>=◌, each, Fails}
 use Rattle.fml_imports.specs.declared.fault.JoinFault.{JoinFault}
 use Rattle.fml_imports.specs.declared.fault.JoinRefusal.{JoinRefusal}
 use Rattle.fml_imports.specs.declared.fault.JoinRefusal.TheVariants.{DuplicateName}
-use Rattle.fml_imports.proofs.Rising.{less_trans, turned_down, below_lower, above_upper, above_join, rising_right, absent_below, named_past, with_between, rises_with}
+use Rattle.fml_imports.proofs.Rising.{less_trans, below_lower, above_upper, above_join, rising_right, absent_below, named_past, with_between, rises_with}
 use Rattle.fml_imports.proofs.Steps.{each_turn, each_fails}
 
 -- ---- how many names are below one
@@ -28,17 +29,12 @@ past_below a (p ∷ ps) (suc i) d above =
       | false ↦ omega arith
     ]
 
-is_less : (o : Ordering) → is_lt o ≡ true → o ≡ Less
-is_less Less h = refl
-is_less Equal h = absurd cc
-is_less Greater h = absurd cc
-
 -- a place where a name is below it is before that many
 pub before_below : {T : Type 0} (a : List ℕ) (ps : List (List ℕ × T)) (i : ℕ) (d : List ℕ × T) → AreRising ps → i < length ps → is_lt (slice_cmp nat_cmp (get_or ps i d).0 a) ≡ true → i < count_below a ps
 before_below a [] i d rising h less = absurd (omega arith)
 before_below a (p ∷ ps) zero d rising h less = subst (λ (b : Bool). 0 < (if b then suc (count_below a ps) else 0)) (sym less) (omega arith)
 before_below a (p ∷ ps) (suc i) d rising h less =
-    let under : slice_cmp nat_cmp p.0 a ≡ Less = less_trans p.0 (get_or ps i d).0 a (below_at p.0 ps i d (omega arith) rising.0) (is_less (slice_cmp nat_cmp (get_or ps i d).0 a) less) in
+    let under : slice_cmp nat_cmp p.0 a ≡ Less = less_trans p.0 (get_or ps i d).0 a (below_at p.0 ps i d (omega arith) rising.0) (is_Less (slice_cmp nat_cmp (get_or ps i d).0 a) less) in
     let later : i < count_below a ps = before_below a ps i d rising.1 (omega arith) less in
     subst (λ (o : Ordering). suc i < (if is_lt o then suc (count_below a ps) else 0)) (sym under) (omega (arith, later))
 
@@ -193,10 +189,10 @@ rest_rises ps qs p is rising = (subst AreRising is rising).1
 -- a name above the last is above all
 above_at : {T : Type 0} (a : List ℕ) (ps : List (List ℕ × T)) (i : ℕ) (d : List ℕ × T) → AreRising ps → length ps ≤ suc i → i < length ps → is_lt (slice_cmp nat_cmp (get_or ps i d).0 a) ≡ true → IsAbove a ps
 above_at a [] i d rising most within less = tt
-above_at a (p ∷ []) zero d rising most within less = (is_less (slice_cmp nat_cmp p.0 a) less, tt)
+above_at a (p ∷ []) zero d rising most within less = (is_Less (slice_cmp nat_cmp p.0 a) less, tt)
 above_at a (p ∷ q ∷ ps) zero d rising most within less = absurd (omega (arith, most))
 above_at a (p ∷ ps) (suc i) d rising most within less = (
-  less_trans p.0 (get_or ps i d).0 a (below_at p.0 ps i d (omega (arith, within)) rising.0) (is_less (slice_cmp nat_cmp (get_or ps i d).0 a) less),
+  less_trans p.0 (get_or ps i d).0 a (below_at p.0 ps i d (omega (arith, within)) rising.0) (is_Less (slice_cmp nat_cmp (get_or ps i d).0 a) less),
   above_at a ps i d rising.1 (omega (arith, most)) (omega (arith, within)) less,
 )
 

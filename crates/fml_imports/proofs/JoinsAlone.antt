@@ -1,11 +1,11 @@
 -- A file that says what a manifest has gives the manifest, where it stands alone.
-use Rattle.std.proofs.Common.{Ordering, ◌≡◌, ℕ, get_or, Bool, true, false, List, [], ◌∷◌, ◌++◌, map, Option as Maybe, None, Result, Ok, Err, Less, Greater, refl, sym, ap, ◌∙◌, subst, append_assoc, append-nil}
+use Rattle.std.proofs.Common.{Ordering, ◌≡◌, ℕ, get_or, Bool, true, false, List, [], ◌∷◌, ◌++◌, map, Option as Maybe, None, Result, Ok, Err, Less, refl, sym, ap, ◌∙◌, subst, append_assoc, append-nil}
 use Rattle.std.specs.Prelude.{◌||◌, All, ⊤, bytes_eq, if◌then◌else◌}
 use Rattle.std.specs.Option.{option_or}
-use Rattle.std.specs.Cmp.Lexicographic.{slice_cmp, bytes_decides}
-use Rattle.std.specs.Ordering.{nat_cmp, ordering_reverse, is_eq, is_lt}
-use Rattle.std.proofs.lemmas.Cmp.{nat_list_cmp_total}
+use Rattle.std.specs.Cmp.Lexicographic.{slice_cmp}
+use Rattle.std.specs.Ordering.{nat_cmp, is_eq, is_lt}
 use Rattle.std.proofs.lemmas.Bool.{or_parts, or_from}
+use Rattle.sequences.proofs.Texts.{is_eq-turned, bytes_same, turned_up}
 use Rattle.fml_types.specs.Ground.{grounding}
 use Rattle.fml_types.specs.Named.{IsAbove, IsBelow, AreRising, has_name, with_name}
 use Rattle.fml_types.specs.Shapes.{shape_of}
@@ -28,7 +28,7 @@ use Rattle.fml_imports.specs.declared.fault.JoinRefusal.{JoinRefusal}
 use Rattle.fml_imports.specs.declared.fault.JoinRefusal.TheVariants.{DuplicateName}
 use Rattle.fml_imports.specs.declared.joining.Linked.{Linked}
 use Rattle.fml_imports.proofs.Alls.{all_nil, all_cons, all_head, all_tail, all_map}
-use Rattle.fml_imports.proofs.Names.{sides, turned}
+use Rattle.fml_imports.proofs.Names.{turned}
 use Rattle.fml_imports.proofs.ReadsAgain.{alone}
 
 abbrev done : {A : Type 0} → A → Result A JoinRefusal
@@ -37,23 +37,17 @@ done x = Ok x
 bind_known : {A B : Type 0} (r : Result A JoinRefusal) (a : A) (f : A → Result B JoinRefusal) → r ≡ done a → (r >>= f) ≡ f a
 bind_known {A = A} r a f h = ap (λ (x : Result A JoinRefusal). x >>= f) h
 
-same_itself : (name : List ℕ) → bytes_eq name name ≡ true
-same_itself name = (bytes_decides name name).1 refl
-
 -- ---- names that rise are added at the end
-
-greater : (a b : List ℕ) → slice_cmp nat_cmp b a ≡ Less → slice_cmp nat_cmp a b ≡ Greater
-greater a b h = nat_list_cmp_total.antisymm a b ∙ ap ordering_reverse h
 
 at_end : {T : Type 0} (p : List ℕ × T) (ps : List (List ℕ × T)) → IsAbove p.0 ps → with_name p ps ≡ ps ++ p ∷ []
 at_end p [] above = refl
 at_end p (q ∷ qs) above =
-    ap (λ (o : Ordering). if is_lt o then p ∷ q ∷ qs else q ∷ with_name p qs) (greater p.0 q.0 above.0) ∙ ap (λ l. q ∷ l) (at_end p qs above.1)
+    ap (λ (o : Ordering). if is_lt o then p ∷ q ∷ qs else q ∷ with_name p qs) (turned_up q.0 p.0 above.0) ∙ ap (λ l. q ∷ l) (at_end p qs above.1)
 
 is_new : {T : Type 0} (name : List ℕ) (ps : List (List ℕ × T)) → IsAbove name ps → has_name name ps ≡ false
 is_new name [] above = refl
 is_new name (q ∷ qs) above =
-    let apart : bytes_eq q.0 name ≡ false = sym (sides name q.0) ∙ ap is_eq (greater name q.0 above.0) in
+    let apart : bytes_eq q.0 name ≡ false = sym (is_eq-turned name q.0) ∙ ap is_eq (turned_up q.0 name above.0) in
     ap (λ b. b || has_name name qs) apart ∙ is_new name qs above.1
 
 below_here : {T : Type 0} (name : List ℕ) (ps : List (List ℕ × T)) (p : List ℕ × T) (rest : List (List ℕ × T)) → IsBelow name (ps ++ p ∷ rest) → slice_cmp nat_cmp name p.0 ≡ Less
@@ -127,7 +121,7 @@ map_same f same [] = refl
 map_same f same (x ∷ xs) = λ i. same x i ∷ map_same f same xs i
 
 feature_stays : (channel : List ℕ) (f : List ℕ × FeatureDefinition) → feature_for channel channel f ≡ f
-feature_stays channel f = ap (λ (c : Bool). (f.0, record f.1 { defaults = if c then f.1.defaults else kept_entries channel f.1.defaults })) (same_itself channel)
+feature_stays channel f = ap (λ (c : Bool). (f.0, record f.1 { defaults = if c then f.1.defaults else kept_entries channel f.1.defaults })) (bytes_same channel)
 
 nothing_over : (f : List ℕ × FeatureDefinition) → overridden [] f ≡ f
 nothing_over f = ap (λ (es : List DefaultEntry). (f.0, record f.1 { defaults = es })) (append-nil f.1.defaults)
@@ -171,6 +165,6 @@ joined_alone m formed name =
     let t : Tables = record { enums = m.types.enums; objects = m.types.objects; features = m.features } in
     bind_known (tables_of (module_for m.channel file ∷ [])) t (λ u. made_of u [] (file ∷ []) m.channel)
     (bind_known (with_module no_tables (module_for m.channel file)) t (λ u. done u) (ap (with_module no_tables) (module_stays m name) ∙ tables_alone m formed))
-    ∙ ap (λ (b : Bool). checked (manifest_with t [] m.channel) (b || false) None None) (same_itself m.channel)
+    ∙ ap (λ (b : Bool). checked (manifest_with t [] m.channel) (b || false) None None) (bytes_same m.channel)
     ∙ ap (λ (n : Manifest). checked n true None None) (same_manifest m)
     ∙ sound_checked m formed.sound

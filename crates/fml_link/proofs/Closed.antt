@@ -6,6 +6,7 @@ use Rattle.std.proofs.lemmas.List.{append-nil}
 use Rattle.std.proofs.lemmas.Option.{slice_get_within}
 use Rattle.std.specs.Option.{option_or}
 use Rattle.std.proofs.lemmas.Bool.{or_right, or_left}
+use Rattle.sequences.proofs.Texts.{bytes_same}
 use Rattle.fml_types.specs.Named.{found, has_name}
 use Rattle.fml_reader.specs.declared.module.Module.{Module}
 use Rattle.fml_imports.proofs.Alls.{all_nil, all_cons, all_head, all_tail, all_map}
@@ -41,14 +42,11 @@ found_at name channel (f ∷ fs) h =
 
 -- ---- files that are added are in the list
 
-same_itself : (name : List ℕ) → bytes_eq name name ≡ true
-same_itself name = (bytes_decides name name).1 refl
-
 file-there : (there room : Bool) (list : Listed) (f : List ℕ × List ℕ) (longer : Listed) → has_name f.0 list ≡ there → (if there then Ok list else if room then Ok (list ++ f ∷ []) else Err refusals.TooManyFiles) ≡ Ok longer → has_name f.0 longer ≡ true
 file-there true room list f longer there h = let same : list ≡ longer = cc in subst (λ (l : Listed). has_name f.0 l ≡ true) same there
 file-there false true list f longer there h =
     let same : list ++ f ∷ [] ≡ longer = cc in
-    subst (λ (l : Listed). has_name f.0 l ≡ true) same (has_push f.0 f list ∙ or_right (has_name f.0 list) (bytes_eq f.0 f.0) (same_itself f.0))
+    subst (λ (l : Listed). has_name f.0 l ≡ true) same (has_push f.0 f list ∙ or_right (has_name f.0 list) (bytes_eq f.0 f.0) (bytes_same f.0))
 file-there false false list f longer there h = absurd cc
 
 file_there : (list : Listed) (f : List ℕ × List ℕ) (longer : Listed) → with_file list f ≡ Ok longer → has_name f.0 longer ≡ true

@@ -4,6 +4,7 @@ use Rattle.std.specs.Prelude.{◌&&◌, ◌||◌, not, bytes_eq, option_and_then
 use Rattle.std.specs.List.{AllByRecursion}
 use Rattle.std.proofs.lemmas.List.{drop_all, map-append}
 use Rattle.std.proofs.lemmas.Bool.{or_parts}
+use Rattle.sequences.proofs.Alls.{all_push}
 use Rattle.json_tree.specs.Json as json
 use Rattle.json_tree.specs.Json.{Json, Members, no_members, member, members_of}
 use Rattle.json_tree.specs.Tree.{json_of, member_of}
@@ -12,7 +13,6 @@ use Rattle.plain_text.specs.Names.{is_name}
 use Rattle.recipe_reader.specs.Outcome.{only_if}
 use Rattle.enrol_states.specs.Order.{is_in}
 use Rattle.enrol_states.proofs.Ordered.{bytes_turned}
-use Rattle.row_batches.proofs.Keeping.{all_push}
 use Rattle.pref_bindings.specs.declared.bindings.Binding.{Binding}
 use Rattle.pref_bindings.specs.Bindings.{AreBindings, Differ, or_at_fault, preferences_of, with_feature, with_features, with_variable, with_variables}
 use Rattle.pref_bindings.proofs.FoundBindings.{in_pushed}

@@ -7,20 +7,16 @@ use Rattle.std.specs.List.{list_any}
 use Rattle.std.specs.Ordering.{is_eq, match_ordering}
 use Rattle.std.specs.declared.cmp.Ordering.{Ordering}
 use Rattle.std.proofs.lemmas.List.{map-append}
-use Rattle.std.proofs.lemmas.Map.Text.{is_eq-slice_cmp}
 use Rattle.std.proofs.lemmas.Bool.{or_parts}
+use Rattle.sequences.proofs.Texts.{is_eq-turned}
 use Rattle.recipe_reader.specs.Payloads.{slug_cmp}
 use Rattle.enrol_states.specs.Order.{is_in}
-use Rattle.enrol_states.proofs.Ordered.{bytes_turned}
 use Rattle.pref_bindings.specs.declared.bindings.Binding.{Binding}
 use Rattle.pref_bindings.specs.Bindings.{preferences_of}
 
 -- whether the keys have the name
 abbrev pub holds : List (List ℕ) → List ℕ → Bool
 holds keys name = list_any (is_at (slug_cmp name)) keys
-
-sides : (a b : List ℕ) → is_eq (slug_cmp a b) ≡ bytes_eq b a
-sides a b = is_eq-slice_cmp a b ∙ bytes_turned a b
 
 or_turned : (a b : Bool) → (a || b) ≡ (b || a)
 or_turned true true = refl
@@ -33,13 +29,13 @@ or_grouped true b c = refl
 or_grouped false b c = refl
 
 holds-insert : (k q x : List ℕ) (xs inserted : List (List ℕ)) (o : Ordering) → is_eq o ≡ false → holds inserted q ≡ (holds xs q || bytes_eq k q) → holds (match_ordering o (k ∷ x ∷ xs) (x ∷ xs) (x ∷ inserted)) q ≡ (holds (x ∷ xs) q || bytes_eq k q)
-holds-insert k q x xs inserted Less apart rest = ap (λ b. b || holds (x ∷ xs) q) (sides q k) ∙ or_turned (bytes_eq k q) (holds (x ∷ xs) q)
+holds-insert k q x xs inserted Less apart rest = ap (λ b. b || holds (x ∷ xs) q) (is_eq-turned q k) ∙ or_turned (bytes_eq k q) (holds (x ∷ xs) q)
 holds-insert k q x xs inserted Equal apart rest = absurd cc
 holds-insert k q x xs inserted Greater apart rest = ap (λ b. is_eq (slug_cmp q x) || b) rest ∙ or_grouped (is_eq (slug_cmp q x)) (holds xs q) (bytes_eq k q)
 
 -- a new key is there, and the others as before
 holds_insert : (k q : List ℕ) (ks : List (List ℕ)) → holds ks k ≡ false → holds (insert_key slug_cmp ks k) q ≡ (holds ks q || bytes_eq k q)
-holds_insert k q [] absent = ap (λ b. b || false) (sides q k) ∙ or_turned (bytes_eq k q) false
+holds_insert k q [] absent = ap (λ b. b || false) (is_eq-turned q k) ∙ or_turned (bytes_eq k q) false
 holds_insert k q (x ∷ xs) absent =
     let apart : is_eq (slug_cmp k x) ≡ false = (or_parts (is_eq (slug_cmp k x)) (holds xs k) absent).0 in
     holds-insert k q x xs (insert_key slug_cmp xs k) (slug_cmp k x) apart (holds_insert k q xs (or_parts (is_eq (slug_cmp k x)) (holds xs k) absent).1)

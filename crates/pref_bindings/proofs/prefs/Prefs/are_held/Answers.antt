@@ -3,7 +3,7 @@ use Rattle.std.proofs.Common.{◌≡◌, ◌+◌, ◌++◌, ◌∷◌, [], List,
 use Rattle.std.specs.Prelude.{option_map}
 use Rattle.std.specs.Option.{is_some}
 use Rattle.std.proofs.lemmas.List.{take_all, take_more}
-use Rattle.row_batches.proofs.Keeping.{all_push}
+use Rattle.sequences.proofs.Alls.{all_push}
 use Rattle.pref_bindings.specs.Changes.{Setting}
 use Rattle.pref_bindings.specs.Preferences.{AreHeld, holder_of}
 use Rattle.pref_bindings.specs.declared.preference.Preference.{Preference}
