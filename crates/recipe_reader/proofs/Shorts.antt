@@ -1,6 +1,6 @@
 -- The parts of a valid recipe have few bytes.
-use Rattle.std.proofs.Common.{◌≡◌, ◌≤◌, ℕ, List as Seq, [], map, Bool, true, false, Option, Some, None, Result, Ok, sym, ap, ◌∙◌, subst, arith}
-use Rattle.std.specs.Prelude.{◌&&◌, nat_le, nat_lt, length, codes, All}
+use Rattle.std.proofs.Common.{◌≡◌, ◌≤◌, List as Seq, [], map, Bool, true, false, Option, Some, None, Result, Ok, sym, ap, ◌∙◌, subst, arith}
+use Rattle.std.specs.Prelude.{◌&&◌, nat_le, length, codes, All}
 use Rattle.std.proofs.lemmas.Bool.{leb-true, and_parts}
 use Rattle.std.proofs.lemmas.List.Elements.{All-cons, All-nil}
 use Rattle.json_tree.specs.Json.{Json, Items, no_items, item, items_of, get, depth}
@@ -24,10 +24,7 @@ use Rattle.recipe_reader.proofs.Steps.{ok_is, needed_ok, only_if_ok}
 use Rattle.recipe_reader.proofs.BranchesAgain.{one_more, feature_parts, list_parts, listed_again, branch_parts, feature_test, branch_test}
 use Rattle.recipe_reader.proofs.Again.{recipe_parts, branches_in_ok}
 use Rattle.recipe_reader.specs.Lengths.{IsShort, HasShortFeatures, HasShortBranches}
-use Rattle.plain_text.specs.Names.{is_name}
-
-name_short : (name : Seq ℕ) → is_name name ≡ true → length name ≤ 80
-name_short name is = leb-true (length name) 80 (and_parts _ _ (and_parts (nat_lt 0 (length name) && nat_le (length name) 80) _ is).0).1
+use Rattle.plain_text.proofs.Names.{name_short}
 
 third : (a b c : Bool) → (a && b && c) ≡ true → c ≡ true
 third true true c e = e
