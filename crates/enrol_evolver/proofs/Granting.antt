@@ -3,6 +3,7 @@ use Rattle.std.proofs.Common.{◌≡◌, ◌≢◌, ℕ, zero, suc, Bool, true, 
 use Rattle.std.specs.Prelude.{fold, bytes_eq, ◌||◌, ◌&&◌, not, filter, IsTrue, if◌then◌else◌}
 use Rattle.std.specs.List.{list_any, flat_map}
 use Rattle.std.specs.Cmp.Lexicographic.{bytes_decides}
+use Rattle.std.proofs.Math.Bool.{or_assoc}
 use Rattle.recipe_reader.specs.Payloads as payloads
 use Rattle.recipe_reader.specs.Payloads.{AreInOrder, AreValid, recipe_with}
 use Rattle.recipe_reader.specs.Records.{IsValid}
@@ -69,14 +70,10 @@ once_by f t ts false e = more-texts f t ts
 among-once : (f t : List ℕ) (ts : List (List ℕ)) → is_in (with_once ts t) f ≡ (is_in ts f || bytes_eq t f)
 among-once f t ts = once_by f t ts (is_in ts t) refl
 
-or_or : (a b c : Bool) → ((a || b) || c) ≡ (a || (b || c))
-or_or true b c = refl
-or_or false b c = refl
-
 -- to have each text once is to have the same texts
 among-fold : (f : List ℕ) (ts acc : List (List ℕ)) → is_in (fold with_once acc ts) f ≡ (is_in acc f || is_in ts f)
 among-fold f [] acc = sym (none_after (is_in acc f))
-among-fold f (t ∷ ts) acc = among-fold f ts (with_once acc t) ∙ ap (λ b. b || is_in ts f) (among-once f t acc) ∙ or_or (is_in acc f) (bytes_eq t f) (is_in ts f)
+among-fold f (t ∷ ts) acc = among-fold f ts (with_once acc t) ∙ ap (λ b. b || is_in ts f) (among-once f t acc) ∙ or_assoc (is_in acc f) (bytes_eq t f) (is_in ts f)
 
 among-features : (f : List ℕ) (r : Recipe) → is_in (features_of r) f ≡ has_feature r f
 among-features f r = among-fold f (flat_map (λ (b : Branch). map (λ (v : FeatureValue). v.feature) b.features) r.branches) [] ∙ among-branches f r.branches

@@ -10,6 +10,7 @@ use Rattle.std.specs.List.{list_any}
 use Rattle.std.proofs.lemmas.Bool.{cases_lt, false_from_ne_true, and_from}
 use Rattle.std.proofs.lemmas.List.{get_or_default}
 use Rattle.std.proofs.lemmas.List.Folds.{list_any_more}
+use Rattle.std.proofs.Math.Bool.{or-true, or-false}
 use Rattle.sequences.proofs.Texts.{is_Equal}
 use Rattle.recipe_reader.specs.Payloads.{slug_cmp, recipe_with}
 use Rattle.recipe_reader.specs.Kinds.{kind_of, kind_eq}
@@ -28,7 +29,7 @@ use Rattle.enrol_states.specs.Holding.{has_alone, recipe_holds, enrolled_recipe,
 use Rattle.enrol_states.specs.declared.state.State.{State}
 use Rattle.enrol_states.specs.declared.state.Row.{Row}
 use Rattle.enrol_states.proofs.Ordered.{rises_by, lesser_texts}
-use Rattle.enrol_states.proofs.Lookups.{slug_of, status-at}
+use Rattle.enrol_states.proofs.Lookups.{slug_of, status-at, is_some-map}
 
 -- ---- one row
 
@@ -86,15 +87,11 @@ among p [] (suc j) h = absurd cc
 among p (x ∷ xs) zero h = absurd cc
 among p (x ∷ xs) (suc j) h = among_at p x xs j (p x) refl h (among p xs j)
 
-or_true : (b : Bool) → (b || true) ≡ true
-or_true true = refl
-or_true false = refl
-
 any_at : {X : Type 0} (p : X → Bool) (xs : List X) (i j : ℕ) (d : X) → i < j → i < length xs → p (get_or xs i d) ≡ true → list_any p (take j xs) ≡ true
 any_at p [] i j d before within h = absurd (omega (arith, within))
 any_at p (x ∷ xs) i zero d before within h = absurd (omega (arith, before))
 any_at p (x ∷ xs) zero (suc j) d before within h = ap (λ b. b || list_any p (take j xs)) h
-any_at p (x ∷ xs) (suc i) (suc j) d before within h = ap (λ b. p x || b) (any_at p xs i j d (omega (arith, before)) (omega (arith, within)) h) ∙ or_true (p x)
+any_at p (x ∷ xs) (suc i) (suc j) d before within h = ap (λ b. p x || b) (any_at p xs i j d (omega (arith, before)) (omega (arith, within)) h) ∙ or-true (p x)
 
 -- ---- rows that are apart, and recipes that are exclusive
 
@@ -206,15 +203,11 @@ apart_more s kind rows i row within here fresh apart j d f before h =
           subst (λ m. is_held s kind (take m rows) f ≡ false) (sym place) (fresh f (sym (ap (λ q. holds s kind q f) same) ∙ h))
     ]
 
-or_false : (b : Bool) → b ≡ (b || false)
-or_false true = refl
-or_false false = refl
-
 -- a row by which the client is enrolled in no recipe of the kind
 pub none_held : (s : State) (kind : Kind) (rows : List Row) (i : ℕ) (row : Row) (set : BTreeSet (Bor (List ℕ))) → i < length rows → row ≡ get_or rows i row → enrolled_recipe s kind row ≡ None
     → ((f : List ℕ) → has_text set f ≡ is_held s kind (take i rows) f) → (f : List ℕ) → has_text set f ≡ is_held s kind (take (i + 1) rows) f
 none_held s kind rows i row set within here none held f =
-    held f ∙ or_false (is_held s kind (take i rows) f) ∙ ap (λ o. is_held s kind (take i rows) f || recipe_holds s.coenrolling o f) (sym none) ∙ sym (held_more s kind rows i row f within here)
+    held f ∙ sym (or-false (is_held s kind (take i rows) f)) ∙ ap (λ o. is_held s kind (take i rows) f || recipe_holds s.coenrolling o f) (sym none) ∙ sym (held_more s kind rows i row f within here)
 
 pub none_apart : (s : State) (kind : Kind) (rows : List Row) (i : ℕ) (row : Row) → i < length rows → row ≡ get_or rows i row → enrolled_recipe s kind row ≡ None
     → AreApartBefore s kind rows i → AreApartBefore s kind rows (i + 1)
@@ -260,10 +253,6 @@ all_apart s kind rows i same all apart j row f within h =
     (apart j row f (let fewer : j < length rows = subst (λ qs. j < length qs) (sym same) within in omega (arith, all, fewer)) (subst (λ (qs : List Row). holds s kind (get_or qs j row) f ≡ true) (sym same) h))
 
 -- ---- whether a least text is there
-
-is_some-map : {A B : Type 0} (f : A → B) (o : Option A) → is_some (option_map f o) ≡ is_some o
-is_some-map f None = refl
-is_some-map f (Some a) = refl
 
 least_there : (test : List ℕ → Bool) (o : Option (List ℕ)) → is_some o ≡ true → IsLeast test o → (f : List ℕ) × (test f ≡ true)
 least_there test None there least = absurd cc
