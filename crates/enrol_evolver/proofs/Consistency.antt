@@ -21,12 +21,14 @@ use Rattle.enrol_states.specs.declared.state.State.{State}
 use Rattle.enrol_states.specs.declared.state.Row.{Row}
 use Rattle.enrol_states.specs.declared.status.Status.{Status}
 use Rattle.enrol_states.specs.declared.status.Status.TheVariants.{Enrolled, NotEnrolled, Disqualified, WasEnrolled, Error}
+use Rattle.enrol_states.proofs.Exclusion.{found_slug}
+use Rattle.enrol_states.proofs.Enrolments.{has_recipe}
 use Rattle.enrol_evolver.specs.Verdicts.{is_out}
 use Rattle.enrol_evolver.specs.Wishes.{outcome_of, row_of}
 use Rattle.enrol_evolver.specs.Evolution.{version_of, live_after, refreshed, is_slug_granted, new_status, status_with, rows_after, with_new_rows, evolution}
 use Rattle.enrol_evolver.proofs.Validity.{slug_fits}
 use Rattle.enrol_evolver.proofs.RowLists.{rows_where, row_where}
-use Rattle.enrol_evolver.proofs.Evolved.{found_slug, rows_after-rise, status-after}
+use Rattle.enrol_evolver.proofs.Evolved.{rows_after-rise, status-after}
 use Rattle.enrol_evolver.proofs.Fitness.{IsOld, IsFitting, outcome-fits, status-fits}
 use Rattle.enrol_evolver.proofs.Granting.{old-fits, found_valid, evolved-exclusive}
 
@@ -40,14 +42,6 @@ pub record IsRowOf (s : State) (row : Row) : Type 0 where
   pub participation : IsParticipating s row
 
 -- ---- a slug with a live recipe
-
-has_recipe_at : (slug : List ℕ) (q : Recipe) (qs : List Recipe) (r : Recipe) (b : Bool) → (recipe_with slug qs ≡ Some r → has_slug slug qs ≡ true) → (if b then Some q else recipe_with slug qs) ≡ Some r → (b || has_slug slug qs) ≡ true
-has_recipe_at slug q qs r true rest e = refl
-has_recipe_at slug q qs r false rest e = rest e
-
-has_recipe : (slug : List ℕ) (rs : List Recipe) (r : Recipe) → recipe_with slug rs ≡ Some r → has_slug slug rs ≡ true
-has_recipe slug [] r e = absurd cc
-has_recipe slug (q ∷ qs) r e = has_recipe_at slug q qs r (bytes_eq q.slug slug) (has_recipe slug qs r) e
 
 taking_part : (a b : Bool) → (a || not b) ≡ false → b ≡ true
 taking_part true b e = absurd cc

@@ -35,14 +35,6 @@ only_grants ws coenrolling gs settled = settled_at_most_once ws coenrolling gs (
 
 -- ---- slugs that have a recipe or a row
 
-slug_at : (slug : List ℕ) (q : Recipe) (qs : List Recipe) (r : Recipe) (b : Bool) → bytes_eq q.slug slug ≡ b → (recipe_with slug qs ≡ Some r → r.slug ≡ slug) → (if b then Some q else recipe_with slug qs) ≡ Some r → r.slug ≡ slug
-slug_at slug q qs r true same rest e = let one : q ≡ r = cc in sym (ap (λ (p : Recipe). p.slug) one) ∙ (bytes_decides q.slug slug).0 same
-slug_at slug q qs r false same rest e = rest e
-
-pub found_slug : (slug : List ℕ) (rs : List Recipe) (r : Recipe) → recipe_with slug rs ≡ Some r → r.slug ≡ slug
-found_slug slug [] r e = absurd cc
-found_slug slug (q ∷ qs) r e = slug_at slug q qs r (bytes_eq q.slug slug) refl (found_slug slug qs r) e
-
 no_recipe_at : (slug : List ℕ) (r : Recipe) (rs : List Recipe) (b : Bool) → (is_in (map (λ (p : Recipe). p.slug) rs) slug ≡ false → recipe_with slug rs ≡ None) → (b || is_in (map (λ (p : Recipe). p.slug) rs) slug) ≡ false → (if b then Some r else recipe_with slug rs) ≡ None
 no_recipe_at slug r rs true rest e = absurd cc
 no_recipe_at slug r rs false rest e = rest e

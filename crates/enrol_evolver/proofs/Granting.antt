@@ -22,12 +22,13 @@ use Rattle.enrol_states.specs.declared.state.State.{State}
 use Rattle.enrol_states.specs.declared.state.Row.{Row}
 use Rattle.enrol_states.specs.declared.status.Status.{Status}
 use Rattle.enrol_states.proofs.Ordered.{greater_texts, turned_up}
+use Rattle.enrol_states.proofs.Exclusion.{found_slug}
 use Rattle.enrol_conflicts.specs.declared.candidate.Candidate.{Candidate}
 use Rattle.enrol_conflicts.proofs.Exclusion.{exclusive, Contains-is_in, is_in-Contains}
 use Rattle.enrol_evolver.specs.Verdicts.{is_out}
 use Rattle.enrol_evolver.specs.Wishes.{with_once, features_of, candidate_of, outcome_of, is_wish, wishes_of, grants_of, is_granted}
 use Rattle.enrol_evolver.specs.Evolution.{is_slug_granted, status_with, rows_after, with_new_rows}
-use Rattle.enrol_evolver.proofs.Evolved.{settled_grants, found_slug, status-after}
+use Rattle.enrol_evolver.proofs.Evolved.{settled_grants, status-after}
 use Rattle.enrol_evolver.proofs.Fitness.{IsOld, outcome-fits, enrolled-granted}
 
 -- ---- features

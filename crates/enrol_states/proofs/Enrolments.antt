@@ -124,7 +124,7 @@ has_recipe_at : (s : List ℕ) (q : Recipe) (qs : List Recipe) (r : Recipe) (b :
 has_recipe_at s q qs r true rest e = refl
 has_recipe_at s q qs r false rest e = rest e
 
-has_recipe : (s : List ℕ) (rs : List Recipe) (r : Recipe) → recipe_with s rs ≡ Some r → has_slug s rs ≡ true
+pub has_recipe : (s : List ℕ) (rs : List Recipe) (r : Recipe) → recipe_with s rs ≡ Some r → has_slug s rs ≡ true
 has_recipe s [] r e = absurd cc
 has_recipe s (q ∷ qs) r e = has_recipe_at s q qs r (bytes_eq q.slug s) (has_recipe s qs r) e
 
