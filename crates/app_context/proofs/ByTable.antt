@@ -4,6 +4,7 @@ use Rattle.std.specs.Prelude.{bytes_eq, filter, option_map, if◌then◌else◌}
 use Rattle.std.specs.List.{list_any}
 use Rattle.std.specs.Cmp.Lexicographic.{bytes_decides}
 use Rattle.std.proofs.lemmas.List.Folds.{list_any-append}
+use Rattle.std.proofs.lemmas.Bool.{or_parts}
 use Rattle.json_tree.specs.Json.{Json, truth, members_of, get_member}
 use Rattle.jexl_value.specs.Meaning.{without_odd}
 use Rattle.jexl_value.specs.Names.{with_member}
@@ -18,14 +19,6 @@ use Rattle.app_context.specs.Attributes.{text_entries, locale_entries, client_en
 use Rattle.app_context.specs.Events.{counts_name, with_events, HaveCounts}
 use Rattle.app_context.specs.Laws.{table, value_in, AreByTable}
 use Rattle.app_context.proofs.Entries.{entered-append}
-
-left_false : (a b : Bool) → (a || b) ≡ false → a ≡ false
-left_false true b e = absurd (cc)
-left_false false b e = refl
-
-right_false : (a b : Bool) → (a || b) ≡ false → b ≡ false
-right_false true b e = absurd (cc)
-right_false false b e = e
 
 abbrev entry_names : List (List ℕ × Option Json) → List (List ℕ)
 entry_names es = map (λ e. e.0) es
@@ -50,15 +43,15 @@ later_distinct false b e = e
 lacks_value : (es : List (List ℕ × Option Json)) (name : List ℕ) (other : Option Json) → has (entry_names es) name ≡ false → value_in es name other ≡ other
 lacks_value [] name other none = refl
 lacks_value (e ∷ es) name other none =
-    ap (λ b. if b then e.1 else value_in es name other) (left_false (bytes_eq name e.0) (has (entry_names es) name) none) ∙ lacks_value es name other (right_false (bytes_eq name e.0) (has (entry_names es) name) none)
+    ap (λ b. if b then e.1 else value_in es name other) (or_parts (bytes_eq name e.0) (has (entry_names es) name) none).0 ∙ lacks_value es name other (or_parts (bytes_eq name e.0) (has (entry_names es) name) none).1
 
 lacks_entered : (es : List (List ℕ × Option Json)) (name : List ℕ) (ms : List (List ℕ × Json)) → has (entry_names es) name ≡ false → get_member name (members_of (entered es ms)) ≡ get_member name (members_of ms)
 lacks_entered [] name ms none = refl
-lacks_entered ((k, None) ∷ es) name ms none = lacks_entered es name ms (right_false (bytes_eq name k) (has (entry_names es) name) none)
+lacks_entered ((k, None) ∷ es) name ms none = lacks_entered es name ms (or_parts (bytes_eq name k) (has (entry_names es) name) none).1
 lacks_entered ((k, Some x) ∷ es) name ms none =
-    lacks_entered es name (with_member k x ms) (right_false (bytes_eq name k) (has (entry_names es) name) none)
+    lacks_entered es name (with_member k x ms) (or_parts (bytes_eq name k) (has (entry_names es) name) none).1
     ∙ get_member-with k x ms name
-    ∙ ap (λ b. if b then Some x else get_member name (members_of ms)) (bytes_turned k name ∙ left_false (bytes_eq name k) (has (entry_names es) name) none)
+    ∙ ap (λ b. if b then Some x else get_member name (members_of ms)) (bytes_turned k name ∙ (or_parts (bytes_eq name k) (has (entry_names es) name) none).0)
 
 -- ---- a name that the entries have
 

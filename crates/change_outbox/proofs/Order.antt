@@ -1,17 +1,13 @@
 -- The rows of an outbox are in the order of their keys.
 use Rattle.std.proofs.Common.{Less, ◌≡◌, ℕ, ◌+◌, ◌-◌, ◌^◌, ◌<◌, ◌≤◌, Bool, true, false, List, [], ◌∷◌, ◌++◌, map, length, sym, subst, arith}
 use Rattle.std.specs.Prelude.{nat_lt, if◌then◌else◌}
-use Rattle.std.specs.List.{AllByRecursion}
 use Rattle.std.specs.List.Sorted.{IsStrictlySortedBy}
-use Rattle.row_batches.specs.Rows.{AreRows, key_cmp, key_of}
-use Rattle.row_batches.specs.declared.store_row.StoreRow.{StoreRow}
+use Rattle.row_batches.specs.Rows.{AreRows, key_cmp}
+use Rattle.row_batches.proofs.RowOrder.{IsBelow}
 use Rattle.change_outbox.specs.declared.change.Change.{Change}
 use Rattle.change_outbox.specs.Contents.{Contents, AreNumberedFrom, IsNumbered, last_number}
 use Rattle.change_outbox.specs.Rows.{change_key, change_row, next_row, rows_of}
 use Rattle.change_outbox.proofs.ByteOrder.{keys_rise, next_key_first}
-
-abbrev IsBelow : List ℕ → List StoreRow → Type 0
-IsBelow key rows = AllByRecursion (λ k. key_cmp key k ≡ Less) (map key_of rows)
 
 pub below_changes : (a n : ℕ) (cs : List Change) → a < n → n + length cs ≤ 2 ^ 64 → AreNumberedFrom n cs → IsBelow (change_key a) (map change_row cs)
 below_changes a n [] less fits are = tt

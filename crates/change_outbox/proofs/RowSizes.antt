@@ -1,26 +1,14 @@
 -- How many bytes the rows of an outbox take.
-use Rattle.std.proofs.Common.{◌≡◌, ◌+◌, ◌*◌, ◌<◌, ◌≤◌, ◌++◌, ◌∷◌, [], List, ℕ, suc, Bool, true, false, Option, Some, None, map, length, length-append, get_or, take, drop, refl, ap, ◌∙◌, sym, arith, ne_eqb}
+use Rattle.std.proofs.Common.{◌≡◌, ◌+◌, ◌*◌, ◌<◌, ◌≤◌, ◌++◌, ◌∷◌, [], List, ℕ, Bool, true, false, map, length, length-append, get_or, take, drop, refl, ap, ◌∙◌, sym, arith}
 use Rattle.std.specs.Prelude.{nat_lt, if◌then◌else◌}
 use Rattle.std.proofs.lemmas.Bool.{lt-ltb}
 use Rattle.std.proofs.lemmas.List.{map-append, take-append-drop, take_more}
-use Rattle.plain_text.proofs.Splitting.{not_within}
-use Rattle.plain_text.specs.Names.{past_80, first_of}
-use Rattle.enrol_states.specs.Statuses.{IsSlug}
+use Rattle.plain_text.proofs.Names.{slug_short}
 use Rattle.row_batches.proofs.Sizes.{put_size, puts_size-append}
 use Rattle.row_batches.specs.Batch.{puts_text}
 use Rattle.change_outbox.specs.declared.change.Change.{Change}
 use Rattle.change_outbox.specs.Contents.{HaveSlugs, numbered}
 use Rattle.change_outbox.specs.Rows.{change_row, entry_rows, next_row, next_rows, number_text}
-
-none_past : (a b : Option ℕ) → first_of a b ≡ None → b ≡ None
-none_past None b is = is
-none_past (Some n) b is = absurd cc
-
-pub slug_short : (s : List ℕ) → IsSlug s → length s ≤ 80
-slug_short [] slug = omega arith
-slug_short (x ∷ s) slug =
-    let past : past_80 (x ∷ s) ≡ None = none_past _ (past_80 (x ∷ s)) (rw (ne_eqb (suc (length s)) 0 (λ none. omega arith)) at slug) in
-    not_within 80 (length (x ∷ s)) past
 
 length-number_text : (n : ℕ) → length (number_text n) ≡ 8
 unfolding number_text

@@ -1,8 +1,9 @@
 -- The changes of the row of the next number, and those of the rows behind it.
 use Rattle.std.proofs.Common.{◌≡◌, ◌<◌, ◌≤◌, ◌^◌, ◌++◌, ◌∷◌, [], List, ℕ, Bool, true, false, refl, ap, ap₂, ◌∙◌}
-use Rattle.std.specs.Prelude.{bytes_eq, nat_lt, if◌then◌else◌}
+use Rattle.std.specs.Prelude.{nat_lt, if◌then◌else◌}
 use Rattle.std.specs.Cmp.Lexicographic.{bytes_decides}
 use Rattle.std.proofs.lemmas.Bool.{lt-ltb, le-ltb}
+use Rattle.sequences.proofs.Texts.{other_bytes}
 use Rattle.row_batches.proofs.Joining.{Precede, between-append}
 use Rattle.row_batches.proofs.Turns as turns
 use Rattle.row_batches.specs.Between.{changes_between}
@@ -39,14 +40,10 @@ next_same m n same more =
     ap (λ k. changes_between (next_rows k) (next_rows n)) same ∙ between n n (next_row n ∷ []) (next_row n ∷ []) (one_row n more) (one_row n more)
     ∙ (turns.same (next_row n) (next_row n) [] [] ((bytes_decides (number_text n) (number_text n)).1 refl) refl).split
 
-other_bytes : (b : Bool) (xs ys : List ℕ) → bytes_eq xs ys ≡ b → (xs ≡ ys → ⊥) → bytes_eq xs ys ≡ false
-other_bytes true xs ys is other = absurd (other ((bytes_decides xs ys).0 is))
-other_bytes false xs ys is other = is
-
 pub next_differs : (m n : ℕ) → (m ≡ n → ⊥) → 1 < m → 1 < n → m < 2 ^ 64 → n < 2 ^ 64 → changes_between (next_rows m) (next_rows n) ≡ Put (next_row n) ∷ []
 next_differs m n other old_more more m_fits n_fits =
     between m n (next_row m ∷ []) (next_row n ∷ []) (one_row m old_more) (one_row n more)
-    ∙ (turns.differs (next_row m) (next_row n) [] [] (other_bytes (bytes_eq (number_text m) (number_text n)) (number_text m) (number_text n) refl (λ same. other (same_numbers m n m_fits n_fits same))) refl).split
+    ∙ (turns.differs (next_row m) (next_row n) [] [] (other_bytes (number_text m) (number_text n) (λ same. other (same_numbers m n m_fits n_fits same))) refl).split
 
 precede_at : (n : ℕ) (b : Bool) (cs : List Change) → Precede (if b then next_row n ∷ [] else []) (entry_rows cs)
 precede_at n true cs = (next_below cs, tt)

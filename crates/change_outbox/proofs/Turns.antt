@@ -1,5 +1,5 @@
 -- The changes of the least slug of old and new rows come first.
-use Rattle.std.proofs.Common.{Less, Equal, Greater, ◌≡◌, ℕ, List, [], ◌∷◌, ◌++◌, Option, None, Some, ◌<◌, length, get_or, arith, refl, sym, ap, ap₂, ◌∙◌, subst}
+use Rattle.std.proofs.Common.{Less, Equal, ◌≡◌, ℕ, List, [], ◌∷◌, ◌++◌, Option, None, Some, length, arith, refl, sym, ap, ap₂, ◌∙◌, subst}
 use Rattle.std.specs.Prelude.{fold, option_and_then, if◌then◌else◌}
 use Rattle.std.specs.BTreeSet.{insert_key}
 use Rattle.std.specs.Cmp.Lexicographic.{bytes_decides}
@@ -11,8 +11,9 @@ use Rattle.enrol_states.specs.Order.{Rise, AreAbove}
 use Rattle.enrol_states.specs.State.{slugs_of, status_of}
 use Rattle.enrol_states.specs.Statuses.{enrolled_branch}
 use Rattle.enrol_states.specs.declared.state.Row.{Row}
-use Rattle.enrol_states.proofs.Ordered.{same_texts, lesser_texts, greater_texts, turned_up, above_trans}
+use Rattle.enrol_states.proofs.Ordered.{same_texts, lesser_texts, greater_texts, turned_up}
 use Rattle.sequences.proofs.Texts.{turned_even}
+use Rattle.sequences.proofs.Insertions.{insert_first, above_insert}
 use Rattle.change_outbox.specs.declared.change.Change.{Change}
 use Rattle.change_outbox.specs.Changes.{branch_of, slug_changes, all_slugs, changes_between}
 
@@ -21,31 +22,13 @@ use Rattle.change_outbox.specs.Changes.{branch_of, slug_changes, all_slugs, chan
 insert_behind : (s u : List ℕ) (ts : List (List ℕ)) → slug_cmp s u ≡ Less → insert_key slug_cmp (s ∷ ts) u ≡ s ∷ insert_key slug_cmp ts u
 insert_behind s u ts less = ap (λ o. match_ordering o (u ∷ s ∷ ts) (s ∷ ts) (s ∷ insert_key slug_cmp ts u)) (turned_up s u less)
 
-insert_first : (s : List ℕ) (ts : List (List ℕ)) → AreAbove s ts → insert_key slug_cmp ts s ≡ s ∷ ts
-insert_first s [] above = refl
-insert_first s (t ∷ ts) above = ap (λ o. match_ordering o (s ∷ t ∷ ts) (t ∷ ts) (t ∷ insert_key slug_cmp ts s)) above.0
-
 fold_first : (s : List ℕ) (ts us : List (List ℕ)) → AreAbove s us → fold (insert_key slug_cmp) (s ∷ ts) us ≡ s ∷ fold (insert_key slug_cmp) ts us
 fold_first s ts [] above = refl
 fold_first s ts (u ∷ us) above = ap (λ (l : List (List ℕ)). fold (insert_key slug_cmp) l us) (insert_behind s u ts above.0) ∙ fold_first s (insert_key slug_cmp ts u) us above.1
 
-above_insert : (a u : List ℕ) (ts : List (List ℕ)) → slug_cmp a u ≡ Less → AreAbove a ts → AreAbove a (insert_key slug_cmp ts u)
-above_insert a u [] less above = (less, tt)
-above_insert a u (t ∷ ts) less above =
-    elim (slug_cmp u t) as (λ o. AreAbove a (match_ordering o (u ∷ t ∷ ts) (t ∷ ts) (t ∷ insert_key slug_cmp ts u))) [
-      | Less ↦ (less, above)
-      | Equal ↦ above
-      | Greater ↦ (above.0, above_insert a u ts less above.1)
-    ]
-
 above_fold : (a : List ℕ) (ts us : List (List ℕ)) → AreAbove a ts → AreAbove a us → AreAbove a (fold (insert_key slug_cmp) ts us)
 above_fold a ts [] above more = above
 above_fold a ts (u ∷ us) above more = above_fold a (insert_key slug_cmp ts u) us (above_insert a u ts more.0 above) more.1
-
--- the slugs of rows that rise are above a slug below the first
-pub all_above : (s : List ℕ) (r : Row) (rs : List Row) → slug_cmp s r.slug ≡ Less → Rise (slugs_of (r ∷ rs)) → AreAbove s (slugs_of (r ∷ rs))
-unfolding IsStrictlySortedBy
-all_above s r rs less rise = (less, above_trans s r.slug (slugs_of rs) less rise.0)
 
 -- ---- branches
 
@@ -111,14 +94,6 @@ both_told o n olds news before after even is_before is_after old_rise new_rise =
     (λ t less. branch_behind n news t (subst (λ u. slug_cmp u t ≡ Less) (sym same) less))
 
 -- ---- steps
-
-pub rest_rises : (r : Row) (rs : List Row) → Rise (slugs_of (r ∷ rs)) → Rise (slugs_of rs)
-unfolding IsStrictlySortedBy
-rest_rises r rs rise = rise.1
-
-pub rows_above : (s : List ℕ) (rows : List Row) (r : Row) → 0 < length rows → r ≡ get_or rows 0 r → slug_cmp s r.slug ≡ Less → Rise (slugs_of rows) → AreAbove s (slugs_of rows)
-rows_above s [] r some is less rise = absurd (omega arith)
-rows_above s (q ∷ qs) r some is less rise = all_above s q qs (ap (λ (p : Row). slug_cmp s p.slug) (sym is) ∙ less) rise
 
 pub none_left : (old new : List Row) → length old ≡ 0 → length new ≡ 0 → changes_between old new ≡ []
 unfolding changes_between

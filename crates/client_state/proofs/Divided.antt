@@ -8,6 +8,7 @@ use Rattle.std.specs.Ordering.{nat_cmp, ordering_then}
 use Rattle.std.proofs.lemmas.Bool.{and_parts, leb-true, ltb-true, ltb-false, le-ltb}
 use Rattle.std.proofs.lemmas.List.{take-append-drop}
 use Rattle.std.proofs.Math.Seq.{take-append_seam, drop-append_seam}
+use Rattle.sequences.proofs.Alls.{all_so}
 use Rattle.row_batches.specs.Places.{AreAbove}
 use Rattle.row_batches.specs.Rows.{key_cmp, key_of}
 use Rattle.row_batches.specs.declared.store_row.StoreRow.{StoreRow}
@@ -95,23 +96,19 @@ are_divided = (
 
 -- ---- the order of keys
 
-each_so : (P Q : StoreRow → Type 0) (rows : List StoreRow) → ((r : StoreRow) → P r → Q r) → AllByRecursion P rows → AllByRecursion Q rows
-each_so P Q [] so are = tt
-each_so P Q (r ∷ rs) so are = (so r are.0, each_so P Q rs so are.1)
-
 key_from : (low from : ℕ) (key : List ℕ) → low ≤ from → is_below from key ≡ false → is_below low key ≡ false
 key_from low from [] most is = absurd cc
 key_from low from (byte ∷ rest) most is = le-ltb byte low (omega (arith, most, ltb-false byte from is))
 
 -- the rows from a section on
 from_on : (low from : ℕ) (xs : List Section) (byte : ℕ) (s : ClientState) → low ≤ from → AreDivided from xs → AreFrom low (joined xs byte s)
-from_on low from [] byte s most are = each_so _ _ (value_rows s.preferences) (λ r is. key_from low from r.key most is) (are s)
+from_on low from [] byte s most are = all_so _ _ (value_rows s.preferences) (λ r is. key_from low from r.key most is) (are s)
 from_on low from (x ∷ xs) byte s most are =
-    all_append (λ r. is_below low r.key ≡ false) (x.rows byte s) (joined xs byte s) (each_so _ _ (x.rows byte s) (λ r is. key_from low from r.key most is.0) (are.0.within byte s))
+    all_append (λ r. is_below low r.key ≡ false) (x.rows byte s) (joined xs byte s) (all_so _ _ (x.rows byte s) (λ r is. key_from low from r.key most is.0) (are.0.within byte s))
     (from_on low x.end xs byte s (omega (arith, most, are.0.rise)) are.1)
 
 below_end : (from : ℕ) (x : Section) (byte : ℕ) (s : ClientState) → Stands from x → AreBelow x.end (x.rows byte s)
-below_end from x byte s stands = each_so _ _ (x.rows byte s) (λ r is. is.1) (stands.within byte s)
+below_end from x byte s stands = all_so _ _ (x.rows byte s) (λ r is. is.1) (stands.within byte s)
 
 key_before : (end : ℕ) (key other : List ℕ) → is_below end key ≡ true → is_below end other ≡ false → key_cmp key other ≡ Less
 key_before end [] [] is from = absurd cc
@@ -127,7 +124,7 @@ keys_behind end key (r ∷ rs) is from = (key_before end key r.key is from.0, ke
 -- the rows of a section in any state come before those behind it in any other
 pub before : (from : ℕ) (x : Section) (xs : List Section) (b c : ℕ) (s t : ClientState) → AreDivided from (x ∷ xs) → Precede (x.rows b s) (joined xs c t)
 before from x xs b c s t are =
-    let behind = from_on x.end x.end xs c t (omega arith) are.1 in each_so _ _ (x.rows b s) (λ r below. keys_behind x.end r.key (joined xs c t) below behind) (below_end from x b s are.0)
+    let behind = from_on x.end x.end xs c t (omega arith) are.1 in all_so _ _ (x.rows b s) (λ r below. keys_behind x.end r.key (joined xs c t) below behind) (below_end from x b s are.0)
 
 -- ---- one division
 

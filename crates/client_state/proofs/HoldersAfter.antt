@@ -5,6 +5,8 @@ use Rattle.std.specs.BTreeSet.{insert_key}
 use Rattle.std.specs.Cmp.Lexicographic.{bytes_decides}
 use Rattle.std.specs.List.{AllByRecursion, flat_map}
 use Rattle.std.specs.Ordering.{match_ordering}
+use Rattle.std.proofs.lemmas.Bool.{or_right}
+use Rattle.sequences.proofs.Alls.{all_front, all_behind, all_append}
 use Rattle.json_tree.specs.declared.tree.Tree.{Tree}
 use Rattle.recipe_reader.specs.Payloads.{slug_cmp}
 use Rattle.enrol_states.specs.Order.{is_in}
@@ -140,10 +142,6 @@ joins_held P values (c ∷ cs) ps join are = joins_held P values cs (join_done c
 abbrev told : List Row → List Row → List (List ℕ) → List Change
 told old new slugs = flat_map (λ slug. slug_changes slug (branch_of slug old) (branch_of slug new)) slugs
 
-or_right : (a b : Bool) → b ≡ true → (a || b) ≡ true
-or_right true b is = refl
-or_right false b is = is
-
 or_rest : (b x y : Bool) → (x ≡ true → y ≡ true) → (b || x) ≡ true → (b || y) ≡ true
 or_rest true x y more is = refl
 or_rest false x y more is = more is
@@ -178,18 +176,6 @@ some_stays slug None after was none = absurd cc
 some_stays slug (Some before) None was none = absurd (none.0 refl refl)
 some_stays slug (Some before) (Some after) was none = refl
 
-all_first : (P : Change → Type 0) (xs ys : List Change) → AllByRecursion P (xs ++ ys) → AllByRecursion P xs
-all_first P [] ys are = tt
-all_first P (x ∷ xs) ys are = (are.0, all_first P xs ys are.1)
-
-all_last : (P : Change → Type 0) (xs ys : List Change) → AllByRecursion P (xs ++ ys) → AllByRecursion P ys
-all_last P [] ys are = are
-all_last P (x ∷ xs) ys are = all_last P xs ys are.1
-
-all_append : (P : Change → Type 0) (xs ys : List Change) → AllByRecursion P xs → AllByRecursion P ys → AllByRecursion P (xs ++ ys)
-all_append P [] ys xs_are ys_are = ys_are
-all_append P (x ∷ xs) ys xs_are ys_are = (xs_are.0, all_append P xs ys xs_are.1 ys_are)
-
 module _ (old new : List Row) where
   abbrev told_of : List ℕ → List Change
   told_of slug = slug_changes slug (branch_of slug old) (branch_of slug new)
@@ -202,8 +188,8 @@ module _ (old new : List Row) where
   stays_at true slug s slugs e there was none rest =
       let same : s ≡ slug = (bytes_decides s slug).0 e in
       some_stays slug (branch_of slug old) (branch_of slug new) was
-      (subst (λ t. NoneLeaves slug (told_of t)) same (all_first (IsNoLeaveOf slug) (told_of s) (told old new slugs) none))
-  stays_at false slug s slugs e there was none rest = rest there (all_last (IsNoLeaveOf slug) (told_of s) (told old new slugs) none)
+      (subst (λ t. NoneLeaves slug (told_of t)) same (all_front (IsNoLeaveOf slug) (told_of s) (told old new slugs) none))
+  stays_at false slug s slugs e there was none rest = rest there (all_behind (IsNoLeaveOf slug) (told_of s) (told old new slugs) none)
 
   stays_in : (slug : List ℕ) (slugs : List (List ℕ)) → is_in slugs slug ≡ true → IsTrue (is_some (branch_of slug old)) → NoneLeaves slug (told old new slugs) → IsIn slug
   stays_in slug [] there was none = absurd cc

@@ -3,12 +3,12 @@ use Rattle.std.proofs.Common.{◌≤◌, ◌<◌, ◌^◌, ◌∷◌, [], List, 
 use Rattle.std.specs.Prelude.{nat_lt, if◌then◌else◌}
 use Rattle.std.specs.List.{AllByRecursion}
 use Rattle.plain_text.specs.Names.{is_name}
+use Rattle.plain_text.proofs.Names.{name_short}
 use Rattle.row_batches.specs.Batch.{batch_text, whole_of}
 use Rattle.row_batches.specs.Batches.{HaveRoom}
 use Rattle.event_counts.specs.Rows as count_rows
 use Rattle.event_counts.specs.Sound.{IsSoundName}
 use Rattle.event_counts.specs.declared.name_counts.NameCounts.{NameCounts}
-use Rattle.event_counts.proofs.RowSizes.{name_short}
 use Rattle.change_outbox.specs.Contents.{Contents}
 use Rattle.change_outbox.specs.Rows as change_rows
 use Rattle.change_outbox.specs.Rows.{change_key, change_row, next_row, next_rows, number_text}

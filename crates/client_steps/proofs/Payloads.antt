@@ -1,8 +1,8 @@
 -- A payload keeps at most as many recipes as it has records, which are at most 2,000; and they are in order and valid.
-use Rattle.std.proofs.Common.{Ordering, Less, Equal, Greater, ◌≡◌, ◌≤◌, ◌||◌, ℕ, ◌+◌, Bool, true, false, List, [], ◌∷◌, length, arith, Option, None, Some, Result, Ok, Err, subst, refl}
+use Rattle.std.proofs.Common.{Ordering, Less, Equal, Greater, ◌≡◌, ◌≤◌, ℕ, ◌+◌, Bool, true, false, List, [], ◌∷◌, length, arith, Option, None, Some, Result, Ok, Err, subst, refl}
 use Rattle.std.specs.Prelude.{if◌then◌else◌, nat_le, bytes_eq}
 use Rattle.std.specs.Ordering.{is_lt}
-use Rattle.std.proofs.lemmas.Bool.{leb-true}
+use Rattle.std.proofs.lemmas.Bool.{leb-true, or_parts}
 use Rattle.json_tree.specs.Json.{Json, Items, no_items, item}
 use Rattle.recipe_reader.specs.Branches.{items_len}
 use Rattle.recipe_reader.specs.Records.{recipe_of, IsValid}
@@ -74,14 +74,10 @@ order_at r q qs Less e apart order rest = ((e, above_lower r.slug q.slug qs e or
 order_at r q qs Equal e apart order rest = absurd (let same = equal_texts r.slug q.slug e in let turn = bytes_turned q.slug r.slug in cc)
 order_at r q qs Greater e apart order rest = (above_with q.slug r qs (turned_down r.slug q.slug e) order.0, rest)
 
-either_false : (a b : Bool) → (a || b) ≡ false → (a ≡ false) × (b ≡ false)
-either_false true b h = absurd cc
-either_false false b h = (refl, h)
-
 order_with : (r : Recipe) (rs : List Recipe) → has_slug r.slug rs ≡ false → AreInOrder rs → AreInOrder (with_recipe r rs)
 order_with r [] new order = (tt, tt)
 order_with r (q ∷ qs) new order =
-    let apart = either_false (bytes_eq q.slug r.slug) (has_slug r.slug qs) new in
+    let apart = or_parts (bytes_eq q.slug r.slug) (has_slug r.slug qs) new in
     order_at r q qs (slug_cmp r.slug q.slug) refl apart.0 order (order_with r qs apart.1 order.1)
 
 valid_with : (r : Recipe) (rs : List Recipe) → IsValid r → AreValid rs → AreValid (with_recipe r rs)

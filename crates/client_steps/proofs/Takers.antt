@@ -7,6 +7,8 @@ use Rattle.std.specs.List.{list_any}
 use Rattle.std.specs.Ordering.{is_le}
 use Rattle.std.proofs.lemmas.List.{get_or_default}
 use Rattle.std.proofs.lemmas.List.Elements.{All-nil, All-cons, All-head, All-tail}
+use Rattle.std.proofs.lemmas.Bool.{false_from_ne_true}
+use Rattle.std.proofs.Math.Bool.{or_assoc}
 use Rattle.recipe_reader.specs.Payloads.{slug_cmp, recipe_with}
 use Rattle.recipe_reader.specs.declared.recipe.Recipe.{Recipe}
 use Rattle.recipe_reader.specs.declared.recipe.Branch.{Branch}
@@ -65,10 +67,6 @@ one_least test (Some s) (Some t) first second = ap Some (le_both s t (first.1 t 
 
 -- ---- the features of a recipe
 
-or_assoc : (a b c : Bool) → ((a || b) || c) ≡ (a || (b || c))
-or_assoc true b c = refl
-or_assoc false b c = refl
-
 is_in-append : (xs ys : List (List ℕ)) (f : List ℕ) → is_in (xs ++ ys) f ≡ (is_in xs f || is_in ys f)
 is_in-append [] ys f = refl
 is_in-append (x ∷ xs) ys f = ap (λ b. bytes_eq x f || b) (is_in-append xs ys f) ∙ sym (or_assoc (bytes_eq x f) (is_in xs f) (is_in ys f))
@@ -118,10 +116,6 @@ first-at s r (row ∷ rows) zero d f within before least =
 first-at s r (row ∷ rows) (suc i) d f within before least =
     later s r row rows (before zero d (omega arith)) ∙ first-at s r rows i d f (omega (arith, within)) (λ k e less. before (suc k) e (omega (arith, less))) least
 
-bool_so : (b : Bool) → (b ≡ true → ⊥) → b ≡ false
-bool_so true never = absurd (never refl)
-bool_so false never = refl
-
 -- the row that takes a feature is the first that does
 pub taker_is : (s : State) (r : Recipe) (holder feature : List ℕ) → Rise (slugs_of s.rows) → IsTaken s r holder feature → first_taker s r s.rows ≡ Some (holder, feature)
 taker_is s r holder feature rise taken =
@@ -143,7 +137,7 @@ taker_is s r holder feature rise taken =
     never Greater e most = absurd cc
 
     before : NoneTakenBefore s r s.rows i
-    before k d less f = bool_so (takes s r (get_or s.rows k d) f) (λ takes_it.
+    before k d less f = false_from_ne_true (takes s r (get_or s.rows k d) f) (λ takes_it.
         let here_slug : (get_or s.rows i d).slug ≡ holder = ap (λ (q : Row). q.slug) (get_or_default s.rows i d taken.row within ∙ taken.is_row.2) ∙ taken.slug in
         let up = turned_up (get_or s.rows k d).slug (get_or s.rows i d).slug (rises_by slug_of s.rows k i d less within rise) in
         let above : slug_cmp holder (get_or s.rows k d).slug ≡ Greater = subst (λ t. slug_cmp t (get_or s.rows k d).slug ≡ Greater) here_slug up in

@@ -2,7 +2,7 @@
 use Rattle.std.proofs.Common.{◌≡◌, ◌≢◌, ℕ, ◌+◌, ◌<◌, ◌≤◌, Bool, true, false, List, length, refl, sym, ap, ◌∙◌, subst}
 use Rattle.std.specs.Prelude.{if◌then◌else◌}
 use Rattle.std.specs.Cmp.Lexicographic.{bytes_decides}
-use Rattle.std.proofs.lemmas.Bool.{le-ltb, lt-ltb}
+use Rattle.std.proofs.lemmas.Bool.{le-ltb, lt-ltb, false_from_ne_true}
 use Rattle.host_model.specs.declared.host.Host.{Ghosts}
 use Rattle.pair_store.specs.declared.mark.TheConstants.{MAX_RECORD_END}
 use Rattle.row_batches.specs.Batch.{ChangeList, batch_text, applied, whole_of}
@@ -22,17 +22,13 @@ use Rattle.client_store.specs.Places.{row_changes, change_size, passes_mark, mak
 use Rattle.client_store.specs.Changes.{IsChangeOf}
 use Rattle.client_store.specs.Stored.{StoredState, IsStored}
 
-test_false : (b : Bool) → (b ≡ true → ⊥) → b ≡ false
-test_false true never = absurd (never refl)
-test_false false never = refl
-
 -- a state has its own encoding
 pub eq_itself : (s : ClientState) → state_eq s s ≡ true
 eq_itself s = (bytes_decides (encoding s) (encoding s)).1 refl
 
 -- sound states that aren't the same have other encodings
 pub eq_apart : (s t : ClientState) → IsSound s → IsSound t → s ≢ t → state_eq s t ≡ false
-eq_apart s t s_sound t_sound other = test_false (state_eq s t) (λ is. other (one_encoding s t s_sound t_sound ((bytes_decides (encoding s) (encoding t)).0 is)))
+eq_apart s t s_sound t_sound other = false_from_ne_true (state_eq s t) (λ is. other (one_encoding s t s_sound t_sound ((bytes_decides (encoding s) (encoding t)).0 is)))
 
 -- ---- no change
 

@@ -3,6 +3,7 @@ use Rattle.std.proofs.Common.{◌≡◌, ℕ, zero, suc, ◌<◌, ◌+◌, ◌*�
 use Rattle.std.specs.Prelude.{◌==◌, ◌&&◌, if◌then◌else◌}
 use Rattle.std.specs.List.{list_all}
 use Rattle.std.proofs.lemmas.Bool.Decides.{nat_tests}
+use Rattle.std.proofs.lemmas.Bool.{eqb-true, and_parts}
 use Rattle.uuid.specs.Text.{parsed, parsed_simple, parsed_hyphenated, parsed_urn, by_index, byte_of_digits, is_hex_digit, value_of, digits_of, has_hyphens, has_urn_prefix, open_brace, close_brace}
 use Rattle.uuid.proofs.TextLemmas.{by_index_length, by_index_at, all_fit}
 use Rattle.enrol_states.specs.Consistent.{IsId}
@@ -20,18 +21,10 @@ where_true : (b : Bool) (x : Option (List ℕ)) → (b ≡ true → IsIdIn x) �
 where_true true x here = here refl
 where_true false x here = tt
 
-first_true : (a b : Bool) → (a && b) ≡ true → a ≡ true
-first_true true b e = refl
-first_true false b e = e
-
-second_true : (a b : Bool) → (a && b) ≡ true → b ≡ true
-second_true true b e = e
-second_true false b e = absurd cc
-
 each_passes : (p : ℕ → Bool) (xs : List ℕ) → list_all p xs ≡ true → (k : ℕ) → k < length xs → p (get_or xs k 0) ≡ true
 each_passes p [] all k below = absurd (omega (arith, below))
-each_passes p (x ∷ xs) all zero below = first_true (p x) (list_all p xs) all
-each_passes p (x ∷ xs) all (suc k) below = each_passes p xs (second_true (p x) (list_all p xs) all) k (omega (arith, below))
+each_passes p (x ∷ xs) all zero below = (and_parts (p x) (list_all p xs) all).0
+each_passes p (x ∷ xs) all (suc k) below = each_passes p xs (and_parts (p x) (list_all p xs) all).1 k (omega (arith, below))
 
 digit_small : (c : ℕ) → is_hex_digit c ≡ true → value_of c < 16
 digit_small c is = grind (arith, nat_tests)
@@ -42,13 +35,10 @@ byte_small hex j len all below =
     let low = digit_small (get_or hex (2 * j + 1) 0) (each_passes is_hex_digit hex all (2 * j + 1) (omega (arith, len, below))) in
     omega (arith, high, low)
 
-same_length : (n m : ℕ) → (n == m) ≡ true → n ≡ m
-same_length n m e = grind (arith, nat_tests)
-
 simple : (hex : List ℕ) → IsIdIn (parsed_simple hex)
 simple hex = where_true ((length hex == 32) && list_all is_hex_digit hex) (Some (by_index 16 (byte_of_digits hex))) (λ both.
-    let len = same_length (length hex) 32 (first_true (length hex == 32) (list_all is_hex_digit hex) both) in
-    let all = second_true (length hex == 32) (list_all is_hex_digit hex) both in
+    let len = eqb-true (length hex) 32 (and_parts (length hex == 32) (list_all is_hex_digit hex) both).0 in
+    let all = (and_parts (length hex == 32) (list_all is_hex_digit hex) both).1 in
     let sixteen = by_index_length 16 (byte_of_digits hex) in
     record {
       sixteen = sixteen;

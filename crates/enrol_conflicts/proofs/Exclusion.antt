@@ -4,6 +4,7 @@ use Rattle.std.specs.List.{list_any}
 use Rattle.std.proofs.lemmas.Slice.Eq.{bytes_eq-Decides}
 use Rattle.std.proofs.lemmas.List.Folds.{list_any_at}
 use Rattle.std.proofs.lemmas.Option.{slice_get-map}
+use Rattle.std.proofs.lemmas.Bool.{or_right, and_from}
 use Rattle.enrol_conflicts.specs.declared.candidate.Candidate.{Candidate}
 use Rattle.recipe_reader.specs.Kinds.{kind_eq}
 use Rattle.recipe_reader.proofs.SameKind.{kind_Decides}
@@ -22,14 +23,6 @@ Contains-is_in f (g ∷ gs) h = among_here g f gs (bytes_eq g f) refl (Contains-
 
 pub is_in-Contains : (f : List ℕ) (names : List (List ℕ)) → Contains names f → is_in names f ≡ true
 is_in-Contains f names c = list_any_at (λ g. bytes_eq g f) names c.0 f c.1 ((bytes_eq-Decides (get_or names c.0 f) f).1 c.2)
-
-or_left : (a b : Bool) → (a || b) ≡ false → a ≡ false
-or_left true b h = h
-or_left false b h = refl
-
-or_right : (a b : Bool) → b ≡ true → (a || b) ≡ true
-or_right true b h = refl
-or_right false b h = h
 
 pub any_granted-at : {X : Type 0} (p : X → Bool) (xs : List X) (gs : List Bool) (i : ℕ) (v : X) → slice_get xs i ≡ Some v → slice_get gs i ≡ Some true → p v ≡ true → any_granted p xs gs ≡ true
 any_granted-at p [] gs i v h k e = absurd (true≢false (ap is_none h))
@@ -51,19 +44,15 @@ settle_coenrolling : (b : Bool) → (not b ≡ true → ⊥) → b ≡ true
 settle_coenrolling true h = refl
 settle_coenrolling false h = absurd (h refl)
 
-pub both : (a b : Bool) → a ≡ true → b ≡ true → (a && b) ≡ true
-both true b h k = k
-both false b h k = h
-
 pub clash_from : (coenrolling : List (List ℕ)) (v w : Candidate) (f : List ℕ) → v.kind ≡ w.kind → Contains v.features f → Contains w.features f → not (is_in coenrolling f) ≡ true → clashes coenrolling v w ≡ true
 clash_from coenrolling v w f k a b n =
-    both (kind_eq v.kind w.kind) (list_any (λ g. is_in v.features g && not (is_in coenrolling g)) w.features) ((kind_Decides v.kind w.kind).1 k)
-    (list_any_at (λ g. is_in v.features g && not (is_in coenrolling g)) w.features b.0 f b.1 (ap (λ g. is_in v.features g && not (is_in coenrolling g)) b.2 ∙ both (is_in v.features f) (not (is_in coenrolling f)) (is_in-Contains f v.features a) n))
+    and_from (kind_eq v.kind w.kind) (list_any (λ g. is_in v.features g && not (is_in coenrolling g)) w.features) ((kind_Decides v.kind w.kind).1 k)
+    (list_any_at (λ g. is_in v.features g && not (is_in coenrolling g)) w.features b.0 f b.1 (ap (λ g. is_in v.features g && not (is_in coenrolling g)) b.2 ∙ and_from (is_in v.features f) (not (is_in coenrolling f)) (is_in-Contains f v.features a) n))
 
 -- where v is before w
 one_way : (ws : List Candidate) (coenrolling : List (List ℕ)) (gs : List Bool) → Settled ws coenrolling gs → (i j : ℕ) (v w : Candidate) (f : List ℕ) → slice_get ws i ≡ Some v → slice_get ws j ≡ Some w → slice_get gs i ≡ Some true → slice_get gs j ≡ Some true → is_before v w ≡ true → v.kind ≡ w.kind → Contains v.features f → Contains w.features f → Contains coenrolling f
 one_way ws coenrolling gs s i j v w f hv hw gv gw b k a c =
-    Contains-is_in f coenrolling (settle_coenrolling (is_in coenrolling f) (λ n. not_both (is_blocked coenrolling ws gs w) (unblocked ws coenrolling gs s j w hw gw) (any_granted-at (λ u. is_before u w && clashes coenrolling u w) ws gs i v hv gv (both (is_before v w) (clashes coenrolling v w) b (clash_from coenrolling v w f k a c n)))))
+    Contains-is_in f coenrolling (settle_coenrolling (is_in coenrolling f) (λ n. not_both (is_blocked coenrolling ws gs w) (unblocked ws coenrolling gs s j w hw gw) (any_granted-at (λ u. is_before u w && clashes coenrolling u w) ws gs i v hv gv (and_from (is_before v w) (clashes coenrolling v w) b (clash_from coenrolling v w f k a c n)))))
 
 pub exclusive : IsExclusive
 exclusive ws coenrolling gs s i j v w f hv hw gv gw d k a c = by_rank (is_before-either v w (is_before w v) refl d) where

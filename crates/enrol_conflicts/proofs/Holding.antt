@@ -3,29 +3,19 @@ use Rattle.std.proofs.Common.{◌≡◌, ◌+◌, ◌<◌, ℕ, zero, suc, List,
 use Rattle.std.specs.List.{list_any}
 use Rattle.std.proofs.lemmas.List.Folds.{list_any_more}
 use Rattle.std.specs.BTreeSet.{BTreeSet}
+use Rattle.std.proofs.Math.Bool.{or_assoc, or-false}
 use Rattle.recipe_reader.specs.Kinds.{kind_eq}
 use Rattle.recipe_reader.specs.declared.kinds.Kind.{Kind}
 use Rattle.recipe_reader.specs.declared.kinds.Kind.TheVariants.{Experiment, Rollout}
 use Rattle.enrol_states.specs.Order.{is_in}
 use Rattle.enrol_states.specs.TextSets.{has_text}
+use Rattle.enrol_states.proofs.Sets.{one_more}
 use Rattle.enrol_conflicts.specs.declared.candidate.Candidate.{Candidate}
 use Rattle.enrol_conflicts.specs.declared.held.HeldFeatures.{HeldFeatures}
 use Rattle.enrol_conflicts.specs.Settlement.{clashes, any_granted}
 use Rattle.enrol_conflicts.specs.Held.{is_held, is_taken}
 
-or_none : (a : Bool) → a ≡ (a || false)
-or_none true = refl
-or_none false = refl
-
 -- ---- the loop that puts the features in
-
-one_more : (h a e n : Bool) → ((h || (a && n)) || (e && n)) ≡ (h || ((a || e) && n))
-one_more true a e n = refl
-one_more false true true true = refl
-one_more false true true false = refl
-one_more false true false true = refl
-one_more false true false false = refl
-one_more false false e n = refl
 
 pub add_more : (was now h n : Bool) (f : List ℕ) (fs : List (List ℕ)) (i : ℕ) (g : List ℕ) → i < length fs → g ≡ get_or fs i g → was ≡ (h || (is_in (take i fs) f && n)) → now ≡ (was || (bytes_eq g f && n)) → now ≡ (h || (is_in (take (i + 1) fs) f && n))
 add_more was now h n f fs i g l e a b =
@@ -36,8 +26,8 @@ add_more was now h n f fs i g l e a b =
 pub add_either : (held next : HeldFeatures) (wish : Kind) (fs : List (List ℕ)) (shared : BTreeSet (Bor (List ℕ))) → ((f : List ℕ) → is_held next wish f ≡ (is_held held wish f || (is_in fs f && not (has_text shared f)))) → ((kind : Kind) → kind_eq wish kind ≡ false → (f : List ℕ) → is_held next kind f ≡ is_held held kind f)
     → (kind : Kind) (f : List ℕ) → is_held next kind f ≡ (is_held held kind f || (kind_eq wish kind && (is_in fs f && not (has_text shared f))))
 add_either held next Experiment fs shared own other Experiment f = own f
-add_either held next Experiment fs shared own other Rollout f = other Rollout refl f ∙ or_none (is_held held Rollout f)
-add_either held next Rollout fs shared own other Experiment f = other Experiment refl f ∙ or_none (is_held held Experiment f)
+add_either held next Experiment fs shared own other Rollout f = other Rollout refl f ∙ sym (or-false (is_held held Rollout f))
+add_either held next Rollout fs shared own other Experiment f = other Experiment refl f ∙ sym (or-false (is_held held Experiment f))
 add_either held next Rollout fs shared own other Rollout f = own f
 
 -- ---- to ask what is held is to ask the granted
@@ -110,10 +100,6 @@ swap_or true false false = refl
 swap_or false p true = refl
 swap_or false p false = refl
 
-or_or : (x a b : Bool) → (x || (a || b)) ≡ ((x || a) || b)
-or_or true a b = refl
-or_or false a b = refl
-
 set_more : {X : Type 0} (p : X → Bool) (xs : List X) (gs : List Bool) (r : ℕ) (b : Bool) (w : X) → length gs ≡ length xs → slice_get xs r ≡ Some w → get_or gs r false ≡ false → any_granted p xs (set gs r b) ≡ (any_granted p xs gs || (b && p w))
 set_more p [] gs r b w l h e = absurd (true≢false (ap is_none h))
 set_more p (x ∷ xs) [] r b w l h e = absurd (none l) where
@@ -122,7 +108,7 @@ set_more p (x ∷ xs) [] r b w l h e = absurd (none l) where
 set_more p (x ∷ xs) (g ∷ gs) zero b w l h e =
     swap_or b (p x) (any_granted p xs gs) ∙ ap (λ y. any_granted p xs gs || (b && p y)) (ap (λ o. unwrap_or o x) h) ∙ ap (λ y. ((y && p x) || any_granted p xs gs) || (b && p w)) (sym e)
 set_more p (x ∷ xs) (g ∷ gs) (suc r) b w l h e =
-    ap (λ y. (g && p x) || y) (set_more p xs gs r b w (omega (arith, l)) h e) ∙ or_or (g && p x) (any_granted p xs gs) (b && p w)
+    ap (λ y. (g && p x) || y) (set_more p xs gs r b w (omega (arith, l)) h e) ∙ sym (or_assoc (g && p x) (any_granted p xs gs) (b && p w))
 
 joined : (a n b k i : Bool) → ((a && n) || (b && (k && (i && n)))) ≡ ((a || (b && (k && i))) && n)
 joined true true b k i = refl

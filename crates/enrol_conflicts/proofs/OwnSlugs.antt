@@ -1,5 +1,5 @@
 -- Wishes in order by slug have slugs of their own.
-use Rattle.std.proofs.Common.{◌≡◌, ◌<◌, ◌+◌, ◌⊎◌, inl, inr, ℕ, zero, suc, List, [], ◌∷◌, length, get_or, map, slice_get, Some, option_map, Bool, true, false, Ordering, Less, Equal, Greater, is_eq, is_lt, nat_cmp, refl, sym, ap, ap₂, ◌∙◌, arith, true≢false}
+use Rattle.std.proofs.Common.{◌≡◌, ◌<◌, ◌+◌, ◌⊎◌, inl, inr, ℕ, zero, suc, List, [], ◌∷◌, length, get_or, map, slice_get, Some, option_map, Bool, true, false, Less, is_eq, is_lt, nat_cmp, refl, sym, ap, ap₂, ◌∙◌, arith, true≢false}
 use Rattle.std.specs.List.{IsAllAdjacentAnswer}
 use Rattle.std.proofs.lemmas.List.{length-map}
 use Rattle.std.specs.List.Sorted.{IsStrictlySortedBy}
@@ -8,6 +8,8 @@ use Rattle.std.specs.Cmp.Lexicographic.{slice_cmp}
 use Rattle.std.proofs.lemmas.Cmp.{nat_list_cmp_total, tied_itself}
 use Rattle.std.proofs.lemmas.Map.Keys.{IsDistinct-from_sorted, apart_from_distinct, sorted_from_all_adjacent, Less-from_sorted}
 use Rattle.std.proofs.lemmas.Option.{slice_get-map, slice_get_within, get_or_from_slice_get}
+use Rattle.std.proofs.lemmas.Bool.{cases_order}
+use Rattle.sequences.proofs.Texts.{is_Less}
 use Rattle.enrol_conflicts.specs.declared.candidate.Candidate.{Candidate}
 use Rattle.enrol_conflicts.specs.Laws.{DifferInOrder}
 
@@ -22,18 +24,8 @@ apart ws s i j v w l a b e =
     let d : eq_by_cmp (slice_cmp nat_cmp) (get_or ks i v.slug) (get_or ks j v.slug) ≡ false = apart_from_distinct (eq_by_cmp (slice_cmp nat_cmp)) ks i j v.slug (IsDistinct-from_sorted (slice_cmp nat_cmp) ks s) l (slice_get_within ks j w.slug (slug_at ws j w b)) in
     true≢false (sym (ap is_eq (tied_itself nat_list_cmp_total v.slug)) ∙ ap (λ k. is_eq (slice_cmp nat_cmp v.slug k)) (e ∙ sym q) ∙ ap (λ k. is_eq (slice_cmp nat_cmp k (get_or ks j v.slug))) (sym p) ∙ d)
 
-which : (i j : ℕ) → (i ≡ j) ⊎ ((i < j) ⊎ (j < i))
-which zero zero = inl refl
-which zero (suc j) = inr (inl (omega arith))
-which (suc i) zero = inr (inr (omega arith))
-which (suc i) (suc j) = more (which i j) where
-  more : (i ≡ j) ⊎ ((i < j) ⊎ (j < i)) → (suc i ≡ suc j) ⊎ ((suc i < suc j) ⊎ (suc j < suc i))
-  more (inl e) = inl (ap suc e)
-  more (inr (inl l)) = inr (inl (omega (arith, l)))
-  more (inr (inr l)) = inr (inr (omega (arith, l)))
-
 pub own_slugs : DifferInOrder
-own_slugs ws s i j v w a b e = from (which i j) where
+own_slugs ws s i j v w a b e = from (cases_order i j) where
   from : (i ≡ j) ⊎ ((i < j) ⊎ (j < i)) → i ≡ j
   from (inl q) = q
   from (inr (inl l)) = absurd (apart ws s i j v w l a b e)
@@ -45,11 +37,6 @@ some_at [] k h = absurd (none h) where
   none h = omega (arith, h)
 some_at (x ∷ xs) zero h = (x, refl)
 some_at (x ∷ xs) (suc k) h = some_at xs k (omega (arith, h))
-
-less_is : (o : Ordering) → true ≡ is_lt o → o ≡ Less
-less_is Less h = refl
-less_is Equal h = absurd (true≢false h)
-less_is Greater h = absurd (true≢false h)
 
 -- what a test of neighbours says
 pub rise : (ws : List Candidate) (r : Bool) → IsAllAdjacentAnswer (λ (v w : Candidate) b. b ≡ is_lt (slice_cmp nat_cmp v.slug w.slug)) ws r → r ≡ true → IsStrictlySortedBy (slice_cmp nat_cmp) (map (λ (c : Candidate). c.slug) ws)
@@ -65,7 +52,7 @@ rise ws true h e = sorted_from_all_adjacent nat_list_cmp_total (map (λ (c : Can
       let p : get_or ws k v.0 ≡ v.0 = get_or_from_slice_get ws k v.0 v.0 v.1 in
       let q : get_or ws (k + 1) v.0 ≡ w.0 = get_or_from_slice_get ws (k + 1) w.0 v.0 w.1 in
       let t : true ≡ is_lt (slice_cmp nat_cmp (get_or ws k v.0).slug (get_or ws (k + 1) v.0).slug) = h k v.0 (omega (arith, n, l)) in
-      ap₂ (slice_cmp nat_cmp) a b ∙ less_is (slice_cmp nat_cmp v.0.slug w.0.slug) (t ∙ ap₂ (λ (x y : Candidate). is_lt (slice_cmp nat_cmp x.slug y.slug)) p q)
+      ap₂ (slice_cmp nat_cmp) a b ∙ is_Less (slice_cmp nat_cmp v.0.slug w.0.slug) (sym (t ∙ ap₂ (λ (x y : Candidate). is_lt (slice_cmp nat_cmp x.slug y.slug)) p q))
 
 -- and what it says of wishes in order
 pub rise_back : (ws : List Candidate) (r : Bool) → IsAllAdjacentAnswer (λ (v w : Candidate) b. b ≡ is_lt (slice_cmp nat_cmp v.slug w.slug)) ws r → IsStrictlySortedBy (slice_cmp nat_cmp) (map (λ (c : Candidate). c.slug) ws) → r ≡ true

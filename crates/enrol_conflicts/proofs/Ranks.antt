@@ -7,22 +7,18 @@ use Rattle.std.specs.Option.{option_cmp}
 use Rattle.std.proofs.lemmas.Slice.Eq.{bytes_eq-Decides}
 use Rattle.std.proofs.lemmas.Map.Text.{is_eq-slice_cmp}
 use Rattle.std.proofs.lemmas.Cmp.{then_total, on_total, back_total, int_cmp_total, nat_list_cmp_total, tied_itself}
+use Rattle.sequences.proofs.Texts.{is_Less}
 use Rattle.enrol_conflicts.specs.declared.candidate.Candidate.{Candidate}
 use Rattle.enrol_conflicts.specs.Settlement.{rank_cmp, is_before}
 
 pub rank_cmp_total : IsTotalOrder rank_cmp
 rank_cmp_total = then_total (then_total (on_total (λ (c : Candidate). c.was_enrolled) (back_total bool_cmp_total)) (on_total (λ (c : Candidate). c.published) (options_total int_cmp_total))) (on_total (λ (c : Candidate). c.slug) nat_list_cmp_total)
 
-pub Less-is : (o : Ordering) → is_lt o ≡ true → o ≡ Less
-Less-is Less h = refl
-Less-is Equal h = absurd (true≢false (sym h))
-Less-is Greater h = absurd (true≢false (sym h))
-
 pub is_before-irrefl : (w : Candidate) → is_before w w ≡ false
 is_before-irrefl w = ap is_lt (tied_itself rank_cmp_total w)
 
 pub is_before-chain : (u v w : Candidate) → is_before u v ≡ true → is_before v w ≡ true → is_before u w ≡ true
-is_before-chain u v w h k = ap is_lt (rank_cmp_total.trans u v w (Less-is (rank_cmp u v) h) (Less-is (rank_cmp v w) k))
+is_before-chain u v w h k = ap is_lt (rank_cmp_total.trans u v w (is_Less (rank_cmp u v) h) (is_Less (rank_cmp v w) k))
 
 is_before-not : (v w : Candidate) (o : Ordering) → rank_cmp w v ≡ o → is_lt o ≡ false → (o ≡ Equal → ⊥) → is_before v w ≡ true
 is_before-not v w Less e h k = absurd (true≢false h)

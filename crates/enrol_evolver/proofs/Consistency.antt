@@ -3,6 +3,7 @@ use Rattle.std.proofs.Common.{◌≡◌, ℕ, ◌+◌, ◌≤◌, Bool, true, fa
 use Rattle.std.specs.Prelude.{All, IsTrue, IsUtf8, ◌||◌, not, nat_le, bytes_eq, unwrap_or, option_and_then, if◌then◌else◌}
 use Rattle.std.specs.List.{AllByRecursion}
 use Rattle.std.proofs.lemmas.List.Elements.{All-from_recursion}
+use Rattle.std.proofs.lemmas.Bool.{or_right, or_parts}
 use Rattle.plain_text.specs.Names.{is_name}
 use Rattle.recipe_reader.specs.Payloads.{AreValid, has_slug, recipe_with}
 use Rattle.recipe_reader.specs.Kinds.{kind_of}
@@ -20,12 +21,14 @@ use Rattle.enrol_states.specs.declared.state.State.{State}
 use Rattle.enrol_states.specs.declared.state.Row.{Row}
 use Rattle.enrol_states.specs.declared.status.Status.{Status}
 use Rattle.enrol_states.specs.declared.status.Status.TheVariants.{Enrolled, NotEnrolled, Disqualified, WasEnrolled, Error}
+use Rattle.enrol_states.proofs.Exclusion.{found_slug}
+use Rattle.enrol_states.proofs.Enrolments.{has_recipe}
 use Rattle.enrol_evolver.specs.Verdicts.{is_out}
 use Rattle.enrol_evolver.specs.Wishes.{outcome_of, row_of}
 use Rattle.enrol_evolver.specs.Evolution.{version_of, live_after, refreshed, is_slug_granted, new_status, status_with, rows_after, with_new_rows, evolution}
 use Rattle.enrol_evolver.proofs.Validity.{slug_fits}
 use Rattle.enrol_evolver.proofs.RowLists.{rows_where, row_where}
-use Rattle.enrol_evolver.proofs.Evolved.{found_slug, rows_after-rise, status-after}
+use Rattle.enrol_evolver.proofs.Evolved.{rows_after-rise, status-after}
 use Rattle.enrol_evolver.proofs.Fitness.{IsOld, IsFitting, outcome-fits, status-fits}
 use Rattle.enrol_evolver.proofs.Granting.{old-fits, found_valid, evolved-exclusive}
 
@@ -39,22 +42,6 @@ pub record IsRowOf (s : State) (row : Row) : Type 0 where
   pub participation : IsParticipating s row
 
 -- ---- a slug with a live recipe
-
-has_recipe_at : (slug : List ℕ) (q : Recipe) (qs : List Recipe) (r : Recipe) (b : Bool) → (recipe_with slug qs ≡ Some r → has_slug slug qs ≡ true) → (if b then Some q else recipe_with slug qs) ≡ Some r → (b || has_slug slug qs) ≡ true
-has_recipe_at slug q qs r true rest e = refl
-has_recipe_at slug q qs r false rest e = rest e
-
-has_recipe : (slug : List ℕ) (rs : List Recipe) (r : Recipe) → recipe_with slug rs ≡ Some r → has_slug slug rs ≡ true
-has_recipe slug [] r e = absurd cc
-has_recipe slug (q ∷ qs) r e = has_recipe_at slug q qs r (bytes_eq q.slug slug) (has_recipe slug qs r) e
-
-or_true : (a b : Bool) → b ≡ true → (a || b) ≡ true
-or_true true b e = refl
-or_true false b e = e
-
-left_false : (a b : Bool) → (a || b) ≡ false → a ≡ false
-left_false true b e = absurd cc
-left_false false b e = refl
 
 taking_part : (a b : Bool) → (a || not b) ≡ false → b ≡ true
 taking_part true b e = absurd cc
@@ -70,9 +57,9 @@ live_row context s now slug r st valid old found e =
     record {
       slug = subst IsSlug same (slug_fits r valid);
       status = fits.status;
-      recipe = or_true (was_enrolled st) (has_slug slug s.live) (has_recipe slug s.live r found);
+      recipe = or_right (was_enrolled st) (has_slug slug s.live) (has_recipe slug s.live r found);
       branch = λ b there. ap (λ o. offers o b) found ∙ fits.branch b there;
-      choice = λ enrolled. subst (λ t. is_in s.opted_out t ≡ false) same (left_false (is_in s.opted_out r.slug) (not (takes_part s (kind_of r))) (fits.choice enrolled));
+      choice = λ enrolled. subst (λ t. is_in s.opted_out t ≡ false) same (or_parts (is_in s.opted_out r.slug) (not (takes_part s (kind_of r))) (fits.choice enrolled)).0;
       participation = λ enrolled. ap (may_take_part s) found ∙ taking_part (is_in s.opted_out r.slug) (takes_part s (kind_of r)) (fits.choice enrolled);
     }
 

@@ -5,6 +5,7 @@ use Rattle.std.specs.Option.{option_or}
 use Rattle.std.specs.List.{AllByRecursion}
 use Rattle.std.specs.List.Sorted.{IsStrictlySortedBy}
 use Rattle.std.specs.Cmp.Lexicographic.{bytes_decides}
+use Rattle.std.proofs.lemmas.Bool.{or_parts}
 use Rattle.recipe_reader.specs.Payloads as payloads
 use Rattle.recipe_reader.specs.Payloads.{AreInOrder, recipe_with}
 use Rattle.recipe_reader.specs.declared.recipe.Recipe.{Recipe}
@@ -34,14 +35,6 @@ only_grants ws coenrolling gs settled = settled_at_most_once ws coenrolling gs (
 
 -- ---- slugs that have a recipe or a row
 
-slug_at : (slug : List ℕ) (q : Recipe) (qs : List Recipe) (r : Recipe) (b : Bool) → bytes_eq q.slug slug ≡ b → (recipe_with slug qs ≡ Some r → r.slug ≡ slug) → (if b then Some q else recipe_with slug qs) ≡ Some r → r.slug ≡ slug
-slug_at slug q qs r true same rest e = let one : q ≡ r = cc in sym (ap (λ (p : Recipe). p.slug) one) ∙ (bytes_decides q.slug slug).0 same
-slug_at slug q qs r false same rest e = rest e
-
-pub found_slug : (slug : List ℕ) (rs : List Recipe) (r : Recipe) → recipe_with slug rs ≡ Some r → r.slug ≡ slug
-found_slug slug [] r e = absurd cc
-found_slug slug (q ∷ qs) r e = slug_at slug q qs r (bytes_eq q.slug slug) refl (found_slug slug qs r) e
-
 no_recipe_at : (slug : List ℕ) (r : Recipe) (rs : List Recipe) (b : Bool) → (is_in (map (λ (p : Recipe). p.slug) rs) slug ≡ false → recipe_with slug rs ≡ None) → (b || is_in (map (λ (p : Recipe). p.slug) rs) slug) ≡ false → (if b then Some r else recipe_with slug rs) ≡ None
 no_recipe_at slug r rs true rest e = absurd cc
 no_recipe_at slug r rs false rest e = rest e
@@ -58,14 +51,10 @@ not_row : (slug : List ℕ) (qs : List Row) → is_in (slugs_of qs) slug ≡ fal
 not_row slug [] e = refl
 not_row slug (q ∷ qs) e = no_row_at slug q qs (bytes_eq q.slug slug) (not_row slug qs) e
 
-neither : (a b : Bool) → (a || b) ≡ false → (a ≡ false) × (b ≡ false)
-neither true b e = absurd cc
-neither false b e = (refl, e)
-
 none_after : (context : Context) (s : State) (now : ℕ) (slug : List ℕ) (b : Bool) → is_in (all_slugs s) slug ≡ b → (if b then status_after context s now slug else None) ≡ status_after context s now slug
 none_after context s now slug true e = refl
 none_after context s now slug false e =
-    let parts = neither (is_in (map (λ (p : Recipe). p.slug) s.live) slug) (is_in (slugs_of s.rows) slug) (sym (in-fold (slugs_of s.rows) (map (λ (p : Recipe). p.slug) s.live) slug) ∙ e) in
+    let parts = or_parts (is_in (map (λ (p : Recipe). p.slug) s.live) slug) (is_in (slugs_of s.rows) slug) (sym (in-fold (slugs_of s.rows) (map (λ (p : Recipe). p.slug) s.live) slug) ∙ e) in
     sym (ap (status_with context s now slug) (not_live slug s.live parts.0) ∙ ap (option_and_then (λ old. status_ended old now)) (not_row slug s.rows parts.1))
 
 -- ---- the rows as they are defined

@@ -3,6 +3,7 @@ use Rattle.std.proofs.Common.{◌≡◌, ◌≢◌, ℕ, zero, suc, Bool, true, 
 use Rattle.std.specs.Prelude.{fold, bytes_eq, ◌||◌, ◌&&◌, not, filter, IsTrue, if◌then◌else◌}
 use Rattle.std.specs.List.{list_any, flat_map}
 use Rattle.std.specs.Cmp.Lexicographic.{bytes_decides}
+use Rattle.std.proofs.Math.Bool.{or_assoc}
 use Rattle.recipe_reader.specs.Payloads as payloads
 use Rattle.recipe_reader.specs.Payloads.{AreInOrder, AreValid, recipe_with}
 use Rattle.recipe_reader.specs.Records.{IsValid}
@@ -21,12 +22,13 @@ use Rattle.enrol_states.specs.declared.state.State.{State}
 use Rattle.enrol_states.specs.declared.state.Row.{Row}
 use Rattle.enrol_states.specs.declared.status.Status.{Status}
 use Rattle.enrol_states.proofs.Ordered.{greater_texts, turned_up}
+use Rattle.enrol_states.proofs.Exclusion.{found_slug}
 use Rattle.enrol_conflicts.specs.declared.candidate.Candidate.{Candidate}
 use Rattle.enrol_conflicts.proofs.Exclusion.{exclusive, Contains-is_in, is_in-Contains}
 use Rattle.enrol_evolver.specs.Verdicts.{is_out}
 use Rattle.enrol_evolver.specs.Wishes.{with_once, features_of, candidate_of, outcome_of, is_wish, wishes_of, grants_of, is_granted}
 use Rattle.enrol_evolver.specs.Evolution.{is_slug_granted, status_with, rows_after, with_new_rows}
-use Rattle.enrol_evolver.proofs.Evolved.{settled_grants, found_slug, status-after}
+use Rattle.enrol_evolver.proofs.Evolved.{settled_grants, status-after}
 use Rattle.enrol_evolver.proofs.Fitness.{IsOld, outcome-fits, enrolled-granted}
 
 -- ---- features
@@ -69,14 +71,10 @@ once_by f t ts false e = more-texts f t ts
 among-once : (f t : List ℕ) (ts : List (List ℕ)) → is_in (with_once ts t) f ≡ (is_in ts f || bytes_eq t f)
 among-once f t ts = once_by f t ts (is_in ts t) refl
 
-or_or : (a b c : Bool) → ((a || b) || c) ≡ (a || (b || c))
-or_or true b c = refl
-or_or false b c = refl
-
 -- to have each text once is to have the same texts
 among-fold : (f : List ℕ) (ts acc : List (List ℕ)) → is_in (fold with_once acc ts) f ≡ (is_in acc f || is_in ts f)
 among-fold f [] acc = sym (none_after (is_in acc f))
-among-fold f (t ∷ ts) acc = among-fold f ts (with_once acc t) ∙ ap (λ b. b || is_in ts f) (among-once f t acc) ∙ or_or (is_in acc f) (bytes_eq t f) (is_in ts f)
+among-fold f (t ∷ ts) acc = among-fold f ts (with_once acc t) ∙ ap (λ b. b || is_in ts f) (among-once f t acc) ∙ or_assoc (is_in acc f) (bytes_eq t f) (is_in ts f)
 
 among-features : (f : List ℕ) (r : Recipe) → is_in (features_of r) f ≡ has_feature r f
 among-features f r = among-fold f (flat_map (λ (b : Branch). map (λ (v : FeatureValue). v.feature) b.features) r.branches) [] ∙ among-branches f r.branches

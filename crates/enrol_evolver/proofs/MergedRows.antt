@@ -9,6 +9,8 @@ use Rattle.std.specs.Cmp.Lexicographic.{bytes_decides}
 use Rattle.std.proofs.lemmas.List.{take-append-drop, take_more}
 use Rattle.std.proofs.lemmas.List.Elements.{filter_map-append}
 use Rattle.std.proofs.lemmas.List.Sums.{take_while-cons}
+use Rattle.sequences.proofs.Texts.{is_Less}
+use Rattle.sequences.proofs.Rising.{above_front, above_behind, front_rises}
 use Rattle.recipe_reader.specs.Payloads.{slug_cmp, recipe_with}
 use Rattle.app_context.specs.declared.context.Context.{Context}
 use Rattle.enrol_states.specs.Order.{Rise, AreAbove}
@@ -17,6 +19,7 @@ use Rattle.enrol_states.specs.declared.state.State.{State}
 use Rattle.enrol_states.specs.declared.state.Row.{Row}
 use Rattle.enrol_states.specs.declared.status.Status.{Status}
 use Rattle.enrol_states.proofs.Ordered.{equal_texts, same_texts, greater_texts, turned_up, turned_down, less_trans, above_trans}
+use Rattle.enrol_states.proofs.Lookups.{slug_of}
 use Rattle.enrol_evolver.specs.Wishes.{row_of}
 use Rattle.enrol_evolver.specs.Evolution.{ended_row, is_below, status_left}
 use Rattle.enrol_evolver.proofs.RowLists.{no_status}
@@ -145,13 +148,8 @@ ended-rise context s now (q ∷ qs) rise = ended_rise_at context s now q qs (sta
 abbrev AreRowsBelow : List ℕ → List Row → Type 0
 AreRowsBelow t qs = AllByRecursion (λ (q : Row). slug_cmp q.slug t ≡ Less) qs
 
-is_less : (o : Ordering) → is_lt o ≡ true → o ≡ Less
-is_less Less e = refl
-is_less Equal e = absurd cc
-is_less Greater e = absurd cc
-
 taken_below_at : (t : List ℕ) (q : Row) (qs : List Row) (b : Bool) → is_below t q ≡ b → AreRowsBelow t (take_while (is_below t) qs) → AreRowsBelow t (take_while (is_below t) (q ∷ qs))
-taken_below_at t q qs true e rest = subst (AreRowsBelow t) (sym (passed-taken (is_below t) q qs e)) (is_less (slug_cmp q.slug t) e, rest)
+taken_below_at t q qs true e rest = subst (AreRowsBelow t) (sym (passed-taken (is_below t) q qs e)) (is_Less (slug_cmp q.slug t) e, rest)
 taken_below_at t q qs false e rest = subst (AreRowsBelow t) (sym (stopped-taken (is_below t) q qs e)) tt
 
 taken-below : (t : List ℕ) (qs : List Row) → AreRowsBelow t (take_while (is_below t) qs)
@@ -225,26 +223,13 @@ unfolding IsStrictlySortedBy
 rise-joined [] r ys rise below above rest = (above, rest)
 rise-joined (x ∷ xs) r ys rise below above rest = (above-joined x.slug xs r ys rise.0 below.0 (above_trans x.slug r.slug (slugs_of ys) below.0 above), rise-joined xs r ys rise.1 below.1 above rest)
 
-above_left : (a : List ℕ) (xs ys : List Row) → AreAbove a (slugs_of (xs ++ ys)) → AreAbove a (slugs_of xs)
-above_left a [] ys above = tt
-above_left a (x ∷ xs) ys above = (above.0, above_left a xs ys above.1)
-
-above_right : (a : List ℕ) (xs ys : List Row) → AreAbove a (slugs_of (xs ++ ys)) → AreAbove a (slugs_of ys)
-above_right a [] ys above = above
-above_right a (x ∷ xs) ys above = above_right a xs ys above.1
-
 above-merged : (context : Context) (s : State) (now : ℕ) (a : List ℕ) (rs qs : List Row) → AreAbove a (slugs_of rs) → AreAbove a (slugs_of (ended_rows context s now qs)) → AreAbove a (slugs_of (merged context s now rs qs))
 above-merged context s now a [] qs above rest = rest
 above-merged context s now a (r ∷ rs) qs above rest =
     let p = is_below r.slug in
     let both = subst (λ xs. AreAbove a (slugs_of xs)) (sym (ended-split context s now p qs)) rest in
-    above-joined a (ended_rows context s now (take_while p qs)) r (merged context s now rs (drop (prefix_len p qs) qs)) (above_left a (ended_rows context s now (take_while p qs)) (ended_rows context s now (drop (prefix_len p qs) qs)) both) above.0
-    (above-merged context s now a rs (drop (prefix_len p qs) qs) above.1 (above_right a (ended_rows context s now (take_while p qs)) (ended_rows context s now (drop (prefix_len p qs) qs)) both))
-
-taken-rise : (xs ys : List Row) → Rise (slugs_of (xs ++ ys)) → Rise (slugs_of xs)
-unfolding IsStrictlySortedBy
-taken-rise [] ys rise = tt
-taken-rise (x ∷ xs) ys rise = (above_left x.slug xs ys rise.0, taken-rise xs ys rise.1)
+    above-joined a (ended_rows context s now (take_while p qs)) r (merged context s now rs (drop (prefix_len p qs) qs)) (above_front slug_of a (ended_rows context s now (take_while p qs)) (ended_rows context s now (drop (prefix_len p qs) qs)) both) above.0
+    (above-merged context s now a rs (drop (prefix_len p qs) qs) above.1 (above_behind slug_of a (ended_rows context s now (take_while p qs)) (ended_rows context s now (drop (prefix_len p qs) qs)) both))
 
 -- nothing stays of the old row of any of these rows
 abbrev pub AreGone : Context → State → ℕ → List Row → List Row → Type 0
@@ -269,7 +254,7 @@ rise-merged context s now (r ∷ rs) qs rise rise' gone =
     let rest = is-left r.slug qs rise' in
     let gone' = gone_left context s now p (r ∷ rs) qs gone in
     let above = above-from r.slug (ended_rows context s now left) (ended-from context s now r.slug left rest.from) gone'.0 in
-    rise-joined (ended_rows context s now front) r (merged context s now rs left) (ended-rise context s now front (taken-rise front left (subst (λ xs. Rise (slugs_of xs)) (sym (split p qs)) rise'))) (ended-below context s now r.slug front (taken-below r.slug qs))
+    rise-joined (ended_rows context s now front) r (merged context s now rs left) (ended-rise context s now front (front_rises slug_of front left (subst (λ xs. Rise (slugs_of xs)) (sym (split p qs)) rise'))) (ended-below context s now r.slug front (taken-below r.slug qs))
     (above-merged context s now r.slug rs left rise.0 above) (rise-merged context s now rs left rise.1 rest.rise gone'.1)
 
 -- ---- what stays of a slug

@@ -1,6 +1,6 @@
 -- What a call answered, said in other words.
 use Rattle.std.proofs.Common.{◌≡◌, ℕ, ◌+◌, ◌<◌, List, [], ◌∷◌, ◌++◌, length, get_or, take, Result, Ok, Err, append-nil, refl, sym, ap, ◌∙◌}
-use Rattle.std.specs.Prelude.{IfOk, MatchResult, fold}
+use Rattle.std.specs.Prelude.{IfOk, fold}
 use Rattle.std.specs.List.{flat_map}
 use Rattle.std.proofs.lemmas.Grind.{flat_map-append}
 use Rattle.std.proofs.lemmas.List.{take_more}
@@ -8,14 +8,6 @@ use Rattle.std.proofs.lemmas.List.{take_more}
 pub if_ok : {T E : Type 0} (r : Result T E) (a b : T) → a ≡ b → IfOk r (λ t. t ≡ a) → IfOk r (λ t. t ≡ b)
 if_ok (Ok t) a b e h = h ∙ e
 if_ok (Err x) a b e h = tt
-
-pub if_matched : {T E : Type 0} (r : Result T E) (a b : T) (Q : E → Type 0) → a ≡ b → MatchResult r (λ t. t ≡ a) Q → IfOk r (λ t. t ≡ b)
-if_matched (Ok t) a b Q e h = h ∙ e
-if_matched (Err x) a b Q e h = tt
-
-pub no_items : {X : Type 0} (xs : List X) → length xs ≡ 0 → xs ≡ []
-no_items [] e = refl
-no_items (x ∷ xs) e = absurd cc
 
 -- one more item
 pub flat_map-more : {X Y : Type 0} (f : X → List Y) (xs : List X) (i : ℕ) (x : X) (ys zs : List Y) → i < length xs → x ≡ get_or xs i x → ys ≡ flat_map f (take i xs) → zs ≡ ys ++ f x → zs ≡ flat_map f (take (i + 1) xs)

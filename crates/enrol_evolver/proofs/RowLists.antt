@@ -7,6 +7,7 @@ use Rattle.std.specs.List.{AllByRecursion, cons_option}
 use Rattle.std.specs.List.Sorted.{IsStrictlySortedBy}
 use Rattle.std.specs.Cmp.Lexicographic.{bytes_decides}
 use Rattle.std.proofs.lemmas.List.Elements.{All-head, All-tail}
+use Rattle.sequences.proofs.Texts.{bytes_same}
 use Rattle.recipe_reader.specs.Payloads.{slug_cmp}
 use Rattle.enrol_states.specs.Order.{Rise, AreAbove, is_in}
 use Rattle.enrol_states.specs.State.{slugs_of, status_of}
@@ -16,11 +17,8 @@ use Rattle.enrol_states.proofs.Ordered.{same_texts, greater_texts, turned_up, tu
 use Rattle.enrol_states.proofs.OptOuts.{rise-insert}
 use Rattle.enrol_evolver.specs.Wishes.{row_of}
 
-itself : (t : List ℕ) → bytes_eq t t ≡ true
-itself t = (bytes_decides t t).1 refl
-
 first_status : (r : Row) (rs : List Row) → status_of r.slug (r ∷ rs) ≡ Some r.status
-first_status r rs = ap (λ b. if b then Some r.status else status_of r.slug rs) (itself r.slug)
+first_status r rs = ap (λ b. if b then Some r.status else status_of r.slug rs) (bytes_same r.slug)
 
 pub no_status : (slug : List ℕ) (qs : List Row) → AreAbove slug (slugs_of qs) → status_of slug qs ≡ None
 no_status slug [] above = refl
@@ -86,7 +84,7 @@ pub row_where : (P : Row → Type 0) (ps : List Row) (slug : List ℕ) (st : Sta
 row_where P [] slug st all found = absurd cc
 row_where P (p ∷ ps) slug st all found = found_at P p ps slug st (bytes_eq p.slug slug) refl (All-head P p ps all) (row_where P ps slug st (All-tail P p ps all)) found
 
--- ---- rows of slugs in order, each by itself
+-- ---- rows of slugs in order, each by bytes_same
 
 abbrev pub row_by : (List ℕ → Option Status) → List ℕ → Option Row
 row_by status slug = option_map (row_of slug) (status slug)

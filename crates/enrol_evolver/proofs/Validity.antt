@@ -1,9 +1,9 @@
 -- What valid recipes have.
-use Rattle.std.proofs.Common.{◌≡◌, ℕ, suc, ◌<◌, ◌≤◌, Bool, true, false, List, [], ◌∷◌, length, sum, None, Some, Ok, refl, sym, ap, subst, arith}
-use Rattle.std.specs.Prelude.{nat_le, nat_lt, ◌&&◌, not, codes, Option, Result, Err}
+use Rattle.std.proofs.Common.{◌≡◌, ℕ, suc, ◌<◌, ◌≤◌, true, List, [], ◌∷◌, length, sum, None, Some, Ok, refl, sym, ap, subst, arith}
+use Rattle.std.specs.Prelude.{nat_le, nat_lt, not, codes, Option, Result, Err}
 use Rattle.std.specs.Option.{is_some}
 use Rattle.std.specs.List.{AllByRecursion}
-use Rattle.std.proofs.lemmas.Bool.{leb-true, ltb-true}
+use Rattle.std.proofs.lemmas.Bool.{leb-true, ltb-true, and_parts}
 use Rattle.std.proofs.lemmas.List.Sums.{sum-map}
 use Rattle.json_tree.specs.Json.{Json, Items, no_items, item, get}
 use Rattle.plain_text.specs.Names.{bad_place}
@@ -57,22 +57,14 @@ each_fits (item x xs) bs e =
     let rest = each_fits xs p.1 p.3 in
     subst (λ cs. (length cs ≡ items_len (item x xs)) × AllByRecursion (λ (b : Branch). IsSlug b.slug) cs) p.4 (ap suc rest.0, (branch_fits x p.0 p.2, rest.1))
 
-both_left : (a b : Bool) → (a && b) ≡ true → a ≡ true
-both_left true b e = refl
-both_left false b e = absurd cc
-
-both_right : (a b : Bool) → (a && b) ≡ true → b ≡ true
-both_right true b e = e
-both_right false b e = absurd cc
-
 branches_fit : (xs : Items) (bs : List Branch) → branches_of xs ≡ Ok bs → AreBranches bs
 unfolding branches_of
 branches_fit xs bs e =
     let p = list_parts branch_test (is_branch_count xs) (each branch_of xs) bs e in
     let all = each_fits xs bs p.1 in
-    let least = leb-true 1 (items_len xs) (both_left (nat_le 1 (items_len xs)) (nat_le (items_len xs) 100) p.0) in
-    let most = leb-true (items_len xs) 100 (both_right (nat_le 1 (items_len xs)) (nat_le (items_len xs) 100) p.0) in
-    let above = ltb-true 0 (ratio_sum bs) (both_right _ (nat_lt 0 (ratio_sum bs)) p.2) in
+    let least = leb-true 1 (items_len xs) (and_parts (nat_le 1 (items_len xs)) (nat_le (items_len xs) 100) p.0).0 in
+    let most = leb-true (items_len xs) 100 (and_parts (nat_le 1 (items_len xs)) (nat_le (items_len xs) 100) p.0).1 in
+    let above = ltb-true 0 (ratio_sum bs) (and_parts _ (nat_lt 0 (ratio_sum bs)) p.2).1 in
     record {
       some = omega (arith, all.0, least);
       few = omega (arith, all.0, most);
@@ -103,7 +95,7 @@ unfolding bucket_of
 total_of x b e =
     let t = total_parts (sized_text (codes "randomizationUnit") 1 80 x) (sized_text (codes "namespace") 0 256 x) (count_at (codes "start") 0 4294967295 x) (count_at (codes "count") 0 4294967295 x) (count_at (codes "total") 1 4294967295 x) b e in
     let within = count_ok 1 4294967295 (get (codes "total") x) b.total t in
-    let least = leb-true 1 b.total (both_left (nat_le 1 b.total) (nat_le b.total 4294967295) within) in
+    let least = leb-true 1 b.total (and_parts (nat_le 1 b.total) (nat_le b.total 4294967295) within).0 in
     omega (arith, least)
 
 pub has_total : (r : Recipe) → IsValid r → 0 < r.bucket.total

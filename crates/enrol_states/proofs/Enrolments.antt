@@ -10,6 +10,8 @@ use Rattle.std.proofs.lemmas.List.Elements.{All-cons, All-head, All-tail, All-ni
 use Rattle.std.proofs.lemmas.List.Filters.{length-filter_both}
 use Rattle.std.proofs.lemmas.List.Kept.{IsStrictlySortedBy-filter}
 use Rattle.std.proofs.lemmas.Map.Views.{any-filter_same}
+use Rattle.std.proofs.lemmas.Bool.{or_parts}
+use Rattle.sequences.proofs.Alls.{all_at}
 use Rattle.recipe_reader.specs.Payloads.{slug_cmp, has_slug, recipe_with}
 use Rattle.recipe_reader.specs.declared.recipe.Recipe.{Recipe}
 use Rattle.enrol_states.specs.Order.{Rise, AreAbove, IsPlace, is_in}
@@ -23,7 +25,7 @@ use Rattle.enrol_states.specs.Features.{IsFree}
 use Rattle.enrol_states.specs.Choices.{MayChoose}
 use Rattle.enrol_states.specs.declared.state.State.{State}
 use Rattle.enrol_states.specs.declared.state.Row.{Row}
-use Rattle.enrol_states.proofs.Ordered.{same_texts, equal_texts, lesser_texts, greater_texts, turned_up, text_at, each_at}
+use Rattle.enrol_states.proofs.Ordered.{same_texts, equal_texts, lesser_texts, greater_texts, turned_up, text_at}
 use Rattle.enrol_states.proofs.Lookups.{slug_of}
 use Rattle.enrol_states.proofs.OptOuts.{rise-insert}
 use Rattle.enrol_states.proofs.Exclusion as exclusion
@@ -90,12 +92,8 @@ without-at t (u ∷ us) zero d less rise e =
     sym (ap₂ (λ b rest. if b then u ∷ rest else rest) (ap not (equal_texts u t e)) (above-kept t us (subst (λ v. AreAbove v us) (same_texts u t e) rise.0)))
 without-at t (u ∷ us) (suc i) d less rise e =
     let same = same_texts (get_or us i d) t e in
-    let below : slug_cmp u t ≡ Less = subst (λ v. slug_cmp u v ≡ Less) same (each_at (λ v. slug_cmp u v ≡ Less) us i d (omega arith) rise.0) in
+    let below : slug_cmp u t ≡ Less = subst (λ v. slug_cmp u v ≡ Less) same (all_at (λ v. slug_cmp u v ≡ Less) us i d (omega arith) rise.0) in
     ap (λ rest. u ∷ rest) (without-at t us i d (omega arith) rise.1 e) ∙ sym (ap (λ b. if not b then u ∷ without_text t us else without_text t us) (lesser_texts u t below))
-
-neither : (a b : Bool) → (a || b) ≡ false → (a ≡ false) × (b ≡ false)
-neither true b h = absurd cc
-neither false b h = (refl, h)
 
 kept_none : (b : Bool) (u s : List ℕ) (rest : List (List ℕ)) → bytes_eq u s ≡ false → is_in rest s ≡ false → is_in (if b then u ∷ rest else rest) s ≡ false
 kept_none true u s rest other none = ap (λ c. c || is_in rest s) other ∙ none
@@ -105,7 +103,7 @@ kept_none false u s rest other none = none
 pub is_in-without : (s t : List ℕ) (ts : List (List ℕ)) → is_in ts s ≡ false → is_in (without_text t ts) s ≡ false
 is_in-without s t [] none = refl
 is_in-without s t (u ∷ us) none =
-    let apart = neither (bytes_eq u s) (is_in us s) none in
+    let apart = or_parts (bytes_eq u s) (is_in us s) none in
     kept_none (not (bytes_eq u t)) u s (without_text t us) apart.0 (is_in-without s t us apart.1)
 
 not_not : (b : Bool) → b ≡ not (not b)
@@ -126,7 +124,7 @@ has_recipe_at : (s : List ℕ) (q : Recipe) (qs : List Recipe) (r : Recipe) (b :
 has_recipe_at s q qs r true rest e = refl
 has_recipe_at s q qs r false rest e = rest e
 
-has_recipe : (s : List ℕ) (rs : List Recipe) (r : Recipe) → recipe_with s rs ≡ Some r → has_slug s rs ≡ true
+pub has_recipe : (s : List ℕ) (rs : List Recipe) (r : Recipe) → recipe_with s rs ≡ Some r → has_slug s rs ≡ true
 has_recipe s [] r e = absurd cc
 has_recipe s (q ∷ qs) r e = has_recipe_at s q qs r (bytes_eq q.slug s) (has_recipe s qs r) e
 

@@ -96,7 +96,7 @@ slug_at : (slug : List ℕ) (q : Recipe) (qs : List Recipe) (r : Recipe) (b : Bo
 slug_at slug q qs r true same rest e = let one : q ≡ r = cc in sym (ap (λ (p : Recipe). p.slug) one) ∙ (bytes_decides q.slug slug).0 same
 slug_at slug q qs r false same rest e = rest e
 
-found_slug : (slug : List ℕ) (rs : List Recipe) (r : Recipe) → recipe_with slug rs ≡ Some r → r.slug ≡ slug
+pub found_slug : (slug : List ℕ) (rs : List Recipe) (r : Recipe) → recipe_with slug rs ≡ Some r → r.slug ≡ slug
 found_slug slug [] r e = absurd cc
 found_slug slug (q ∷ qs) r e = slug_at slug q qs r (bytes_eq q.slug slug) refl (found_slug slug qs r) e
 

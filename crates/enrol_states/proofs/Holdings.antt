@@ -7,9 +7,11 @@ use Rattle.std.specs.BTreeSet.{BTreeSet}
 use Rattle.std.specs.Cmp.{first_so, second_so}
 use Rattle.std.specs.Cmp.Lexicographic.{texts_ties, bytes_decides}
 use Rattle.std.specs.List.{list_any}
-use Rattle.std.proofs.lemmas.Bool.{cases_lt}
+use Rattle.std.proofs.lemmas.Bool.{cases_lt, false_from_ne_true, and_from}
 use Rattle.std.proofs.lemmas.List.{get_or_default}
 use Rattle.std.proofs.lemmas.List.Folds.{list_any_more}
+use Rattle.std.proofs.Math.Bool.{or-true, or-false}
+use Rattle.sequences.proofs.Texts.{is_Equal}
 use Rattle.recipe_reader.specs.Payloads.{slug_cmp, recipe_with}
 use Rattle.recipe_reader.specs.Kinds.{kind_of, kind_eq}
 use Rattle.recipe_reader.specs.declared.kinds.Kind.{Kind}
@@ -27,8 +29,7 @@ use Rattle.enrol_states.specs.Holding.{has_alone, recipe_holds, enrolled_recipe,
 use Rattle.enrol_states.specs.declared.state.State.{State}
 use Rattle.enrol_states.specs.declared.state.Row.{Row}
 use Rattle.enrol_states.proofs.Ordered.{rises_by, lesser_texts}
-use Rattle.enrol_states.proofs.Lookups.{slug_of, status-at}
-use Rattle.enrol_states.proofs.Leasts.{is_Equal}
+use Rattle.enrol_states.proofs.Lookups.{slug_of, status-at, is_some-map}
 
 -- ---- one row
 
@@ -86,15 +87,11 @@ among p [] (suc j) h = absurd cc
 among p (x ∷ xs) zero h = absurd cc
 among p (x ∷ xs) (suc j) h = among_at p x xs j (p x) refl h (among p xs j)
 
-or_true : (b : Bool) → (b || true) ≡ true
-or_true true = refl
-or_true false = refl
-
 any_at : {X : Type 0} (p : X → Bool) (xs : List X) (i j : ℕ) (d : X) → i < j → i < length xs → p (get_or xs i d) ≡ true → list_any p (take j xs) ≡ true
 any_at p [] i j d before within h = absurd (omega (arith, within))
 any_at p (x ∷ xs) i zero d before within h = absurd (omega (arith, before))
 any_at p (x ∷ xs) zero (suc j) d before within h = ap (λ b. b || list_any p (take j xs)) h
-any_at p (x ∷ xs) (suc i) (suc j) d before within h = ap (λ b. p x || b) (any_at p xs i j d (omega (arith, before)) (omega (arith, within)) h) ∙ or_true (p x)
+any_at p (x ∷ xs) (suc i) (suc j) d before within h = ap (λ b. p x || b) (any_at p xs i j d (omega (arith, before)) (omega (arith, within)) h) ∙ or-true (p x)
 
 -- ---- rows that are apart, and recipes that are exclusive
 
@@ -122,9 +119,6 @@ of_each_kind : (s : State) → AreApart s Rollout → AreApart s Experiment → 
 of_each_kind s rollouts experiments Rollout = rollouts
 of_each_kind s rollouts experiments Experiment = experiments
 
-and_so : (a b : Bool) → a ≡ true → b ≡ true → (a && b) ≡ true
-and_so a b one two = ap (λ c. c && b) one ∙ two
-
 -- the earlier of two rows of one kind and the later hold nothing in common
 not_both : (s : State) (kind : Kind) (i j : ℕ) (d : Row) (f : List ℕ) → AreApart s kind → i < j → j < length s.rows → holds s kind (get_or s.rows i d) f ≡ true → holds s kind (get_or s.rows j d) f ≡ true → ⊥
 not_both s kind i j d f apart before within one two =
@@ -144,7 +138,7 @@ shared_not s slug other f r q rollouts experiments one two found found_other apa
     let same_kind = first_so (kind_eq (kind_of r) (kind_of q)) (has_feature r f && (has_feature q f && not (is_in s.coenrolling f))) shared in
     let has = first_so (has_feature r f) (has_feature q f && not (is_in s.coenrolling f)) rest in
     let other_alone = second_so (has_feature r f) (has_feature q f && not (is_in s.coenrolling f)) rest in
-    let alone = and_so (has_feature r f) (not (is_in s.coenrolling f)) has (second_so (has_feature q f) (not (is_in s.coenrolling f)) other_alone) in
+    let alone = and_from (has_feature r f) (not (is_in s.coenrolling f)) has (second_so (has_feature q f) (not (is_in s.coenrolling f)) other_alone) in
     let here = holding_there s (kind_of r) slug f r one one.row found (kind_itself (kind_of r)) alone in
     let there = holding_there s (kind_of r) other f q two one.row found_other same_kind other_alone in
     let each = of_each_kind s rollouts experiments (kind_of r) in
@@ -160,13 +154,9 @@ shared_not s slug other f r q rollouts experiments one two found found_other apa
       ]
     ]
 
-not_true : (b : Bool) → (b ≡ true → ⊥) → b ≡ false
-not_true true none = absurd (none refl)
-not_true false none = refl
-
 pub apart_exclusive : (s : State) → AreApart s Rollout → AreApart s Experiment → AreExclusive s
 apart_exclusive s rollouts experiments slug other f r q one two found found_other apart =
-    not_true (share s.coenrolling r q f) (λ shared. shared_not s slug other f r q rollouts experiments (enrolled_at slug s.rows one) (enrolled_at other s.rows two) found found_other apart shared)
+    false_from_ne_true (share s.coenrolling r q f) (λ shared. shared_not s slug other f r q rollouts experiments (enrolled_at slug s.rows one) (enrolled_at other s.rows two) found found_other apart shared)
 
 itself : (a : List ℕ) → slug_cmp a a ≡ Equal
 itself a = is_Equal (slug_cmp a a) (sym (texts_ties a a) ∙ (bytes_decides a a).1 refl)
@@ -183,14 +173,14 @@ both_held s kind i j d f rise ex before within one two =
     let apart = lesser_texts here.slug there.slug (rises_by slug_of s.rows i j d before within rise) in
     let none = ex here.slug there.slug f p.0 q.0 (enrolled_now s i d rise (omega (arith, before, within)) p.1.enrolled) (enrolled_now s j d rise within q.1.enrolled) p.1.found q.1.found apart in
     let shared : share s.coenrolling p.0 q.0 f ≡ true =
-    and_so (kind_eq (kind_of p.0) (kind_of q.0)) (has_feature p.0 f && has_alone s.coenrolling q.0 f) (kinds_both kind (kind_of p.0) (kind_of q.0) p.1.same_kind q.1.same_kind)
-    (and_so (has_feature p.0 f) (has_alone s.coenrolling q.0 f) (first_so (has_feature p.0 f) (not (is_in s.coenrolling f)) p.1.alone) q.1.alone)
+    and_from (kind_eq (kind_of p.0) (kind_of q.0)) (has_feature p.0 f && has_alone s.coenrolling q.0 f) (kinds_both kind (kind_of p.0) (kind_of q.0) p.1.same_kind q.1.same_kind)
+    (and_from (has_feature p.0 f) (has_alone s.coenrolling q.0 f) (first_so (has_feature p.0 f) (not (is_in s.coenrolling f)) p.1.alone) q.1.alone)
     in
     absurd cc
 
 pub exclusive_apart : (s : State) (kind : Kind) → Rise (slugs_of s.rows) → AreExclusive s → AreApart s kind
 exclusive_apart s kind rise ex j row f within h =
-    not_true (is_held s kind (take j s.rows) f)
+    false_from_ne_true (is_held s kind (take j s.rows) f)
     (λ held.
     let earlier = among (λ (q : Row). holds s kind q f) s.rows j held in
     both_held s kind earlier.place j row f rise ex earlier.before within (earlier.passes row) h)
@@ -213,15 +203,11 @@ apart_more s kind rows i row within here fresh apart j d f before h =
           subst (λ m. is_held s kind (take m rows) f ≡ false) (sym place) (fresh f (sym (ap (λ q. holds s kind q f) same) ∙ h))
     ]
 
-or_false : (b : Bool) → b ≡ (b || false)
-or_false true = refl
-or_false false = refl
-
 -- a row by which the client is enrolled in no recipe of the kind
 pub none_held : (s : State) (kind : Kind) (rows : List Row) (i : ℕ) (row : Row) (set : BTreeSet (Bor (List ℕ))) → i < length rows → row ≡ get_or rows i row → enrolled_recipe s kind row ≡ None
     → ((f : List ℕ) → has_text set f ≡ is_held s kind (take i rows) f) → (f : List ℕ) → has_text set f ≡ is_held s kind (take (i + 1) rows) f
 none_held s kind rows i row set within here none held f =
-    held f ∙ or_false (is_held s kind (take i rows) f) ∙ ap (λ o. is_held s kind (take i rows) f || recipe_holds s.coenrolling o f) (sym none) ∙ sym (held_more s kind rows i row f within here)
+    held f ∙ sym (or-false (is_held s kind (take i rows) f)) ∙ ap (λ o. is_held s kind (take i rows) f || recipe_holds s.coenrolling o f) (sym none) ∙ sym (held_more s kind rows i row f within here)
 
 pub none_apart : (s : State) (kind : Kind) (rows : List Row) (i : ℕ) (row : Row) → i < length rows → row ≡ get_or rows i row → enrolled_recipe s kind row ≡ None
     → AreApartBefore s kind rows i → AreApartBefore s kind rows (i + 1)
@@ -254,7 +240,7 @@ some_taken s kind rows i row r set f same within here some held both apart =
     let held_here : is_held s kind (take i rows) f ≡ true = sym (held f) ∙ first_so (has_text set f) (has_feature r f) both in
     let earlier = among (λ (q : Row). holds s kind q f) rows i held_here in
     let its = holding s kind (get_or rows earlier.place row) f (earlier.passes row) in
-    let alone = and_so (has_feature r f) (not (is_in s.coenrolling f)) (second_so (has_text set f) (has_feature r f) both) (second_so (has_feature its.0 f) (not (is_in s.coenrolling f)) its.1.alone) in
+    let alone = and_from (has_feature r f) (not (is_in s.coenrolling f)) (second_so (has_text set f) (has_feature r f) both) (second_so (has_feature its.0 f) (not (is_in s.coenrolling f)) its.1.alone) in
     let holds_it : holds s kind (get_or rows i row) f ≡ true = ap (λ q. holds s kind q f) (sym here) ∙ ap (λ o. recipe_holds s.coenrolling o f) some ∙ alone in
     let none : is_held s kind (take i rows) f ≡ false =
     subst (λ qs. is_held s kind (take i qs) f ≡ false) (sym same) (apart i row f (subst (λ qs. i < length qs) same within) (subst (λ (qs : List Row). holds s kind (get_or qs i row) f ≡ true) same holds_it))
@@ -267,10 +253,6 @@ all_apart s kind rows i same all apart j row f within h =
     (apart j row f (let fewer : j < length rows = subst (λ qs. j < length qs) (sym same) within in omega (arith, all, fewer)) (subst (λ (qs : List Row). holds s kind (get_or qs j row) f ≡ true) (sym same) h))
 
 -- ---- whether a least text is there
-
-is_some-map : {A B : Type 0} (f : A → B) (o : Option A) → is_some (option_map f o) ≡ is_some o
-is_some-map f None = refl
-is_some-map f (Some a) = refl
 
 least_there : (test : List ℕ → Bool) (o : Option (List ℕ)) → is_some o ≡ true → IsLeast test o → (f : List ℕ) × (test f ≡ true)
 least_there test None there least = absurd cc

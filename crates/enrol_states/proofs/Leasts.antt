@@ -4,10 +4,12 @@ use Rattle.std.specs.Prelude.{IsTrue, bytes_eq, if◌then◌else◌}
 use Rattle.std.specs.Cmp.{alike_right, second_so}
 use Rattle.std.specs.Cmp.Lexicographic.{nat_list_cmp_total, texts_ties, bytes_decides}
 use Rattle.std.specs.BTreeMap.Comparable.{le_lt_trans}
-use Rattle.std.specs.Ordering.{is_eq, is_le, is_lt, ordering_reverse}
+use Rattle.std.specs.Ordering.{is_le, is_lt, ordering_reverse}
 use Rattle.std.specs.List.{list_any}
 use Rattle.std.proofs.lemmas.List.Folds.{list_any_more}
 use Rattle.std.proofs.lemmas.List.{take_all}
+use Rattle.std.proofs.lemmas.Bool.{or_right, or_left}
+use Rattle.sequences.proofs.Texts.{is_Equal}
 use Rattle.recipe_reader.specs.Payloads.{slug_cmp}
 use Rattle.enrol_states.specs.Least.{IsLeast, lesser_of}
 use Rattle.enrol_states.proofs.Ordered.{turned_down}
@@ -21,11 +23,6 @@ le_at a b c Greater e first second = absurd cc
 pub le_trans : (a b c : List ℕ) → IsTrue (is_le (slug_cmp a b)) → IsTrue (is_le (slug_cmp b c)) → IsTrue (is_le (slug_cmp a c))
 le_trans a b c first second = le_at a b c (slug_cmp b c) refl first second
 
-pub is_Equal : (o : Ordering) → is_eq o ≡ true → o ≡ Equal
-is_Equal Less e = absurd cc
-is_Equal Equal e = refl
-is_Equal Greater e = absurd cc
-
 pub le_itself : (a b : List ℕ) → a ≡ b → IsTrue (is_le (slug_cmp a b))
 le_itself a b same = ap is_le (is_Equal (slug_cmp a b) (sym (texts_ties a b) ∙ (bytes_decides a b).1 same))
 
@@ -35,13 +32,6 @@ le_Less a b e = ap is_le e
 pub IsLeast-same : (P Q : List ℕ → Bool) (r : Option (List ℕ)) → ((t : List ℕ) → P t ≡ Q t) → IsLeast P r → IsLeast Q r
 IsLeast-same P Q None same least = λ t. sym (same t) ∙ least t
 IsLeast-same P Q (Some s) same least = (sym (same s) ∙ least.0, λ t passes. least.1 t (same t ∙ passes))
-
-or_left : (a b : Bool) → a ≡ true → (a || b) ≡ true
-or_left a b h = ap (λ c. c || b) h
-
-or_right : (a b : Bool) → b ≡ true → (a || b) ≡ true
-or_right true b h = refl
-or_right false b h = h
 
 -- what one of two tests says, where the first or the second passes
 either_so : {A : Type 0} (a b : Bool) → (a || b) ≡ true → (a ≡ true → A) → (b ≡ true → A) → A

@@ -1,7 +1,8 @@
 -- The status of a slug among rows in order, found by a search.
-use Rattle.std.proofs.Common.{◌≡◌, ℕ, zero, suc, ◌<◌, false, List, [], ◌∷◌, length, get_or, Some, None, Less, Equal, Err, refl, ap, ◌∙◌, subst, arith}
+use Rattle.std.proofs.Common.{◌≡◌, ℕ, zero, suc, ◌<◌, false, List, [], ◌∷◌, length, get_or, Option, Some, None, Less, Equal, Err, refl, ap, ◌∙◌, subst, arith}
 use Rattle.std.specs.Prelude.{bytes_eq, if◌then◌else◌}
 use Rattle.std.specs.List.{AllByRecursion}
+use Rattle.std.specs.Option.{is_some, option_map}
 use Rattle.std.specs.List.Sorted.{IsStrictlySortedBy, IsBinarySearchResult}
 use Rattle.recipe_reader.specs.Payloads.{slug_cmp}
 use Rattle.enrol_states.specs.Order.{Rise, IsPlace}
@@ -11,6 +12,10 @@ use Rattle.enrol_states.proofs.Ordered.{order_by, equal_texts, same_texts, lesse
 
 abbrev pub slug_of : Row → List ℕ
 slug_of row = row.slug
+
+pub is_some-map : {A B : Type 0} (f : A → B) (o : Option A) → is_some (option_map f o) ≡ is_some o
+is_some-map f None = refl
+is_some-map f (Some a) = refl
 
 -- the row at a place whose slug is this one is the one with it
 pub status-at : (slug : List ℕ) (rows : List Row) (i : ℕ) (d : Row) → i < length rows → Rise (slugs_of rows) → slug_cmp (get_or rows i d).slug slug ≡ Equal → status_of slug rows ≡ Some (get_or rows i d).status

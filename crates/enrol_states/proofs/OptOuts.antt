@@ -6,8 +6,9 @@ use Rattle.std.specs.Ordering.{match_ordering}
 use Rattle.std.specs.List.Sorted.{IsStrictlySortedBy}
 use Rattle.std.proofs.lemmas.Bool.{le-leb, lt-leb, leb-false}
 use Rattle.std.proofs.lemmas.Map.Views.{All-insert_key}
+use Rattle.sequences.proofs.Insertions.{above_insert}
 use Rattle.recipe_reader.specs.Payloads.{slug_cmp, has_slug}
-use Rattle.enrol_states.specs.Order.{Rise, AreAbove, is_in}
+use Rattle.enrol_states.specs.Order.{Rise, is_in}
 use Rattle.enrol_states.specs.Statuses.{IsSlug, IsStatus}
 use Rattle.enrol_states.specs.Consistent.{HasRecipe, HasBranch, IsNotOptedOut, IsParticipating, IsConsistent}
 use Rattle.enrol_states.specs.Commands.{opted_out_of, enrolment_ended, after_opt_out}
@@ -20,20 +21,11 @@ use Rattle.enrol_states.proofs.Exclusion as exclusion
 
 -- ---- one more text
 
-above-insert : (a s : List ℕ) (ts : List (List ℕ)) → slug_cmp a s ≡ Less → AreAbove a ts → AreAbove a (insert_key slug_cmp ts s)
-above-insert a s [] less above = (less, tt)
-above-insert a s (t ∷ ts) less above =
-    elim (slug_cmp s t) as (λ o. AreAbove a (match_ordering o (s ∷ t ∷ ts) (t ∷ ts) (t ∷ insert_key slug_cmp ts s))) [
-      | Less ↦ (less, above)
-      | Equal ↦ above
-      | Greater ↦ (above.0, above-insert a s ts less above.1)
-    ]
-
 rise_at : (s t : List ℕ) (ts : List (List ℕ)) (o : Ordering) → slug_cmp s t ≡ o → Rise (t ∷ ts) → Rise (insert_key slug_cmp ts s) → Rise (match_ordering o (s ∷ t ∷ ts) (t ∷ ts) (t ∷ insert_key slug_cmp ts s))
 unfolding IsStrictlySortedBy
 rise_at s t ts Less e rise rest = ((e, above_trans s t ts e rise.0), rise)
 rise_at s t ts Equal e rise rest = rise
-rise_at s t ts Greater e rise rest = (above-insert t s ts (turned_down s t e) rise.0, rest)
+rise_at s t ts Greater e rise rest = (above_insert t s ts (turned_down s t e) rise.0, rest)
 
 pub rise-insert : (s : List ℕ) (ts : List (List ℕ)) → Rise ts → Rise (insert_key slug_cmp ts s)
 unfolding IsStrictlySortedBy

@@ -1,10 +1,11 @@
 -- What an opt-out makes of rows.
 use Rattle.std.proofs.Common.{◌≡◌, ℕ, zero, suc, ◌<◌, Bool, true, false, List, [], ◌∷◌, length, get_or, map, None, Less, Equal, refl, ap, ap₂, ◌∙◌, subst, sym, arith}
-use Rattle.std.specs.Prelude.{All, slice_set, ◌&&◌, ◌||◌, bytes_eq, if◌then◌else◌}
+use Rattle.std.specs.Prelude.{All, slice_set, ◌&&◌, bytes_eq, if◌then◌else◌}
 use Rattle.std.specs.List.{list_any}
 use Rattle.std.specs.List.Sorted.{IsStrictlySortedBy}
 use Rattle.std.proofs.lemmas.List.Elements.{All-map, All-weaker}
 use Rattle.std.specs.Cmp.{second_so}
+use Rattle.std.proofs.lemmas.Bool.{or_parts}
 use Rattle.recipe_reader.specs.Payloads.{slug_cmp, recipe_with}
 use Rattle.enrol_states.specs.Order.{Rise, AreAbove, IsPlace}
 use Rattle.enrol_states.specs.Statuses.{IsStatus, is_enrolled, was_enrolled, enrolled_branch}
@@ -110,10 +111,6 @@ left_as_is (statuses.Disqualified reason branch) none = refl
 left_as_is (statuses.WasEnrolled branch ended) none = refl
 left_as_is (statuses.Error cause) none = refl
 
-neither : (a b : Bool) → (a || b) ≡ false → (a ≡ false) × (b ≡ false)
-neither true b h = absurd cc
-neither false b h = (refl, h)
-
 row_stays : (row : Row) → changes_at_opt_out row.status ≡ false → row_opted_out row ≡ row
 row_stays row none = ap (λ (st : Status). record { slug = row.slug; status = st }) (left_as_is row.status none)
 
@@ -134,5 +131,5 @@ is_left s kinds row h = ap (λ b. if b then row_opted_out row else row) (second_
 pub all-stay : (s : State) (kinds : Kinds) (rows : List Row) → list_any (leaves s kinds) rows ≡ false → map (row_left s kinds) rows ≡ rows
 all-stay s kinds [] none = refl
 all-stay s kinds (q ∷ qs) none =
-    let apart = neither (leaves s kinds q) (list_any (leaves s kinds) qs) none in
+    let apart = or_parts (leaves s kinds q) (list_any (leaves s kinds) qs) none in
     ap₂ (λ r rs. r ∷ rs) (stays s kinds q apart.0) (all-stay s kinds qs apart.1)

@@ -1,23 +1,19 @@
 -- Texts in order, and searches among items in order by their texts.
 pub use Rattle.sequences.proofs.Texts.{equal_texts, same_texts, lesser_texts, greater_texts, turned_up, turned_down, less_trans, bytes_turned, above_trans}
 pub use Rattle.sequences.proofs.Searching.{order_by, text_at, rises_by}
-use Rattle.std.proofs.Common.{◌≡◌, ℕ, zero, suc, ◌<◌, Bool, true, false, List, [], ◌∷◌, map, length, get_or, Equal, Err, refl, sym, ap, ◌∙◌, subst, arith}
+use Rattle.std.proofs.Common.{◌≡◌, ℕ, zero, suc, ◌<◌, true, false, List, [], ◌∷◌, map, length, get_or, Equal, Err, refl, sym, ap, ◌∙◌, subst, arith}
 use Rattle.std.specs.Prelude.{bytes_eq, ◌||◌}
-use Rattle.std.specs.List.{AllByRecursion, HoldsAt, insert}
+use Rattle.std.specs.List.{HoldsAt, insert}
 use Rattle.std.specs.BTreeSet.{insert_key}
 use Rattle.std.specs.List.Sorted.{IsBinarySearchResult}
 use Rattle.std.specs.Ordering.{match_ordering}
+use Rattle.std.proofs.Math.Bool.{or-true}
 use Rattle.recipe_reader.specs.Payloads.{slug_cmp}
 use Rattle.enrol_states.specs.Order.{Rise, AreAbove, IsPlace, is_in}
 use Rattle.sequences.proofs.Searching.{place_around}
+use Rattle.sequences.proofs.Insertions.{insert_first}
 
 -- ---- searches
-
--- what holds of each text holds of the one at a place
-pub each_at : (P : List ℕ → Type 0) (ts : List (List ℕ)) (i : ℕ) (d : List ℕ) → i < length ts → AllByRecursion P ts → P (get_or ts i d)
-each_at P [] i d less all = absurd (omega arith)
-each_at P (t ∷ ts) zero d less all = all.0
-each_at P (t ∷ ts) (suc i) d less all = each_at P ts i d (omega arith) all.1
 
 -- what a binary search that finds no item of that text says
 pub place_searched : {X : Type 0} (text : X → List ℕ) (s : List ℕ) (xs : List X) (i : ℕ) → Rise (map text xs) → IsBinarySearchResult (order_by text s) xs (Err i) → IsPlace s (map text xs) i
@@ -31,14 +27,10 @@ map_itself (t ∷ ts) = ap (λ us. t ∷ us) (map_itself ts)
 
 -- ---- whether a text is one of a list
 
-or_true : (b : Bool) → (b || true) ≡ true
-or_true true = refl
-or_true false = refl
-
 pub is_in-at : (s : List ℕ) (ts : List (List ℕ)) (i : ℕ) (d : List ℕ) → i < length ts → slug_cmp (get_or ts i d) s ≡ Equal → is_in ts s ≡ true
 is_in-at s [] i d less e = absurd (omega arith)
 is_in-at s (t ∷ ts) zero d less e = ap (λ b. b || is_in ts s) (equal_texts t s e)
-is_in-at s (t ∷ ts) (suc i) d less e = ap (λ b. bytes_eq t s || b) (is_in-at s ts i d (omega arith) e) ∙ or_true (bytes_eq t s)
+is_in-at s (t ∷ ts) (suc i) d less e = ap (λ b. bytes_eq t s || b) (is_in-at s ts i d (omega arith) e) ∙ or-true (bytes_eq t s)
 
 pub is_in-above : (s : List ℕ) (ts : List (List ℕ)) → AreAbove s ts → is_in ts s ≡ false
 is_in-above s [] above = refl
@@ -62,10 +54,6 @@ pub is_in-missed : (s : List ℕ) (ts : List (List ℕ)) (i : ℕ) → Rise ts �
 is_in-missed s ts i rise h = is_in-place s ts i (place_missed s ts i rise h)
 
 -- ---- one more text
-
-insert_first : (s : List ℕ) (ts : List (List ℕ)) → AreAbove s ts → insert_key slug_cmp ts s ≡ s ∷ ts
-insert_first s [] above = refl
-insert_first s (t ∷ ts) above = ap (λ o. match_ordering o (s ∷ t ∷ ts) (t ∷ ts) (t ∷ insert_key slug_cmp ts s)) above.0
 
 pub inserted : (s : List ℕ) (ts : List (List ℕ)) (i : ℕ) → IsPlace s ts i → insert ts i s ≡ insert_key slug_cmp ts s
 inserted s [] zero place = refl

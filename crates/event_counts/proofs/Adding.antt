@@ -5,6 +5,7 @@ use Rattle.std.specs.Cmp.Lexicographic.{bytes_decides}
 use Rattle.std.specs.List.{AllByRecursion, list_any}
 use Rattle.std.specs.Ordering.{match_ordering}
 use Rattle.std.specs.Prelude.{bytes_eq, if◌then◌else◌, ⊤}
+use Rattle.std.proofs.lemmas.Bool.{or_right}
 use Rattle.json_tree.specs.Json.{Json, get, get_member, members_of}
 use Rattle.event_counts.specs.declared.interval.Interval.TheVariants.{Hours, Days, Weeks}
 use Rattle.event_counts.specs.declared.name_counts.NameCounts.{NameCounts}
@@ -15,6 +16,7 @@ use Rattle.event_counts.specs.Lists.{turned}
 use Rattle.event_counts.specs.Sound.{name_cmp}
 use Rattle.event_counts.specs.View.{counts_json, lists_json, member_at, view_of}
 use Rattle.sequences.proofs.Texts.{same_texts, turned_down}
+use Rattle.sequences.proofs.Alls.{all_push}
 use Rattle.event_counts.proofs.Sums.{HasSums, AreBefore, sums_same, sums-turned, sums-raised, sums-beside, sums-zeros}
 
 -- ---- what is kept of events
@@ -138,10 +140,6 @@ or_left : (a b c : Bool) → a || b ≡ true → (b ≡ true → c ≡ true) →
 or_left true b c is rest = refl
 or_left false b c is rest = rest is
 
-or_right : (a b : Bool) → b ≡ true → a || b ≡ true
-or_right true b is = refl
-or_right false b is = is
-
 any-left : (test : Event → Bool) (es : List Event) (e : Event) → list_any test es ≡ true → list_any test (es ++ e ∷ []) ≡ true
 any-left test [] e is = absurd (cc)
 any-left test (o ∷ es) e is = or_left (test o) (list_any test es) (list_any test (es ++ e ∷ [])) is (any-left test es e)
@@ -149,10 +147,6 @@ any-left test (o ∷ es) e is = or_left (test o) (list_any test es) (list_any te
 any-right : (test : Event → Bool) (es : List Event) (e : Event) → test e ≡ true → list_any test (es ++ e ∷ []) ≡ true
 any-right test [] e is = ap (λ b. b || false) is
 any-right test (o ∷ es) e is = or_right (test o) (list_any test (es ++ e ∷ [])) (any-right test es e is)
-
-all-add : (P : Event → Type 0) (es : List Event) (e : Event) → AllByRecursion P es → P e → AllByRecursion P (es ++ e ∷ [])
-all-add P [] e all here = (here, tt)
-all-add P (o ∷ es) e all here = (all.0, all-add P es e all.1 here)
 
 later : (name : List ℕ) (first second : ℕ) (es : List Event) → AreBefore name first es → first ≤ second → AreBefore name second es
 later name first second [] before most = tt
@@ -167,7 +161,7 @@ kept_then : (name : List ℕ) (moment : ℕ) (es : List Event) (e : Event) (o : 
 kept_then name moment es e None named is within none = record {
   same = refl;
   some = any-right (has_name name) es e named;
-  before = all-add (λ o. has_name name o ≡ true → o.moment ≤ moment) es e (none_before name moment es none) (λ h. omega (arith, is));
+  before = all_push (λ o. has_name name o ≡ true → o.moment ≤ moment) es e (none_before name moment es none) (λ h. omega (arith, is));
   hours = sums-raised Hours name moment es e _ named is (sums-zeros Hours name moment es none);
   days = sums-raised Days name moment es e _ named is (sums-zeros Days name moment es none);
   weeks = sums-raised Weeks name moment es e _ named is (sums-zeros Weeks name moment es none);
@@ -177,18 +171,18 @@ kept_then name moment es e (Some n) named is within kept =
     record {
       same = kept.same;
       some = any-right (has_name name) es e named;
-      before = all-add (λ o. has_name name o ≡ true → o.moment ≤ moment) es e (later name n.latest moment es kept.before most) (λ h. omega (arith, is));
+      before = all_push (λ o. has_name name o ≡ true → o.moment ≤ moment) es e (later name n.latest moment es kept.before most) (λ h. omega (arith, is));
       hours = sums-raised Hours name moment es e _ named is (sums-turned Hours name n.latest moment es n.hours kept.before most kept.hours);
       days = sums-raised Days name moment es e _ named is (sums-turned Days name n.latest moment es n.days kept.before most kept.days);
       weeks = sums-raised Weeks name moment es e _ named is (sums-turned Weeks name n.latest moment es n.weeks kept.before most kept.weeks);
     }
 
 beside : (name : List ℕ) (es : List Event) (e : Event) (o : Option NameCounts) → has_name name e ≡ false → Matches name es o → Matches name (es ++ e ∷ []) o
-beside name es e None other none = all-add (λ o. has_name name o ≡ false) es e none other
+beside name es e None other none = all_push (λ o. has_name name o ≡ false) es e none other
 beside name es e (Some n) other kept = record {
   same = kept.same;
   some = any-left (has_name name) es e kept.some;
-  before = all-add (λ o. has_name name o ≡ true → o.moment ≤ n.latest) es e kept.before (λ is. absurd (cc));
+  before = all_push (λ o. has_name name o ≡ true → o.moment ≤ n.latest) es e kept.before (λ is. absurd (cc));
   hours = sums-beside Hours name n.latest es e n.hours other kept.hours;
   days = sums-beside Days name n.latest es e n.days other kept.days;
   weeks = sums-beside Weeks name n.latest es e n.weeks other kept.weeks;

@@ -127,8 +127,3 @@ all-with P n (o ∷ os) here all =
       | Equal ↦ (here, all.1)
       | Greater ↦ (all.0, all-with P n os here all.1)
     ]
-
-pub all-found : (P : NameCounts → Type 0) (ns : List NameCounts) (i : ℕ) (d : NameCounts) → i < length ns → AllByRecursion P ns → P (get_or ns i d)
-all-found P [] i d less all = absurd (omega arith)
-all-found P (n ∷ ns) zero d less all = all.0
-all-found P (n ∷ ns) (suc i) d less all = all-found P ns i d (omega arith) all.1

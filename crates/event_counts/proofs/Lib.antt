@@ -9,6 +9,5 @@ pub mod SameRows
 pub mod Values
 pub mod RowsRead
 pub mod RowSizes
-pub mod NameTexts
 pub mod Sums
 pub mod Adding

@@ -1,23 +1,13 @@
 -- How many bytes the rows of counts take.
-use Rattle.std.proofs.Common.{◌≡◌, ◌+◌, ◌<◌, ◌≤◌, ◌++◌, ◌∷◌, [], List, ℕ, zero, suc, length, length-append, get_or, take, Bool, true, false, IsTrue, refl, ap, ◌∙◌, sym, subst, arith}
-use Rattle.std.specs.Prelude.{◌&&◌, nat_le, nat_lt}
-use Rattle.std.proofs.lemmas.Bool.{leb-true}
+use Rattle.std.proofs.Common.{◌≡◌, ◌+◌, ◌<◌, ◌++◌, ◌∷◌, [], List, ℕ, zero, suc, length, length-append, get_or, take, ap, ◌∙◌, sym, subst, arith}
 use Rattle.std.proofs.lemmas.List.{map-append, take_more}
 use Rattle.std.specs.List.{AllByRecursion}
-use Rattle.plain_text.specs.Names.{is_name}
 use Rattle.row_batches.proofs.Sizes.{put_size, puts_text-append}
 use Rattle.row_batches.specs.Batch.{puts_text}
 use Rattle.event_counts.specs.declared.name_counts.NameCounts.{NameCounts}
 use Rattle.event_counts.specs.Rows.{row_of, rows_of}
 use Rattle.event_counts.specs.Sound.{IsSoundName}
 use Rattle.event_counts.proofs.SameRows.{length-value}
-
-both : (a b : Bool) → (a && b) ≡ true → (a ≡ true) × (b ≡ true)
-both true b is = (refl, is)
-both false b is = absurd cc
-
-pub name_short : (name : List ℕ) → IsTrue (is_name name) → length name ≤ 80
-name_short name is = leb-true (length name) 80 (both _ _ (both (nat_lt 0 (length name) && nat_le (length name) 80) _ is).0).1
 
 pub sound_at : (ns : List NameCounts) (i : ℕ) (n : NameCounts) → AllByRecursion IsSoundName ns → i < length ns → n ≡ get_or ns i n → IsSoundName n
 sound_at [] i n sound within is = absurd (omega (arith, within))

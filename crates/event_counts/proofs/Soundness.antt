@@ -4,6 +4,7 @@ use Rattle.std.proofs.lemmas.List.{length-replicate}
 use Rattle.std.specs.Prelude.{slice_set, replicate}
 use Rattle.std.specs.List.{AllByRecursion, insert}
 use Rattle.std.specs.List.Sorted.{IsStrictlySortedBy}
+use Rattle.sequences.proofs.Alls.{all_at, all_append}
 use Rattle.plain_text.specs.Names.{is_name}
 use Rattle.event_counts.specs.declared.interval.Interval.{Interval}
 use Rattle.event_counts.specs.declared.interval.Interval.TheVariants.{Hours, Days, Weeks}
@@ -13,7 +14,7 @@ use Rattle.event_counts.specs.Kept.{moment_at, at_moment, no_counts, with_more, 
 use Rattle.event_counts.specs.Lists.{turned, raised}
 use Rattle.event_counts.specs.Sound.{AreCounts, AreInOrder, IsSoundName, IsSound}
 use Rattle.event_counts.specs.Places.{HasNameAt, BelongsAt}
-use Rattle.event_counts.proofs.Found.{put_there, put_new, order-with, all-with, all-found}
+use Rattle.event_counts.proofs.Found.{put_there, put_new, order-with, all-with}
 use Rattle.event_counts.proofs.Turning.{length_of_turned}
 
 abbrev Fits : ℕ → Type 0
@@ -25,10 +26,6 @@ zeros_fit : (n : ℕ) → AllByRecursion Fits (replicate n 0)
 zeros_fit zero = tt
 zeros_fit (suc n) = (omega arith, zeros_fit n)
 
-fit-append : (xs ys : List ℕ) → AllByRecursion Fits xs → AllByRecursion Fits ys → AllByRecursion Fits (xs ++ ys)
-fit-append [] ys fit more = more
-fit-append (x ∷ xs) ys fit more = (fit.0, fit-append xs ys fit.1 more)
-
 fit-take : (n : ℕ) (xs : List ℕ) → AllByRecursion Fits xs → AllByRecursion Fits (take n xs)
 fit-take zero xs fit = tt
 fit-take (suc n) [] fit = tt
@@ -38,7 +35,7 @@ counts-turned : (i : Interval) (steps : ℕ) (xs : List ℕ) → AreCounts i xs 
 unfolding turned
 counts-turned i steps xs counts = record {
   full = length_of_turned steps xs ∙ counts.full;
-  room = fit-take (length xs) (replicate steps 0 ++ xs) (fit-append (replicate steps 0) xs (zeros_fit steps) counts.room);
+  room = fit-take (length xs) (replicate steps 0 ++ xs) (all_append Fits (replicate steps 0) xs (zeros_fit steps) counts.room);
 }
 
 pub length-raised : (count : ℕ) (xs : List ℕ) → length (raised count xs) ≡ length xs
@@ -121,7 +118,7 @@ pub sound_there : (name : List ℕ) (count moment : ℕ) (ns made : List NameCou
 sound_there name count moment ns made i d sound at most is =
     let n : NameCounts = get_or ns i d in
     let r : NameCounts = with_more count (at_moment moment n) in
-    let here : IsSoundName r = sound-with_more count (at_moment moment n) (sound-at_moment moment n (all-found IsSoundName ns i d at.within sound.names) most) in
+    let here : IsSoundName r = sound-with_more count (at_moment moment n) (sound-at_moment moment n (all_at IsSoundName ns i d at.within sound.names) most) in
     let len : length made ≡ length ns = ap (λ (l : List NameCounts). length l) is ∙ length-slice_set ns i r in
     sound_with r ns made sound here (omega (arith, len, sound.most)) (is ∙ put_there name count moment ns i d sound.order at)
 

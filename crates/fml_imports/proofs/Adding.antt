@@ -5,6 +5,8 @@ use Rattle.std.specs.Cmp.Lexicographic.{slice_cmp}
 use Rattle.std.specs.Ordering.{nat_cmp, is_eq, is_lt}
 use Rattle.std.proofs.lemmas.List.{take-append-drop}
 use Rattle.std.proofs.lemmas.Map.Text.{is_eq-slice_cmp}
+use Rattle.std.proofs.lemmas.Bool.{or_parts}
+use Rattle.sequences.proofs.Texts.{is_Less, turned_down}
 use Rattle.fml_types.specs.Named.{IsAbove, IsBelow, AreRising, has_name, with_name}
 use Rattle.fml_types.proofs.Places.{below_at}
 use Rattle.fml_imports.specs.Merging.{with_new, count_below, is_first, IsFirstAbove}
@@ -12,7 +14,7 @@ use Rattle.fml_imports.specs.Outcome.{◌>>=◌, each, Fails}
 use Rattle.fml_imports.specs.declared.fault.JoinFault.{JoinFault}
 use Rattle.fml_imports.specs.declared.fault.JoinRefusal.{JoinRefusal}
 use Rattle.fml_imports.specs.declared.fault.JoinRefusal.TheVariants.{DuplicateName}
-use Rattle.fml_imports.proofs.Rising.{less_trans, turned_down, below_lower, above_upper, above_join, rising_right, absent_below, named_past, with_between, rises_with}
+use Rattle.fml_imports.proofs.Rising.{less_trans, below_lower, above_upper, above_join, rising_right, absent_below, named_past, with_between, rises_with}
 use Rattle.fml_imports.proofs.Steps.{each_turn, each_fails}
 
 -- ---- how many names are below one
@@ -27,17 +29,12 @@ past_below a (p ∷ ps) (suc i) d above =
       | false ↦ omega arith
     ]
 
-is_less : (o : Ordering) → is_lt o ≡ true → o ≡ Less
-is_less Less h = refl
-is_less Equal h = absurd cc
-is_less Greater h = absurd cc
-
 -- a place where a name is below it is before that many
 pub before_below : {T : Type 0} (a : List ℕ) (ps : List (List ℕ × T)) (i : ℕ) (d : List ℕ × T) → AreRising ps → i < length ps → is_lt (slice_cmp nat_cmp (get_or ps i d).0 a) ≡ true → i < count_below a ps
 before_below a [] i d rising h less = absurd (omega arith)
 before_below a (p ∷ ps) zero d rising h less = subst (λ (b : Bool). 0 < (if b then suc (count_below a ps) else 0)) (sym less) (omega arith)
 before_below a (p ∷ ps) (suc i) d rising h less =
-    let under : slice_cmp nat_cmp p.0 a ≡ Less = less_trans p.0 (get_or ps i d).0 a (below_at p.0 ps i d (omega arith) rising.0) (is_less (slice_cmp nat_cmp (get_or ps i d).0 a) less) in
+    let under : slice_cmp nat_cmp p.0 a ≡ Less = less_trans p.0 (get_or ps i d).0 a (below_at p.0 ps i d (omega arith) rising.0) (is_Less (slice_cmp nat_cmp (get_or ps i d).0 a) less) in
     let later : i < count_below a ps = before_below a ps i d rising.1 (omega arith) less in
     subst (λ (o : Ordering). suc i < (if is_lt o then suc (count_below a ps) else 0)) (sym under) (omega (arith, later))
 
@@ -89,10 +86,6 @@ either a b h c same = ap (λ d. d || b) same ∙ h
 neither : (a b : Bool) → (a || b) ≡ false → (c : Bool) → c ≡ a → (c || b) ≡ false
 neither a b h c same = ap (λ d. d || b) same ∙ h
 
-first_false : (a b : Bool) → (a || b) ≡ false → a ≡ false
-first_false true b h = absurd cc
-first_false false b h = refl
-
 module _ {T U : Type 0} (others : List (List ℕ × U)) (done left : List (List ℕ × T)) (p : List ℕ × T) (rising : AreRising (done ++ left)) (above : IsAbove p.0 done) where
   abbrev lower_left : List (List ℕ × T)
   lower_left = take (count_below p.0 left) left
@@ -116,7 +109,7 @@ module _ {T U : Type 0} (others : List (List ℕ × U)) (done left : List (List 
   module _ (new : (is_first p.0 upper_left || has_name p.0 others) ≡ false) where
     placed : with_name p (done ++ left) ≡ ((done ++ lower_left) ++ p ∷ []) ++ upper_left
     placed =
-        ap (with_name p) joins ∙ with_between p (done ++ lower_left) upper_left above_done ((is_split p.0 left (rising_right done left rising)).1 (first_false (is_first p.0 upper_left) (has_name p.0 others) new))
+        ap (with_name p) joins ∙ with_between p (done ++ lower_left) upper_left above_done ((is_split p.0 left (rising_right done left rising)).1 (or_parts (is_first p.0 upper_left) (has_name p.0 others) new).0)
         ∙ sym (append_assoc (done ++ lower_left) (p ∷ []) upper_left)
 
     -- a new name
@@ -126,7 +119,7 @@ module _ {T U : Type 0} (others : List (List ℕ × U)) (done left : List (List 
         ∙ ap (λ l. Ok l) placed
 
     pub put_rises : AreRising (((done ++ lower_left) ++ p ∷ []) ++ upper_left)
-    put_rises = subst AreRising placed (rises_with p (done ++ left) (named ∙ first_false (is_first p.0 upper_left) (has_name p.0 others) new) rising)
+    put_rises = subst AreRising placed (rises_with p (done ++ left) (named ∙ (or_parts (is_first p.0 upper_left) (has_name p.0 others) new).0) rising)
 
     -- what is above the name is above all before it
     pub put_below : (next : List ℕ) → slice_cmp nat_cmp p.0 next ≡ Less → IsAbove next ((done ++ lower_left) ++ p ∷ [])
@@ -196,10 +189,10 @@ rest_rises ps qs p is rising = (subst AreRising is rising).1
 -- a name above the last is above all
 above_at : {T : Type 0} (a : List ℕ) (ps : List (List ℕ × T)) (i : ℕ) (d : List ℕ × T) → AreRising ps → length ps ≤ suc i → i < length ps → is_lt (slice_cmp nat_cmp (get_or ps i d).0 a) ≡ true → IsAbove a ps
 above_at a [] i d rising most within less = tt
-above_at a (p ∷ []) zero d rising most within less = (is_less (slice_cmp nat_cmp p.0 a) less, tt)
+above_at a (p ∷ []) zero d rising most within less = (is_Less (slice_cmp nat_cmp p.0 a) less, tt)
 above_at a (p ∷ q ∷ ps) zero d rising most within less = absurd (omega (arith, most))
 above_at a (p ∷ ps) (suc i) d rising most within less = (
-  less_trans p.0 (get_or ps i d).0 a (below_at p.0 ps i d (omega (arith, within)) rising.0) (is_less (slice_cmp nat_cmp (get_or ps i d).0 a) less),
+  less_trans p.0 (get_or ps i d).0 a (below_at p.0 ps i d (omega (arith, within)) rising.0) (is_Less (slice_cmp nat_cmp (get_or ps i d).0 a) less),
   above_at a ps i d rising.1 (omega (arith, most)) (omega (arith, within)) less,
 )
 

@@ -1,6 +1,7 @@
 -- Names that are added to one table are added to all tables.
 use Rattle.std.proofs.Common.{◌≡◌, ℕ, Bool, true, false, List, [], ◌∷◌, Result, Ok, Err, refl, sym, ap, ◌∙◌, subst}
 use Rattle.std.specs.Prelude.{◌||◌, if◌then◌else◌}
+use Rattle.std.proofs.Math.Bool.{or_comm, or-false}
 use Rattle.fml_types.specs.Named.{has_name, with_name}
 use Rattle.fml_types.specs.declared.manifest.EnumDefinition.{EnumDefinition}
 use Rattle.fml_types.specs.declared.manifest.FeatureDefinition.{FeatureDefinition}
@@ -12,16 +13,6 @@ use Rattle.fml_imports.specs.declared.fault.JoinFault.{JoinFault}
 use Rattle.fml_imports.specs.declared.fault.JoinFault.TheVariants as faults
 use Rattle.fml_imports.specs.declared.fault.JoinRefusal.{JoinRefusal}
 use Rattle.fml_imports.specs.declared.fault.JoinRefusal.TheVariants.{DuplicateName}
-
-or_turned : (a b : Bool) → (a || b) ≡ (b || a)
-or_turned true true = refl
-or_turned true false = refl
-or_turned false true = refl
-or_turned false false = refl
-
-or_false : (a : Bool) → a ≡ (a || false)
-or_false true = refl
-or_false false = refl
 
 -- one name, and then the others
 module _ {T : Type 0} (tables : List (List ℕ × T) → Tables) (add : Tables → List ℕ × T → Result Tables JoinRefusal) (put : List (List ℕ × T) → List ℕ × T → Result (List (List ℕ × T)) JoinRefusal) where
@@ -41,13 +32,13 @@ enums_added t (e ∷ es) there =
 objects_added : (t : Tables) (os : List (List ℕ × ObjectDefinition)) (there : List (List ℕ × ObjectDefinition)) → each with_object (record t { objects = there }) os ≡ (each (with_new t.enums) there os >>= λ l. Ok (record t { objects = l }))
 objects_added t [] there = refl
 objects_added t (o ∷ os) there =
-    ap (λ (b : Bool). (if b then Err (DuplicateName o.0) else Ok (record t { objects = with_name o there })) >>= λ u. each with_object u os) (or_turned (has_name o.0 t.enums) (has_name o.0 there))
+    ap (λ (b : Bool). (if b then Err (DuplicateName o.0) else Ok (record t { objects = with_name o there })) >>= λ u. each with_object u os) (or_comm (has_name o.0 t.enums) (has_name o.0 there))
     ∙ one_added (λ l. record t { objects = l }) with_object (with_new t.enums) (has_name o.0 there || has_name o.0 t.enums) (DuplicateName o.0) (with_name o there) os (objects_added t os (with_name o there))
 
 features_added : (t : Tables) (fs : List (List ℕ × FeatureDefinition)) (there none : List (List ℕ × FeatureDefinition)) → none ≡ [] → each with_feature (record t { features = there }) fs ≡ (each (with_new none) there fs >>= λ l. Ok (record t { features = l }))
 features_added t [] there none is = refl
 features_added t (f ∷ fs) there none is =
-    ap (λ (b : Bool). (if b then Err (DuplicateName f.0) else Ok (record t { features = with_name f there })) >>= λ u. each with_feature u fs) (or_false (has_name f.0 there) ∙ ap (λ l. has_name f.0 there || has_name f.0 l) (sym is))
+    ap (λ (b : Bool). (if b then Err (DuplicateName f.0) else Ok (record t { features = with_name f there })) >>= λ u. each with_feature u fs) (sym (or-false (has_name f.0 there)) ∙ ap (λ l. has_name f.0 there || has_name f.0 l) (sym is))
     ∙ one_added (λ l. record t { features = l }) with_feature (with_new none) (has_name f.0 there || has_name f.0 none) (DuplicateName f.0) (with_name f there) fs (features_added t fs (with_name f there) none is)
 
 -- ---- what is left in one table is left in all

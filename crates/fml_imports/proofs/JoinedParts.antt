@@ -1,6 +1,7 @@
 -- What each part of the files has, each part of the manifest has that they are joined into.
 use Rattle.std.proofs.Common.{◌≡◌, ℕ, true, false, List, [], ◌∷◌, ◌++◌, map, None, Ok, subst}
 use Rattle.std.specs.Prelude.{◌||◌, All, bytes_eq, if◌then◌else◌}
+use Rattle.std.proofs.lemmas.Bool.{or_parts}
 use Rattle.fml_types.specs.Named.{AreRising, has_name, with_name}
 use Rattle.fml_types.specs.declared.manifest.DefaultEntry.{DefaultEntry}
 use Rattle.fml_types.specs.declared.manifest.EnumDefinition.{EnumDefinition}
@@ -19,7 +20,6 @@ use Rattle.fml_imports.specs.Tables.{Tables, no_tables, with_enum, with_object, 
 use Rattle.fml_imports.specs.declared.fault.JoinRefusal.TheVariants as refusals
 use Rattle.fml_imports.specs.declared.joining.Linked.{Linked}
 use Rattle.fml_imports.proofs.Alls.{all_nil, all_cons, all_head, all_tail, all_append, all_mapped, all_flat}
-use Rattle.fml_imports.proofs.Names.{left_false, right_false}
 use Rattle.fml_imports.proofs.Rising.{rises_with}
 use Rattle.fml_imports.proofs.SoundManifests.{bind_ok, each_keeps, all_with, added, checked_ok}
 
@@ -110,7 +110,7 @@ module _ (a : Asked) (without_channels : (e : DefaultEntry) → a.Entry e → a.
       let new = added (has_name e.0 t.enums || has_name e.0 t.objects) (refusals.DuplicateName e.0) (record t { enums = with_name e t.enums }) u h in
       subst (TablesHave a) new.1 (record {
         enums = all_with a.Enum e t.enums one have.enums;
-        enums_rise = rises_with e t.enums (left_false (has_name e.0 t.enums) (has_name e.0 t.objects) new.0) have.enums_rise;
+        enums_rise = rises_with e t.enums (or_parts (has_name e.0 t.enums) (has_name e.0 t.objects) new.0).0 have.enums_rise;
         objects = have.objects;
         objects_rise = have.objects_rise;
         features = have.features;
@@ -123,7 +123,7 @@ module _ (a : Asked) (without_channels : (e : DefaultEntry) → a.Entry e → a.
         enums = have.enums;
         enums_rise = have.enums_rise;
         objects = all_with a.Object o t.objects one have.objects;
-        objects_rise = rises_with o t.objects (right_false (has_name o.0 t.enums) (has_name o.0 t.objects) new.0) have.objects_rise;
+        objects_rise = rises_with o t.objects (or_parts (has_name o.0 t.enums) (has_name o.0 t.objects) new.0).1 have.objects_rise;
         features = have.features;
       })
 

@@ -1,10 +1,11 @@
 -- A file that says what a manifest has gives the manifest, where it stands alone.
-use Rattle.std.proofs.Common.{Ordering, ◌≡◌, ℕ, get_or, Bool, true, false, List, [], ◌∷◌, ◌++◌, map, Option as Maybe, None, Result, Ok, Err, Less, Greater, refl, sym, ap, ◌∙◌, subst, append_assoc, append-nil}
+use Rattle.std.proofs.Common.{Ordering, ◌≡◌, ℕ, get_or, Bool, true, false, List, [], ◌∷◌, ◌++◌, map, Option as Maybe, None, Result, Ok, Err, Less, refl, sym, ap, ◌∙◌, subst, append_assoc, append-nil}
 use Rattle.std.specs.Prelude.{◌||◌, All, ⊤, bytes_eq, if◌then◌else◌}
 use Rattle.std.specs.Option.{option_or}
-use Rattle.std.specs.Cmp.Lexicographic.{slice_cmp, bytes_decides}
-use Rattle.std.specs.Ordering.{nat_cmp, ordering_reverse, is_eq, is_lt}
-use Rattle.std.proofs.lemmas.Cmp.{nat_list_cmp_total}
+use Rattle.std.specs.Cmp.Lexicographic.{slice_cmp}
+use Rattle.std.specs.Ordering.{nat_cmp, is_eq, is_lt}
+use Rattle.std.proofs.lemmas.Bool.{or_parts, or_from}
+use Rattle.sequences.proofs.Texts.{is_eq-turned, bytes_same, turned_up}
 use Rattle.fml_types.specs.Ground.{grounding}
 use Rattle.fml_types.specs.Named.{IsAbove, IsBelow, AreRising, has_name, with_name}
 use Rattle.fml_types.specs.Shapes.{shape_of}
@@ -27,7 +28,7 @@ use Rattle.fml_imports.specs.declared.fault.JoinRefusal.{JoinRefusal}
 use Rattle.fml_imports.specs.declared.fault.JoinRefusal.TheVariants.{DuplicateName}
 use Rattle.fml_imports.specs.declared.joining.Linked.{Linked}
 use Rattle.fml_imports.proofs.Alls.{all_nil, all_cons, all_head, all_tail, all_map}
-use Rattle.fml_imports.proofs.Names.{sides, turned, left_false, right_false}
+use Rattle.fml_imports.proofs.Names.{turned}
 use Rattle.fml_imports.proofs.ReadsAgain.{alone}
 
 abbrev done : {A : Type 0} → A → Result A JoinRefusal
@@ -36,23 +37,17 @@ done x = Ok x
 bind_known : {A B : Type 0} (r : Result A JoinRefusal) (a : A) (f : A → Result B JoinRefusal) → r ≡ done a → (r >>= f) ≡ f a
 bind_known {A = A} r a f h = ap (λ (x : Result A JoinRefusal). x >>= f) h
 
-same_itself : (name : List ℕ) → bytes_eq name name ≡ true
-same_itself name = (bytes_decides name name).1 refl
-
 -- ---- names that rise are added at the end
-
-greater : (a b : List ℕ) → slice_cmp nat_cmp b a ≡ Less → slice_cmp nat_cmp a b ≡ Greater
-greater a b h = nat_list_cmp_total.antisymm a b ∙ ap ordering_reverse h
 
 at_end : {T : Type 0} (p : List ℕ × T) (ps : List (List ℕ × T)) → IsAbove p.0 ps → with_name p ps ≡ ps ++ p ∷ []
 at_end p [] above = refl
 at_end p (q ∷ qs) above =
-    ap (λ (o : Ordering). if is_lt o then p ∷ q ∷ qs else q ∷ with_name p qs) (greater p.0 q.0 above.0) ∙ ap (λ l. q ∷ l) (at_end p qs above.1)
+    ap (λ (o : Ordering). if is_lt o then p ∷ q ∷ qs else q ∷ with_name p qs) (turned_up q.0 p.0 above.0) ∙ ap (λ l. q ∷ l) (at_end p qs above.1)
 
 is_new : {T : Type 0} (name : List ℕ) (ps : List (List ℕ × T)) → IsAbove name ps → has_name name ps ≡ false
 is_new name [] above = refl
 is_new name (q ∷ qs) above =
-    let apart : bytes_eq q.0 name ≡ false = sym (sides name q.0) ∙ ap is_eq (greater name q.0 above.0) in
+    let apart : bytes_eq q.0 name ≡ false = sym (is_eq-turned name q.0) ∙ ap is_eq (turned_up q.0 name above.0) in
     ap (λ b. b || has_name name qs) apart ∙ is_new name qs above.1
 
 below_here : {T : Type 0} (name : List ℕ) (ps : List (List ℕ × T)) (p : List ℕ × T) (rest : List (List ℕ × T)) → IsBelow name (ps ++ p ∷ rest) → slice_cmp nat_cmp name p.0 ≡ Less
@@ -75,19 +70,15 @@ each_added P add with step ps (p ∷ rest) all rising =
     ∙ each_added P add with step (ps ++ p ∷ []) rest (all_tail P p rest all) (subst AreRising (sym joins) rising)
     ∙ ap (λ l. done (with l)) joins
 
-either_false : (a b : Bool) → a ≡ false → b ≡ false → (a || b) ≡ false
-either_false true b first second = absurd cc
-either_false false b first second = second
-
 not_taken : {A : Type 0} (b : Bool) (e : JoinRefusal) (t : A) → b ≡ false → (if b then Err e else done t) ≡ done t
 not_taken b e t h = ap (λ (c : Bool). if c then Err e else done t) h
 
 enum_added : (es : List (List ℕ × EnumDefinition)) (e : List ℕ × EnumDefinition) → has_name e.0 es ≡ false → with_enum (record { enums = es; objects = []; features = [] }) e ≡ done (record { enums = with_name e es; objects = []; features = [] })
-enum_added es e new = not_taken (has_name e.0 es || false) (DuplicateName e.0) (record { enums = with_name e es; objects = []; features = [] }) (either_false (has_name e.0 es) false new refl)
+enum_added es e new = not_taken (has_name e.0 es || false) (DuplicateName e.0) (record { enums = with_name e es; objects = []; features = [] }) (or_from (has_name e.0 es) false new refl)
 
 object_added : (es : List (List ℕ × EnumDefinition)) (os : List (List ℕ × ObjectDefinition)) (o : List ℕ × ObjectDefinition) → has_name o.0 es ≡ false → has_name o.0 os ≡ false
     → with_object (record { enums = es; objects = os; features = [] }) o ≡ done (record { enums = es; objects = with_name o os; features = [] })
-object_added es os o apart new = not_taken (has_name o.0 es || has_name o.0 os) (DuplicateName o.0) (record { enums = es; objects = with_name o os; features = [] }) (either_false (has_name o.0 es) (has_name o.0 os) apart new)
+object_added es os o apart new = not_taken (has_name o.0 es || has_name o.0 os) (DuplicateName o.0) (record { enums = es; objects = with_name o os; features = [] }) (or_from (has_name o.0 es) (has_name o.0 os) apart new)
 
 feature_added : (es : List (List ℕ × EnumDefinition)) (os : List (List ℕ × ObjectDefinition)) (fs : List (List ℕ × FeatureDefinition)) (f : List ℕ × FeatureDefinition) → has_name f.0 fs ≡ false
     → with_feature (record { enums = es; objects = os; features = fs }) f ≡ done (record { enums = es; objects = os; features = with_name f fs })
@@ -99,14 +90,14 @@ apart_from : (o : List ℕ × ObjectDefinition) (os : List (List ℕ × ObjectDe
 apart_from o os [] apart = refl
 apart_from o os (e ∷ es) apart =
     let here = all_head (λ (x : List ℕ × EnumDefinition). has_name x.0 (o ∷ os) ≡ false) e es apart in
-    either_false (bytes_eq e.0 o.0) (has_name o.0 es) (turned e.0 o.0 ∙ left_false (bytes_eq o.0 e.0) (has_name e.0 os) here)
+    or_from (bytes_eq e.0 o.0) (has_name o.0 es) (turned e.0 o.0 ∙ (or_parts (bytes_eq o.0 e.0) (has_name e.0 os) here).0)
     (apart_from o os es (all_tail (λ (x : List ℕ × EnumDefinition). has_name x.0 (o ∷ os) ≡ false) e es apart))
 
 all_apart : (es : List (List ℕ × EnumDefinition)) (os : List (List ℕ × ObjectDefinition)) → All (λ (e : List ℕ × EnumDefinition). has_name e.0 os ≡ false) es → All (λ (o : List ℕ × ObjectDefinition). has_name o.0 es ≡ false) os
 all_apart es [] apart = all_nil (λ (o : List ℕ × ObjectDefinition). has_name o.0 es ≡ false)
 all_apart es (o ∷ os) apart =
     all_cons (λ (x : List ℕ × ObjectDefinition). has_name x.0 es ≡ false) o os (apart_from o os es apart)
-    (all_apart es os (all_map (λ (e : List ℕ × EnumDefinition). has_name e.0 (o ∷ os) ≡ false) (λ (e : List ℕ × EnumDefinition). has_name e.0 os ≡ false) es (λ e h. right_false (bytes_eq o.0 e.0) (has_name e.0 os) h) apart))
+    (all_apart es os (all_map (λ (e : List ℕ × EnumDefinition). has_name e.0 (o ∷ os) ≡ false) (λ (e : List ℕ × EnumDefinition). has_name e.0 os ≡ false) es (λ e h. (or_parts (bytes_eq o.0 e.0) (has_name e.0 os) h).1) apart))
 
 -- ---- the tables
 
@@ -130,7 +121,7 @@ map_same f same [] = refl
 map_same f same (x ∷ xs) = λ i. same x i ∷ map_same f same xs i
 
 feature_stays : (channel : List ℕ) (f : List ℕ × FeatureDefinition) → feature_for channel channel f ≡ f
-feature_stays channel f = ap (λ (c : Bool). (f.0, record f.1 { defaults = if c then f.1.defaults else kept_entries channel f.1.defaults })) (same_itself channel)
+feature_stays channel f = ap (λ (c : Bool). (f.0, record f.1 { defaults = if c then f.1.defaults else kept_entries channel f.1.defaults })) (bytes_same channel)
 
 nothing_over : (f : List ℕ × FeatureDefinition) → overridden [] f ≡ f
 nothing_over f = ap (λ (es : List DefaultEntry). (f.0, record f.1 { defaults = es })) (append-nil f.1.defaults)
@@ -174,6 +165,6 @@ joined_alone m formed name =
     let t : Tables = record { enums = m.types.enums; objects = m.types.objects; features = m.features } in
     bind_known (tables_of (module_for m.channel file ∷ [])) t (λ u. made_of u [] (file ∷ []) m.channel)
     (bind_known (with_module no_tables (module_for m.channel file)) t (λ u. done u) (ap (with_module no_tables) (module_stays m name) ∙ tables_alone m formed))
-    ∙ ap (λ (b : Bool). checked (manifest_with t [] m.channel) (b || false) None None) (same_itself m.channel)
+    ∙ ap (λ (b : Bool). checked (manifest_with t [] m.channel) (b || false) None None) (bytes_same m.channel)
     ∙ ap (λ (n : Manifest). checked n true None None) (same_manifest m)
     ∙ sound_checked m formed.sound

@@ -1,31 +1,12 @@
 -- How names compare, and where one stands.
-use Rattle.std.proofs.Common.{◌≡◌, ℕ, Bool, true, false, List, [], ◌∷◌, Less, Equal, Greater, Option, Some, None, refl, sym, ap, ◌∙◌}
+use Rattle.std.proofs.Common.{◌≡◌, ℕ, Bool, true, false, List, [], ◌∷◌, Option, Some, None, refl, sym, ◌∙◌}
 use Rattle.std.specs.Prelude.{◌||◌, bytes_eq, is_some, option_map, suc, if◌then◌else◌}
-use Rattle.std.specs.Ordering.{nat_cmp, ordering_reverse, is_eq}
-use Rattle.std.specs.declared.cmp.Ordering.{Ordering}
-use Rattle.std.specs.Cmp.Lexicographic.{slice_cmp}
-use Rattle.std.proofs.lemmas.Cmp.{nat_list_cmp_total}
 use Rattle.std.proofs.lemmas.Map.Text.{is_eq-slice_cmp}
+use Rattle.sequences.proofs.Texts.{is_eq-turned}
 use Rattle.fml_types.specs.Named.{has_name, place}
 
-eq_reverse : (o : Ordering) → is_eq (ordering_reverse o) ≡ is_eq o
-eq_reverse Less = refl
-eq_reverse Equal = refl
-eq_reverse Greater = refl
-
-pub sides : (a b : List ℕ) → is_eq (slice_cmp nat_cmp a b) ≡ bytes_eq b a
-sides a b = sym (eq_reverse (slice_cmp nat_cmp a b)) ∙ sym (ap is_eq (nat_list_cmp_total.antisymm b a)) ∙ is_eq-slice_cmp b a
-
 pub turned : (a b : List ℕ) → bytes_eq a b ≡ bytes_eq b a
-turned a b = sym (is_eq-slice_cmp a b) ∙ sides a b
-
-pub left_false : (a b : Bool) → (a || b) ≡ false → a ≡ false
-left_false true b h = absurd cc
-left_false false b h = refl
-
-pub right_false : (a b : Bool) → (a || b) ≡ false → b ≡ false
-right_false true b h = absurd cc
-right_false false b h = h
+turned a b = sym (is_eq-slice_cmp a b) ∙ is_eq-turned a b
 
 -- ---- where a name stands
 

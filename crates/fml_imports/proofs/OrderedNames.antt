@@ -3,8 +3,9 @@ use Rattle.std.proofs.Common.{Ordering, ◌≡◌, ℕ, List, [], ◌∷◌, ◌
 use Rattle.std.specs.Prelude.{⊤}
 use Rattle.std.specs.BTreeSet.{insert_key}
 use Rattle.std.specs.Cmp.Lexicographic.{slice_cmp}
-use Rattle.std.specs.Ordering.{nat_cmp, ordering_reverse, match_ordering}
+use Rattle.std.specs.Ordering.{nat_cmp, match_ordering}
 use Rattle.std.proofs.lemmas.Cmp.{nat_list_cmp_total}
+use Rattle.sequences.proofs.Texts.{turned_down, turned_up}
 use Rattle.fml_reader.specs.Features.{in_order}
 
 -- the name is below each of these
@@ -23,12 +24,6 @@ Rise (n ∷ ns) = IsUnder n ns × Rise ns
 abbrev with : List (List ℕ) → List ℕ → List (List ℕ)
 with ns name = insert_key (slice_cmp nat_cmp) ns name
 
-turned : (a b : List ℕ) → slice_cmp nat_cmp a b ≡ Greater → slice_cmp nat_cmp b a ≡ Less
-turned a b h = nat_list_cmp_total.antisymm b a ∙ ap ordering_reverse h
-
-greater : (a b : List ℕ) → slice_cmp nat_cmp b a ≡ Less → slice_cmp nat_cmp a b ≡ Greater
-greater a b h = nat_list_cmp_total.antisymm a b ∙ ap ordering_reverse h
-
 lower : (a b : List ℕ) (ns : List (List ℕ)) → slice_cmp nat_cmp a b ≡ Less → IsUnder b ns → IsUnder a ns
 lower a b [] less under = tt
 lower a b (n ∷ ns) less under = (nat_list_cmp_total.trans a b n less under.0, lower a b ns less under.1)
@@ -45,7 +40,7 @@ under_with a name (n ∷ ns) less under =
 rise-with : (name n : List ℕ) (ns : List (List ℕ)) (o : Ordering) → slice_cmp nat_cmp name n ≡ o → Rise (n ∷ ns) → Rise (with ns name) → Rise (match_ordering o (name ∷ n ∷ ns) (n ∷ ns) (n ∷ with ns name))
 rise-with name n ns Less e rise rest = ((e, lower name n ns e rise.0), rise)
 rise-with name n ns Equal e rise rest = rise
-rise-with name n ns Greater e rise rest = (under_with n name ns (turned name n e) rise.0, rest)
+rise-with name n ns Greater e rise rest = (under_with n name ns (turned_down name n e) rise.0, rest)
 
 rise_with : (name : List ℕ) (ns : List (List ℕ)) → Rise ns → Rise (with ns name)
 rise_with name [] rise = (tt, tt)
@@ -57,7 +52,7 @@ order_rises (n ∷ ns) held rise = order_rises ns (with held n) (rise_with n hel
 
 at_last : (name : List ℕ) (ns : List (List ℕ)) → IsOver name ns → with ns name ≡ ns ++ name ∷ []
 at_last name [] over = refl
-at_last name (n ∷ ns) over = ap (λ (o : Ordering). match_ordering o (name ∷ n ∷ ns) (n ∷ ns) (n ∷ with ns name)) (greater name n over.0) ∙ ap (λ l. n ∷ l) (at_last name ns over.1)
+at_last name (n ∷ ns) over = ap (λ (o : Ordering). match_ordering o (name ∷ n ∷ ns) (n ∷ ns) (n ∷ with ns name)) (turned_up n name over.0) ∙ ap (λ l. n ∷ l) (at_last name ns over.1)
 
 under_here : (a : List ℕ) (ns : List (List ℕ)) (name : List ℕ) (rest : List (List ℕ)) → IsUnder a (ns ++ name ∷ rest) → slice_cmp nat_cmp a name ≡ Less
 under_here a [] name rest under = under.0

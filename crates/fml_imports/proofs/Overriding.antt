@@ -3,13 +3,14 @@ use Rattle.std.proofs.Common.{◌≡◌, ℕ, zero, suc, Bool, true, false, List
 use Rattle.std.specs.Prelude.{bytes_eq, is_some, option_map, if◌then◌else◌}
 use Rattle.std.specs.Cmp.Lexicographic.{bytes_decides}
 use Rattle.std.proofs.lemmas.List.{append-nil}
+use Rattle.std.proofs.lemmas.Bool.{or_parts}
 use Rattle.fml_types.specs.Named.{IsBelow, AreRising, has_name, place}
 use Rattle.fml_types.specs.declared.manifest.DefaultEntry.{DefaultEntry}
 use Rattle.fml_types.specs.declared.manifest.FeatureDefinition.{FeatureDefinition}
 use Rattle.fml_types.proofs.Places.{place_within}
 use Rattle.fml_imports.specs.Overrides.{entries_over, overridden, laid_at}
 use Rattle.fml_imports.specs.Tables.{feature_for}
-use Rattle.fml_imports.proofs.Names.{turned, left_false, right_false, placed}
+use Rattle.fml_imports.proofs.Names.{turned, placed}
 use Rattle.fml_imports.proofs.Rising.{absent_below, rising_same}
 
 abbrev Overrides : Type 0
@@ -26,8 +27,8 @@ over_other rest name es f other = ap (λ b. (f.0, record f.1 { defaults = f.1.de
 none_over : (rest : Overrides) (name : List ℕ) (es : List DefaultEntry) (fs : Features) → has_name name fs ≡ false → map (overridden ((name, es) ∷ rest)) fs ≡ map (overridden rest) fs
 none_over rest name es [] h = refl
 none_over rest name es (f ∷ fs) h =
-    let other : bytes_eq name f.0 ≡ false = turned name f.0 ∙ left_false (bytes_eq f.0 name) (has_name name fs) h in
-    ap (λ g. g ∷ map (overridden ((name, es) ∷ rest)) fs) (over_other rest name es f other) ∙ ap (λ gs. overridden rest f ∷ gs) (none_over rest name es fs (right_false (bytes_eq f.0 name) (has_name name fs) h))
+    let other : bytes_eq name f.0 ≡ false = turned name f.0 ∙ (or_parts (bytes_eq f.0 name) (has_name name fs) h).0 in
+    ap (λ g. g ∷ map (overridden ((name, es) ∷ rest)) fs) (over_other rest name es f other) ∙ ap (λ gs. overridden rest f ∷ gs) (none_over rest name es fs (or_parts (bytes_eq f.0 name) (has_name name fs) h).1)
 
 -- the entries are put after those of the feature of the name
 over_this : (rest : Overrides) (name : List ℕ) (es : List DefaultEntry) (k : List ℕ) (f : FeatureDefinition) → bytes_eq name k ≡ true → overridden rest (k, record f { defaults = f.defaults ++ es }) ≡ overridden ((name, es) ∷ rest) (k, f)

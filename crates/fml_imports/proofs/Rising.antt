@@ -2,20 +2,14 @@
 use Rattle.std.proofs.Common.{Ordering, ◌≡◌, ℕ, true, false, List, [], ◌∷◌, ◌++◌, map, Less, Equal, Greater, refl, sym, ap, ◌∙◌, subst}
 use Rattle.std.specs.Prelude.{◌||◌, bytes_eq, if◌then◌else◌}
 use Rattle.std.specs.Cmp.Lexicographic.{slice_cmp}
-use Rattle.std.specs.Ordering.{nat_cmp, ordering_reverse, is_eq, is_lt}
+use Rattle.std.specs.Ordering.{nat_cmp, is_eq, is_lt}
 use Rattle.std.proofs.lemmas.Cmp.{nat_list_cmp_total}
-use Rattle.std.proofs.lemmas.Map.Text.{is_eq-slice_cmp}
+use Rattle.std.proofs.lemmas.Bool.{or_parts}
+use Rattle.sequences.proofs.Texts.{is_eq-turned, lesser_texts, turned_down, turned_up}
 use Rattle.fml_types.specs.Named.{IsAbove, IsBelow, AreRising, has_name, with_name}
-use Rattle.fml_imports.proofs.Names.{sides, left_false, right_false}
 
 pub less_trans : (a b c : List ℕ) → slice_cmp nat_cmp a b ≡ Less → slice_cmp nat_cmp b c ≡ Less → slice_cmp nat_cmp a c ≡ Less
 less_trans a b c h k = nat_list_cmp_total.trans a b c h k
-
-pub turned_down : (a b : List ℕ) → slice_cmp nat_cmp a b ≡ Greater → slice_cmp nat_cmp b a ≡ Less
-turned_down a b h = nat_list_cmp_total.antisymm b a ∙ ap ordering_reverse h
-
-pub turned_up : (a b : List ℕ) → slice_cmp nat_cmp b a ≡ Less → slice_cmp nat_cmp a b ≡ Greater
-turned_up a b h = nat_list_cmp_total.antisymm a b ∙ ap ordering_reverse h
 
 pub below_lower : {T : Type 0} (a b : List ℕ) (ps : List (List ℕ × T)) → slice_cmp nat_cmp a b ≡ Less → IsBelow b ps → IsBelow a ps
 below_lower a b [] less below = tt
@@ -45,16 +39,13 @@ rising_same f same (p ∷ ps) rising = (subst (λ n. IsBelow n (map f ps)) (sym 
 
 -- ---- a name that is not there
 
-other_below : (a b : List ℕ) → slice_cmp nat_cmp a b ≡ Less → bytes_eq a b ≡ false
-other_below a b less = sym (is_eq-slice_cmp a b) ∙ ap is_eq less
-
 pub absent_below : {T : Type 0} (a : List ℕ) (ps : List (List ℕ × T)) → IsBelow a ps → has_name a ps ≡ false
 absent_below a [] below = refl
-absent_below a (p ∷ ps) below = ap (λ b. b || has_name a ps) (sym (sides a p.0) ∙ ap is_eq below.0) ∙ absent_below a ps below.1
+absent_below a (p ∷ ps) below = ap (λ b. b || has_name a ps) (sym (is_eq-turned a p.0) ∙ ap is_eq below.0) ∙ absent_below a ps below.1
 
 pub named_past : {T : Type 0} (a : List ℕ) (ps qs : List (List ℕ × T)) → IsAbove a ps → has_name a (ps ++ qs) ≡ has_name a qs
 named_past a [] qs above = refl
-named_past a (p ∷ ps) qs above = ap (λ b. b || has_name a (ps ++ qs)) (other_below p.0 a above.0) ∙ named_past a ps qs above.1
+named_past a (p ∷ ps) qs above = ap (λ b. b || has_name a (ps ++ qs)) (lesser_texts p.0 a above.0) ∙ named_past a ps qs above.1
 
 -- ---- one more at its place
 
@@ -62,7 +53,7 @@ pub with_between : {T : Type 0} (p : List ℕ × T) (ps qs : List (List ℕ × T
 with_between p [] [] above below = refl
 with_between p [] (q ∷ qs) above below = ap (λ (o : Ordering). if is_lt o then p ∷ q ∷ qs else q ∷ with_name p qs) below.0
 with_between p (q ∷ ps) qs above below =
-    ap (λ (o : Ordering). if is_lt o then p ∷ q ∷ (ps ++ qs) else q ∷ with_name p (ps ++ qs)) (turned_up p.0 q.0 above.0) ∙ ap (λ l. q ∷ l) (with_between p ps qs above.1 below)
+    ap (λ (o : Ordering). if is_lt o then p ∷ q ∷ (ps ++ qs) else q ∷ with_name p (ps ++ qs)) (turned_up q.0 p.0 above.0) ∙ ap (λ l. q ∷ l) (with_between p ps qs above.1 below)
 
 below_with : {T : Type 0} (name : List ℕ) (p : List ℕ × T) (ps : List (List ℕ × T)) → slice_cmp nat_cmp name p.0 ≡ Less → IsBelow name ps → IsBelow name (with_name p ps)
 below_with name p [] less below = (less, tt)
@@ -74,9 +65,9 @@ below_with name p (q ∷ qs) less below =
 
 rises_at : {T : Type 0} (p q : List ℕ × T) (qs : List (List ℕ × T)) (o : Ordering) → slice_cmp nat_cmp p.0 q.0 ≡ o → bytes_eq q.0 p.0 ≡ false → AreRising (q ∷ qs) → AreRising (with_name p qs) → AreRising (if is_lt o then p ∷ q ∷ qs else q ∷ with_name p qs)
 rises_at p q qs Less e apart rising rest = ((e, below_lower p.0 q.0 qs e rising.0), rising)
-rises_at p q qs Equal e apart rising rest = absurd (let same : is_eq (slice_cmp nat_cmp p.0 q.0) ≡ bytes_eq q.0 p.0 = sides p.0 q.0 in let equal : is_eq (slice_cmp nat_cmp p.0 q.0) ≡ true = ap is_eq e in cc)
+rises_at p q qs Equal e apart rising rest = absurd (let same : is_eq (slice_cmp nat_cmp p.0 q.0) ≡ bytes_eq q.0 p.0 = is_eq-turned p.0 q.0 in let equal : is_eq (slice_cmp nat_cmp p.0 q.0) ≡ true = ap is_eq e in cc)
 rises_at p q qs Greater e apart rising rest = (below_with q.0 p qs (turned_down p.0 q.0 e) rising.0, rest)
 
 pub rises_with : {T : Type 0} (p : List ℕ × T) (ps : List (List ℕ × T)) → has_name p.0 ps ≡ false → AreRising ps → AreRising (with_name p ps)
 rises_with p [] new rising = (tt, tt)
-rises_with p (q ∷ qs) new rising = rises_at p q qs (slice_cmp nat_cmp p.0 q.0) refl (left_false (bytes_eq q.0 p.0) (has_name p.0 qs) new) rising (rises_with p qs (right_false (bytes_eq q.0 p.0) (has_name p.0 qs) new) rising.1)
+rises_with p (q ∷ qs) new rising = rises_at p q qs (slice_cmp nat_cmp p.0 q.0) refl (or_parts (bytes_eq q.0 p.0) (has_name p.0 qs) new).0 rising (rises_with p qs (or_parts (bytes_eq q.0 p.0) (has_name p.0 qs) new).1 rising.1)

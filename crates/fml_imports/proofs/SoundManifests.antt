@@ -4,6 +4,7 @@ use Rattle.std.specs.Prelude.{◌||◌, All, IfOk, IsTrue, bytes_eq, if◌then�
 use Rattle.std.specs.Option.{option_or}
 use Rattle.std.specs.Ordering.{is_lt, nat_cmp}
 use Rattle.std.specs.Cmp.Lexicographic.{slice_cmp}
+use Rattle.std.proofs.lemmas.Bool.{or_parts}
 use Rattle.json_tree.specs.Json.{IsSound}
 use Rattle.json_tree.specs.Tree.{json_of}
 use Rattle.plain_text.specs.Names.{is_name}
@@ -34,7 +35,7 @@ use Rattle.fml_imports.specs.declared.fault.JoinFault.{JoinFault}
 use Rattle.fml_imports.specs.declared.fault.JoinRefusal.{JoinRefusal}
 use Rattle.fml_imports.specs.declared.fault.JoinRefusal.TheVariants as refusals
 use Rattle.fml_imports.proofs.Alls.{all_nil, all_cons, all_head, all_tail, all_append, all_map, all_mapped, all_flat}
-use Rattle.fml_imports.proofs.Names.{turned, left_false, right_false}
+use Rattle.fml_imports.proofs.Names.{turned}
 use Rattle.fml_imports.proofs.ReadModules.{read_module}
 
 pub bind_ok : {A B : Type 0} (r : Result A JoinRefusal) (f : A → Result B JoinRefusal) (b : B) → (r >>= f) ≡ Ok b → (a : A) × (r ≡ Ok a) × (f a ≡ Ok b)
@@ -61,12 +62,12 @@ all_with P p (q ∷ qs) one all = all-with P p q qs (with_name p qs) (is_lt (sli
 -- a name that isn't the new one is there where it was
 other-with : {T : Type 0} (n : List ℕ) (p q : List ℕ × T) (qs with : List (List ℕ × T)) (b : Bool) → bytes_eq p.0 n ≡ false → has_name n (q ∷ qs) ≡ false → has_name n with ≡ false → has_name n (if b then p ∷ q ∷ qs else q ∷ with) ≡ false
 other-with n p q qs with true other absent rest = ap (λ b. b || has_name n (q ∷ qs)) other ∙ absent
-other-with n p q qs with false other absent rest = ap (λ b. b || has_name n with) (left_false (bytes_eq q.0 n) (has_name n qs) absent) ∙ rest
+other-with n p q qs with false other absent rest = ap (λ b. b || has_name n with) (or_parts (bytes_eq q.0 n) (has_name n qs) absent).0 ∙ rest
 
 other_with : {T : Type 0} (n : List ℕ) (p : List ℕ × T) (qs : List (List ℕ × T)) → bytes_eq p.0 n ≡ false → has_name n qs ≡ false → has_name n (with_name p qs) ≡ false
 other_with n p [] other absent = ap (λ b. b || false) other
 other_with n p (q ∷ qs) other absent =
-    other-with n p q qs (with_name p qs) (is_lt (slice_cmp nat_cmp p.0 q.0)) other absent (other_with n p qs other (right_false (bytes_eq q.0 n) (has_name n qs) absent))
+    other-with n p q qs (with_name p qs) (is_lt (slice_cmp nat_cmp p.0 q.0)) other absent (other_with n p qs other (or_parts (bytes_eq q.0 n) (has_name n qs) absent).1)
 
 -- no enum has the name of an object
 AreApart : List (List ℕ × EnumDefinition) → List (List ℕ × ObjectDefinition) → Type 0
@@ -78,8 +79,8 @@ apart_with o objects [] new apart = all_nil (λ (x : List ℕ × EnumDefinition)
 apart_with o objects (e ∷ es) new apart =
     let before : List ℕ × EnumDefinition → Type 0 = λ x. has_name x.0 objects ≡ false in
     all_cons (λ (x : List ℕ × EnumDefinition). has_name x.0 (with_name o objects) ≡ false) e es
-    (other_with e.0 o objects (turned o.0 e.0 ∙ left_false (bytes_eq e.0 o.0) (has_name o.0 es) new) (all_head before e es apart))
-    (apart_with o objects es (right_false (bytes_eq e.0 o.0) (has_name o.0 es) new) (all_tail before e es apart))
+    (other_with e.0 o objects (turned o.0 e.0 ∙ (or_parts (bytes_eq e.0 o.0) (has_name o.0 es) new).0) (all_head before e es apart))
+    (apart_with o objects es (or_parts (bytes_eq e.0 o.0) (has_name o.0 es) new).1 (all_tail before e es apart))
 
 -- ---- the tables
 
@@ -101,7 +102,7 @@ enum_keeps t u e sound one h =
     let new = added (has_name e.0 t.enums || has_name e.0 t.objects) (refusals.DuplicateName e.0) (record t { enums = with_name e t.enums }) u h in
     subst AreSoundTables new.1 (record {
       variants = all_with (λ (x : List ℕ × EnumDefinition). 0 < length x.1.variants) e t.enums one sound.variants;
-      apart = all_with (λ (x : List ℕ × EnumDefinition). has_name x.0 t.objects ≡ false) e t.enums (right_false (has_name e.0 t.enums) (has_name e.0 t.objects) new.0) sound.apart;
+      apart = all_with (λ (x : List ℕ × EnumDefinition). has_name x.0 t.objects ≡ false) e t.enums (or_parts (has_name e.0 t.enums) (has_name e.0 t.objects) new.0).1 sound.apart;
       fields = sound.fields;
       names = sound.names;
       variables = sound.variables;
@@ -113,7 +114,7 @@ object_keeps t u o sound one h =
     let new = added (has_name o.0 t.enums || has_name o.0 t.objects) (refusals.DuplicateName o.0) (record t { objects = with_name o t.objects }) u h in
     subst AreSoundTables new.1 (record {
       variants = sound.variants;
-      apart = apart_with o t.objects t.enums (left_false (has_name o.0 t.enums) (has_name o.0 t.objects) new.0) sound.apart;
+      apart = apart_with o t.objects t.enums (or_parts (has_name o.0 t.enums) (has_name o.0 t.objects) new.0).0 sound.apart;
       fields = all_with (λ (x : List ℕ × ObjectDefinition). AreReadFields x.1.fields) o t.objects one sound.fields;
       names = sound.names;
       variables = sound.variables;

@@ -1,6 +1,7 @@
 -- A type that a text spells has names that a type may have, and at most 8 brackets.
 use Rattle.std.proofs.Common.{◌≡◌, ◌≤◌, ℕ, zero, suc, Bool, true, false, List, Option as Maybe, Some, None, refl, subst, arith}
-use Rattle.std.specs.Prelude.{◌&&◌, IsTrue, option_map, option_and_then, bytes_eq, codes, if◌then◌else◌}
+use Rattle.std.specs.Prelude.{IsTrue, option_map, option_and_then, bytes_eq, codes, if◌then◌else◌}
+use Rattle.std.proofs.lemmas.Bool.{and_from}
 use Rattle.fml_types.specs.Shape.{Shape, boolean, int, string, text, image, option, list, map, named, height}
 use Rattle.fml_types.specs.TypeTexts.{is_type_name, named_type, simple_type, key_in, cut, closed, is_option, in_option, keyed, map_in, bracketed, closed_type, with_bracket, without_bracket, type_of, spelled, without_end, without_front}
 use Rattle.fml_imports.specs.WellFormed.{has_type_names, IsSpelledType}
@@ -48,13 +49,9 @@ abbrev has_key_name : Maybe (List ℕ) → Bool
 has_key_name None = true
 has_key_name (Some name) = is_type_name name
 
-both : (a b : Bool) → a ≡ true → b ≡ true → (a && b) ≡ true
-both true b first second = second
-both false b first second = absurd cc
-
 map_names : (k : Maybe (List ℕ)) (s : Shape) → has_key_name k ≡ true → has_type_names s ≡ true → has_type_names (map k s) ≡ true
 map_names None s key inner = inner
-map_names (Some name) s key inner = both (is_type_name name) (has_type_names s) key inner
+map_names (Some name) s key inner = and_from (is_type_name name) (has_type_names s) key inner
 
 key-spells : (b : List ℕ) (c d : Bool) (k : Maybe (List ℕ)) → is_type_name b ≡ d → ◌≡◌ {A = Maybe (Maybe (List ℕ))} (if c then Some None else if d then Some (Some b) else None) (Some k) → has_key_name k ≡ true
 key-spells b true d k e h = let same : ◌≡◌ {A = Maybe (List ℕ)} None k = cc in subst (λ l. has_key_name l ≡ true) same refl

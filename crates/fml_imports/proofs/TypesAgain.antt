@@ -3,7 +3,7 @@ use Rattle.std.proofs.Common.{◌≡◌, ℕ, zero, suc, ◌+◌, ◌-◌, ◌<�
 use Rattle.std.specs.Prelude.{◌&&◌, ◌||◌, not, ◌==◌, cond, codes, nat_lt, nat_le, slice_index, bytes_eq, position, option_map, option_and_then, if◌then◌else◌}
 use Rattle.std.specs.List.{list_all, position_or_len}
 use Rattle.std.specs.Cmp.{first_so, second_so}
-use Rattle.std.proofs.lemmas.Bool.{eqb-true, eq-eqb, lt-ltb, le-ltb}
+use Rattle.std.proofs.lemmas.Bool.{eqb-true, eq-eqb, lt-ltb, le-ltb, or_parts, and_from, not-true, cond-true, cond-false}
 use Rattle.std.proofs.Math.Seq.{take-append_seam, drop-append-add, get_or-append_seam}
 use Rattle.plain_text.specs.Names.{is_name_byte, is_name}
 use Rattle.fml_types.specs.Shape.{Shape, boolean, int, string, text, image, option, list, map, named, height}
@@ -14,26 +14,6 @@ use Rattle.fml_imports.specs.WellFormed.{has_type_names, IsSpelledType}
 
 -- ---- tests
 
-first_of : {A : Type 0} (b : Bool) (x y : A) → b ≡ true → cond b x y ≡ x
-first_of true x y h = refl
-first_of false x y h = absurd cc
-
-second_of : {A : Type 0} (b : Bool) (x y : A) → b ≡ false → cond b x y ≡ y
-second_of true x y h = absurd cc
-second_of false x y h = refl
-
-both : (a b : Bool) → a ≡ true → b ≡ true → (a && b) ≡ true
-both true b first second = second
-both false b first second = absurd cc
-
-not_true : (b : Bool) → not b ≡ true → b ≡ false
-not_true true h = absurd cc
-not_true false h = refl
-
-neither : (a b : Bool) → (a || b) ≡ false → (a ≡ false) × (b ≡ false)
-neither true b h = absurd cc
-neither false b h = (refl, h)
-
 none_of : (a b c d e : Bool) → (a || b || c || d || e) ≡ false → (a ≡ false) × (b ≡ false) × (c ≡ false) × (d ≡ false) × (e ≡ false)
 none_of true b c d e h = absurd cc
 none_of false true c d e h = absurd cc
@@ -43,9 +23,6 @@ none_of false false false false e h = (refl, refl, refl, refl, h)
 
 same_test : (c : ℕ) → (c == c) ≡ true
 same_test c = eq-eqb c c refl
-
-less_test : (m n : ℕ) → m < n → nat_lt m n ≡ true
-less_test m n h = lt-ltb m n h
 
 same_length : (n : ℕ) → nat_lt n n ≡ false
 same_length n = le-ltb n n (omega arith)
@@ -59,12 +36,12 @@ one_more : (m n : ℕ) → m ≡ n → 1 + m ≡ suc n
 one_more m n h = omega arith
 
 length_before : (c : ℕ) (b rest : List ℕ) → lacks c b ≡ true → position_or_len (λ x. x == c) (b ++ c ∷ rest) ≡ length b
-length_before c [] rest h = second_of (not (c == c)) _ 0 (ap not (same_test c))
-length_before c (x ∷ b) rest h = first_of (not (x == c)) _ 0 (first_so (not (x == c)) (lacks c b) h) ∙ one_more _ (length b) (length_before c b rest (second_so (not (x == c)) (lacks c b) h))
+length_before c [] rest h = cond-false (not (c == c)) _ 0 (ap not (same_test c))
+length_before c (x ∷ b) rest h = cond-true (not (x == c)) _ 0 (first_so (not (x == c)) (lacks c b) h) ∙ one_more _ (length b) (length_before c b rest (second_so (not (x == c)) (lacks c b) h))
 
 length_whole : (c : ℕ) (b : List ℕ) → lacks c b ≡ true → position_or_len (λ x. x == c) b ≡ length b
 length_whole c [] h = refl
-length_whole c (x ∷ b) h = first_of (not (x == c)) _ 0 (first_so (not (x == c)) (lacks c b) h) ∙ one_more _ (length b) (length_whole c b (second_so (not (x == c)) (lacks c b) h))
+length_whole c (x ∷ b) h = cond-true (not (x == c)) _ 0 (first_so (not (x == c)) (lacks c b) h) ∙ one_more _ (length b) (length_whole c b (second_so (not (x == c)) (lacks c b) h))
 
 longer : (c : ℕ) (b rest : List ℕ) → length b < length (b ++ c ∷ rest)
 longer c b rest = let whole = length-append b (c ∷ rest) in omega arith
@@ -72,11 +49,11 @@ longer c b rest = let whole = length-append b (c ∷ rest) in omega arith
 place_before : (c : ℕ) (b rest : List ℕ) → lacks c b ≡ true → position (λ x. x == c) (b ++ c ∷ rest) ≡ Some (length b)
 place_before c b rest h =
     ap (λ n. cond (nat_lt n (length (b ++ c ∷ rest))) (Some n) None) (length_before c b rest h)
-    ∙ first_of (nat_lt (length b) (length (b ++ c ∷ rest))) (Some (length b)) None (less_test (length b) (length (b ++ c ∷ rest)) (longer c b rest))
+    ∙ cond-true (nat_lt (length b) (length (b ++ c ∷ rest))) (Some (length b)) None (lt-ltb (length b) (length (b ++ c ∷ rest)) (longer c b rest))
 
 no_place : (c : ℕ) (b : List ℕ) → lacks c b ≡ true → position (λ x. x == c) b ≡ None
 no_place c b h =
-    ap (λ n. cond (nat_lt n (length b)) (Some n) None) (length_whole c b h) ∙ second_of (nat_lt (length b) (length b)) (Some (length b)) None (same_length (length b))
+    ap (λ n. cond (nat_lt n (length b)) (Some n) None) (length_whole c b h) ∙ cond-false (nat_lt (length b) (length b)) (Some (length b)) None (same_length (length b))
 
 cut_before : (c : ℕ) (b rest : List ℕ) → lacks c b ≡ true → cut c (b ++ c ∷ rest) ≡ Some (b, rest)
 cut_before c b rest h =
@@ -98,7 +75,7 @@ name_apart c x out in' = name-apart c x (x == c) refl out in'
 name_lacks : (c : ℕ) (b : List ℕ) → is_name_byte c ≡ false → list_all is_name_byte b ≡ true → lacks c b ≡ true
 name_lacks c [] out all = refl
 name_lacks c (x ∷ b) out all =
-    both (not (x == c)) (lacks c b) (name_apart c x out (first_so (is_name_byte x) (list_all is_name_byte b) all)) (name_lacks c b out (second_so (is_name_byte x) (list_all is_name_byte b) all))
+    and_from (not (x == c)) (lacks c b) (name_apart c x out (first_so (is_name_byte x) (list_all is_name_byte b) all)) (name_lacks c b out (second_so (is_name_byte x) (list_all is_name_byte b) all))
 
 name_bytes : (b : List ℕ) → is_type_name b ≡ true → list_all is_name_byte b ≡ true
 name_bytes b e = second_so (nat_lt 0 (length b) && nat_le (length b) 80) (list_all is_name_byte b) (first_so (is_name b) (not (is_simple_word b || is_bracket_word b)) e)
@@ -108,12 +85,12 @@ name_there [] e = absurd cc
 name_there (x ∷ b) e = omega arith
 
 no_simple_word : (b : List ℕ) → is_type_name b ≡ true → is_simple_word b ≡ false
-no_simple_word b e = (neither (is_simple_word b) (is_bracket_word b) (not_true (is_simple_word b || is_bracket_word b) (second_so (is_name b) (not (is_simple_word b || is_bracket_word b)) e))).0
+no_simple_word b e = (or_parts (is_simple_word b) (is_bracket_word b) (not-true (is_simple_word b || is_bracket_word b) (second_so (is_name b) (not (is_simple_word b || is_bracket_word b)) e))).0
 
 -- ---- no spaces at the ends
 
 not_space : (x : ℕ) → is_name_byte x ≡ true → (x == 32) ≡ false
-not_space x e = not_true (x == 32) (name_apart 32 x refl e)
+not_space x e = not-true (x == 32) (name_apart 32 x refl e)
 
 name_front : (b : List ℕ) → list_all is_name_byte b ≡ true → without_front b ≡ b
 name_front [] all = refl
@@ -212,8 +189,8 @@ simple_at (suc levels) b h = ap (with_bracket (type_of levels) b) (no_cut 60 b h
 simple_name : (b : List ℕ) → is_type_name b ≡ true → simple_type b ≡ Some (named b)
 simple_name b e =
     let others = none_of (bytes_eq b (codes "Boolean")) (bytes_eq b (codes "Int")) (bytes_eq b (codes "String")) (bytes_eq b (codes "Text")) (bytes_eq b (codes "Image")) (no_simple_word b e) in
-    second_of (bytes_eq b (codes "Boolean")) (Some boolean) _ others.0 ∙ second_of (bytes_eq b (codes "Int")) (Some int) _ others.1 ∙ second_of (bytes_eq b (codes "String")) (Some string) _ others.2
-    ∙ second_of (bytes_eq b (codes "Text")) (Some text) _ others.3 ∙ second_of (bytes_eq b (codes "Image")) (Some image) (named_type b) others.4 ∙ first_of (is_type_name b) (Some (named b)) None e
+    cond-false (bytes_eq b (codes "Boolean")) (Some boolean) _ others.0 ∙ cond-false (bytes_eq b (codes "Int")) (Some int) _ others.1 ∙ cond-false (bytes_eq b (codes "String")) (Some string) _ others.2
+    ∙ cond-false (bytes_eq b (codes "Text")) (Some text) _ others.3 ∙ cond-false (bytes_eq b (codes "Image")) (Some image) (named_type b) others.4 ∙ cond-true (is_type_name b) (Some (named b)) None e
 
 -- ---- brackets
 
@@ -249,7 +226,7 @@ unfolding key_in
 key_again None e = refl
 key_again (Some name) e =
     let others = none_of (bytes_eq name (codes "Boolean")) (bytes_eq name (codes "Int")) (bytes_eq name (codes "String")) (bytes_eq name (codes "Text")) (bytes_eq name (codes "Image")) (no_simple_word name e) in
-    second_of (bytes_eq name (codes "String")) (Some None) _ others.2 ∙ first_of (is_type_name name) (Some (Some name)) None e
+    cond-false (bytes_eq name (codes "String")) (Some None) _ others.2 ∙ cond-true (is_type_name name) (Some (Some name)) None e
 
 map_again : (read : List ℕ → Maybe Shape) (k : Maybe (List ℕ)) (s : Shape) → has_key_name k ≡ true → without_front (type_text s) ≡ type_text s → read (type_text s) ≡ Some s → map_in read (in_map k s) ≡ Some (map k s)
 unfolding map_in
@@ -263,7 +240,7 @@ map_again read k s f front again =
     ∙ ap (keyed (Some k)) again
 
 within_option : (s : Shape) → has_single_options (option s) ≡ true → in_option s ≡ Some (option s)
-within_option s o = second_of (is_option s) None (Some (option s)) (not_true (is_option s) (first_so (not (is_option s)) (has_single_options s) o))
+within_option s o = cond-false (is_option s) None (Some (option s)) (not-true (is_option s) (first_so (not (is_option s)) (has_single_options s) o))
 
 pub types_again : (s : Shape) (levels : ℕ) → height s ≤ levels → has_single_options s ≡ true → has_type_names s ≡ true → type_of levels (type_text s) ≡ Some s
 types_again boolean levels h o e = simple_at levels (codes "Boolean") refl

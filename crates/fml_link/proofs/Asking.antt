@@ -4,11 +4,12 @@ use Rattle.std.specs.Prelude.{bytes_eq, slice_get}
 use Rattle.std.specs.List.{AllByRecursion, IsDistinct}
 use Rattle.std.proofs.lemmas.List.{take_more}
 use Rattle.std.proofs.lemmas.Option.{slice_get_within, get_or_from_slice_get}
+use Rattle.std.proofs.lemmas.Bool.{or_parts}
 use Rattle.host_model.specs.Shelf.{IsReached}
 use Rattle.host_model.specs.ShelfLaws.{reached_once, reached_then}
 use Rattle.host_model.specs.declared.shelf.Shelf.{Ghosts}
 use Rattle.fml_types.specs.Named.{has_name}
-use Rattle.fml_imports.proofs.Names.{turned, left_false, right_false}
+use Rattle.fml_imports.proofs.Names.{turned}
 use Rattle.fml_link.specs.Asked.{names_of, BeginWith, IsAskedFrom}
 use Rattle.fml_link.specs.Files.{list_after, with_named}
 use Rattle.fml_link.specs.Laws.{are_distinct}
@@ -56,7 +57,7 @@ apart_names : (name : List ℕ) (list : Listed) (n : ℕ) → has_name name list
 apart_names name list zero h = tt
 apart_names name [] (suc n) h = tt
 apart_names name (f ∷ fs) (suc n) h =
-    (turned name f.0 ∙ left_false (bytes_eq f.0 name) (has_name name fs) h, apart_names name fs n (right_false (bytes_eq f.0 name) (has_name name fs) h))
+    (turned name f.0 ∙ (or_parts (bytes_eq f.0 name) (has_name name fs) h).0, apart_names name fs n (or_parts (bytes_eq f.0 name) (has_name name fs) h).1)
 
 distinct_names : (list : Listed) (n : ℕ) → are_distinct list ≡ true → IsDistinct bytes_eq (names_of (take n list))
 unfolding IsDistinct

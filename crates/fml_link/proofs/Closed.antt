@@ -1,10 +1,12 @@
 -- Each file that a listed file names is listed, for that channel.
 use Rattle.std.proofs.Common.{◌≡◌, ℕ, zero, suc, ◌+◌, ◌-◌, ◌<◌, ◌≤◌, Bool, true, false, List, [], ◌∷◌, ◌++◌, length, Option, Some, None, Ok, Err, refl, sym, ap, ◌∙◌, subst, append_assoc, length-append, arith}
-use Rattle.std.specs.Prelude.{◌||◌, All, nat_lt, bytes_eq, is_some, slice_get, if◌then◌else◌}
+use Rattle.std.specs.Prelude.{All, nat_lt, bytes_eq, is_some, slice_get, if◌then◌else◌}
 use Rattle.std.specs.Cmp.Lexicographic.{bytes_decides}
 use Rattle.std.proofs.lemmas.List.{append-nil}
 use Rattle.std.proofs.lemmas.Option.{slice_get_within}
 use Rattle.std.specs.Option.{option_or}
+use Rattle.std.proofs.lemmas.Bool.{or_right, or_left}
+use Rattle.sequences.proofs.Texts.{bytes_same}
 use Rattle.fml_types.specs.Named.{found, has_name}
 use Rattle.fml_reader.specs.declared.module.Module.{Module}
 use Rattle.fml_imports.proofs.Alls.{all_nil, all_cons, all_head, all_tail, all_map}
@@ -40,31 +42,20 @@ found_at name channel (f ∷ fs) h =
 
 -- ---- files that are added are in the list
 
-right_true : (a b : Bool) → b ≡ true → (a || b) ≡ true
-right_true true b h = refl
-right_true false b h = h
-
-same_itself : (name : List ℕ) → bytes_eq name name ≡ true
-same_itself name = (bytes_decides name name).1 refl
-
 file-there : (there room : Bool) (list : Listed) (f : List ℕ × List ℕ) (longer : Listed) → has_name f.0 list ≡ there → (if there then Ok list else if room then Ok (list ++ f ∷ []) else Err refusals.TooManyFiles) ≡ Ok longer → has_name f.0 longer ≡ true
 file-there true room list f longer there h = let same : list ≡ longer = cc in subst (λ (l : Listed). has_name f.0 l ≡ true) same there
 file-there false true list f longer there h =
     let same : list ++ f ∷ [] ≡ longer = cc in
-    subst (λ (l : Listed). has_name f.0 l ≡ true) same (has_push f.0 f list ∙ right_true (has_name f.0 list) (bytes_eq f.0 f.0) (same_itself f.0))
+    subst (λ (l : Listed). has_name f.0 l ≡ true) same (has_push f.0 f list ∙ or_right (has_name f.0 list) (bytes_eq f.0 f.0) (bytes_same f.0))
 file-there false false list f longer there h = absurd cc
 
 file_there : (list : Listed) (f : List ℕ × List ℕ) (longer : Listed) → with_file list f ≡ Ok longer → has_name f.0 longer ≡ true
 file_there list f longer h = file-there (has_name f.0 list) (nat_lt (length list) 64) list f longer refl h
 
-left_true : (a b : Bool) → a ≡ true → (a || b) ≡ true
-left_true true b h = refl
-left_true false b h = absurd cc
-
 name_stays : (name : List ℕ) (fs list longer : Listed) → has_name name list ≡ true → with_files list fs ≡ Ok longer → has_name name longer ≡ true
 name_stays name fs list longer there h =
     files_keep (λ l. has_name name l ≡ true) (λ (one : Listed) (f : List ℕ × List ℕ) (more : Listed) (kept : has_name name one ≡ true) (added : IsAdded one f more).
-    subst (λ (l : Listed). has_name name l ≡ true) (sym added.2) (has_push name f one ∙ left_true (has_name name one) (bytes_eq f.0 name) kept)) fs list longer there h
+    subst (λ (l : Listed). has_name name l ≡ true) (sym added.2) (has_push name f one ∙ or_left (has_name name one) (bytes_eq f.0 name) kept)) fs list longer there h
 
 abbrev AreThere : Listed → Listed → Type 0
 AreThere list fs = All (λ (f : List ℕ × List ℕ). has_name f.0 list ≡ true) fs

@@ -1,8 +1,10 @@
 -- The list of files starts with its root, and has no name twice.
 use Rattle.std.proofs.Common.{◌≡◌, ℕ, zero, suc, Bool, true, false, List, [], ◌∷◌, ◌++◌, Option, Some, None, Ok, refl, sym, ap, ◌∙◌, subst}
 use Rattle.std.specs.Prelude.{◌&&◌, ◌||◌, not, bytes_eq, slice_get}
+use Rattle.std.proofs.lemmas.Bool.{or_parts}
+use Rattle.std.proofs.Math.Bool.{or_comm, or_assoc}
 use Rattle.fml_types.specs.Named.{has_name}
-use Rattle.fml_imports.proofs.Names.{turned, left_false, right_false}
+use Rattle.fml_imports.proofs.Names.{turned}
 use Rattle.fml_link.specs.Files.{file_module, named_by, with_named, after_file, list_after}
 use Rattle.fml_link.specs.Laws.{are_distinct, StartWithRoot, AreDistinct}
 use Rattle.fml_link.proofs.Linked.{bind_ok}
@@ -46,27 +48,17 @@ pub split_true : (a b : Bool) → (not a && b) ≡ true → (a ≡ false) × (b 
 split_true true b h = absurd cc
 split_true false b h = (refl, h)
 
-or_turned : (a b : Bool) → (a || b) ≡ (b || a)
-or_turned true true = refl
-or_turned true false = refl
-or_turned false true = refl
-or_turned false false = refl
-
-or_grouped : (a b c : Bool) → (a || (b || c)) ≡ ((a || b) || c)
-or_grouped true b c = refl
-or_grouped false b c = refl
-
 pub has_push : (q : List ℕ) (f : List ℕ × List ℕ) (list : Listed) → has_name q (list ++ f ∷ []) ≡ (has_name q list || bytes_eq f.0 q)
-has_push q f [] = or_turned (bytes_eq f.0 q) false
-has_push q f (g ∷ gs) = ap (λ b. bytes_eq g.0 q || b) (has_push q f gs) ∙ or_grouped (bytes_eq g.0 q) (has_name q gs) (bytes_eq f.0 q)
+has_push q f [] = or_comm (bytes_eq f.0 q) false
+has_push q f (g ∷ gs) = ap (λ b. bytes_eq g.0 q || b) (has_push q f gs) ∙ sym (or_assoc (bytes_eq g.0 q) (has_name q gs) (bytes_eq f.0 q))
 
 push_distinct : (list : Listed) (f : List ℕ × List ℕ) → are_distinct list ≡ true → has_name f.0 list ≡ false → are_distinct (list ++ f ∷ []) ≡ true
 push_distinct [] f distinct new = refl
 push_distinct (g ∷ gs) f distinct new =
     let apart = split_true (has_name g.0 gs) (are_distinct gs) distinct in
-    let other : bytes_eq f.0 g.0 ≡ false = turned f.0 g.0 ∙ left_false (bytes_eq g.0 f.0) (has_name f.0 gs) new in
+    let other : bytes_eq f.0 g.0 ≡ false = turned f.0 g.0 ∙ (or_parts (bytes_eq g.0 f.0) (has_name f.0 gs) new).0 in
     both_true (has_name g.0 (gs ++ f ∷ [])) (are_distinct (gs ++ f ∷ [])) (has_push g.0 f gs ∙ ap (λ b. b || bytes_eq f.0 g.0) apart.0 ∙ other)
-    (push_distinct gs f apart.1 (right_false (bytes_eq g.0 f.0) (has_name f.0 gs) new))
+    (push_distinct gs f apart.1 (or_parts (bytes_eq g.0 f.0) (has_name f.0 gs) new).1)
 
 added_distinct : (one : Listed) (f : List ℕ × List ℕ) (more : Listed) → are_distinct one ≡ true → IsAdded one f more → are_distinct more ≡ true
 added_distinct one f more kept added = subst (λ l. are_distinct l ≡ true) (sym added.2) (push_distinct one f kept added.0)

@@ -3,8 +3,8 @@ use Rattle.std.proofs.Common.{◌≡◌, ℕ, zero, suc, Bool, true, false, List
 use Rattle.std.specs.Prelude.{◌||◌, All, nat_lt, bytes_eq, slice_get, option_map, if◌then◌else◌}
 use Rattle.std.specs.List.{flat_map}
 use Rattle.std.specs.Option.{option_or}
-use Rattle.std.specs.Cmp.Lexicographic.{bytes_decides}
 use Rattle.std.proofs.lemmas.List.{append-nil}
+use Rattle.sequences.proofs.Texts.{bytes_same}
 use Rattle.fml_types.specs.Named.{found, has_name}
 use Rattle.fml_types.specs.declared.manifest.DefaultEntry.{DefaultEntry}
 use Rattle.fml_types.specs.declared.manifest.FeatureDefinition.{FeatureDefinition}
@@ -32,9 +32,6 @@ use Rattle.fml_link.specs.Linking.{of_files, linked}
 use Rattle.fml_link.specs.Outcome.{◌>>=◌, each}
 use Rattle.fml_link.proofs.Closed.{there_at_turn}
 use Rattle.fml_link.proofs.Listing.{Listed}
-
-same_itself : (name : List ℕ) → bytes_eq name name ≡ true
-same_itself name = (bytes_decides name name).1 refl
 
 -- ---- the list
 
@@ -77,7 +74,7 @@ module _ (channel : List ℕ) where
       ]
 
   no-other : (name n : List ℕ) (b : Bool) (o : Option (List ℕ)) → where_other name channel o ≡ None → where_other name channel (if b then Some channel else o) ≡ None
-  no-other name n true o h = ap (λ b. if b then None else Some name) (same_itself channel)
+  no-other name n true o h = ap (λ b. if b then None else Some name) (bytes_same channel)
   no-other name n false o h = h
 
   no_other : (name : List ℕ) (names : List (List ℕ)) → where_other name channel (found name (included_by channel names)) ≡ None
@@ -199,7 +196,7 @@ module _ (file : List ℕ → Option (List ℕ)) (channel : List ℕ) where
 
 module _ (channel : List ℕ) where
   same_entries : (own : List ℕ) (es : List DefaultEntry) → own ≡ channel → entries_for channel own es ≡ es
-  same_entries own es same = ap (λ b. if b then es else kept_entries own es) (ap (λ c. bytes_eq c channel) same ∙ same_itself channel)
+  same_entries own es same = ap (λ b. if b then es else kept_entries own es) (ap (λ c. bytes_eq c channel) same ∙ bytes_same channel)
 
   same_features : (own : List ℕ) (fs : List (List ℕ × FeatureDefinition)) → own ≡ channel → map (feature_for channel own) fs ≡ fs
   same_features own [] same = refl

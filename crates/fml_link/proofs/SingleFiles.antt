@@ -1,7 +1,8 @@
 -- The single file of a well formed manifest links to the manifest.
-use Rattle.std.proofs.Common.{◌≡◌, ◌<◌, ◌≤◌, ℕ, zero, suc, Bool, true, false, List, [], ◌∷◌, length, Option, Some, None, Result, Ok, Err, refl, ap, ◌∙◌, arith}
-use Rattle.std.specs.Prelude.{nat_lt, nat_le, slice_get, if◌then◌else◌}
+use Rattle.std.proofs.Common.{◌≡◌, ◌<◌, ◌≤◌, ℕ, zero, suc, Bool, false, List, [], ◌∷◌, length, Option, Some, None, Result, Ok, Err, refl, ap, ◌∙◌, arith}
+use Rattle.std.specs.Prelude.{nat_lt, slice_get, if◌then◌else◌}
 use Rattle.std.proofs.lemmas.Bool.Decides.{nat_tests}
+use Rattle.std.proofs.lemmas.Bool.{le-leb}
 use Rattle.json_tree.specs.Json.{Json, IsSound, depth}
 use Rattle.json_tree.specs.Bytes.{text_of, tree_of, max_depth}
 use Rattle.json_tree.proofs.RoundTrip.{tree_of-text_of}
@@ -33,15 +34,12 @@ bind_known {A = A} r a f h = ap (λ (x : Result A LinkRefusal). x >>= f) h
 not_above : (n limit : ℕ) → n ≤ limit → nat_lt limit n ≡ false
 not_above n limit h = grind (arith, nat_tests)
 
-at_most : (n limit : ℕ) → n ≤ limit → nat_le n limit ≡ true
-at_most n limit h = grind (arith, nat_tests)
-
 tree_again : (root : List ℕ) (x : Json) → IsSound x → depth x ≤ 64 → length (text_of x) ≤ max_bytes → file_tree root (Some (text_of x)) ≡ done x
 unfolding file_tree
 tree_again root x sound deep short =
     ap (λ (b : Bool). if b then Err (refusals.FileTooLarge root (length (text_of x))) else shallow_tree root (tree_of (text_of x))) (not_above (length (text_of x)) max_bytes short)
     ∙ ap (shallow_tree root) (tree_of-text_of x sound (omega arith))
-    ∙ ap (λ (b : Bool). if b then done x else Err (refusals.NotJson root)) (at_most (depth x) max_depth deep)
+    ∙ ap (λ (b : Bool). if b then done x else Err (refusals.NotJson root)) (le-leb (depth x) max_depth deep)
 
 file_again : (root : List ℕ) (x : Json) (m : Module) → file_tree root (Some (text_of x)) ≡ done x → module_of x ≡ Ok m → file_module root (Some (text_of x)) ≡ done m
 unfolding file_module

@@ -3,6 +3,7 @@ use Rattle.std.proofs.Common.{◌≡◌, ℕ, zero, suc, ◌+◌, ◌<◌, ◌�
 use Rattle.std.proofs.lemmas.Str.{IsUtf8-nil}
 use Rattle.std.specs.Cmp.Lexicographic.{bytes_decides}
 use Rattle.std.specs.Prelude.{nat_lt, ◌&&◌, ◌||◌, bytes_eq, option_and_then, if◌then◌else◌}
+use Rattle.std.proofs.lemmas.Bool.{ltb-false}
 use Rattle.json_tree.specs.Json as json
 use Rattle.json_tree.specs.Json.{Json, IsSound}
 use Rattle.json_tree.specs.Tree.{json_of}
@@ -223,16 +224,13 @@ module _ (types : TypeTable) (table : IsSoundTable types) where
 
 -- ---- what grounded says
 
-not_above : (limit n : ℕ) → nat_lt limit n ≡ false → n ≤ limit
-not_above limit n h = grind arith
-
 none_above : {T : Type 0} (limit : ℕ) (h : ℕ → ℕ) (i j : ℕ) (os : Seq (Seq ℕ × T)) → first_above limit h i os ≡ None → j < length os → h (i + j) ≤ limit
 none_above limit h i j [] e less = absurd (omega arith)
 none_above limit h i j (o ∷ os) e less = step (nat_lt limit (h i)) refl e j less (λ d m. none_above limit h (suc i) m os d)
   where
     step : (b : Bool) → nat_lt limit (h i) ≡ b → (if b then Some o.0 else first_above limit h (suc i) os) ≡ None → (j : ℕ) → j < suc (length os) → (first_above limit h (suc i) os ≡ None → (m : ℕ) → m < length os → h (suc i + m) ≤ limit) → h (i + j) ≤ limit
     step true high e j less rest = absurd cc
-    step false high e zero less rest = let same : i + 0 ≡ i = omega arith in subst (λ m. h m ≤ limit) (sym same) (not_above limit (h i) high)
+    step false high e zero less rest = let same : i + 0 ≡ i = omega arith in subst (λ m. h m ≤ limit) (sym same) (ltb-false limit (h i) high)
     step false high e (suc j) less rest = let same : suc i + j ≡ i + suc j = omega arith in subst (λ m. h m ≤ limit) same (rest e j (omega arith))
 
 no_fault : (e l : Maybe (Seq ℕ)) → verdict e l ≡ Ok tt → e ≡ None

@@ -5,6 +5,7 @@ use Rattle.std.specs.Prelude.{◌||◌, bytes_eq, unwrap_or, if◌then◌else◌
 use Rattle.std.specs.Cmp.Lexicographic.{slice_cmp, nat_list_cmp_total, texts_ties, bytes_decides}
 use Rattle.std.specs.Ordering.{nat_cmp, ordering_reverse, is_eq, is_lt}
 use Rattle.std.specs.declared.cmp.Ordering.{Ordering}
+use Rattle.sequences.proofs.Texts.{is_Less, lesser_texts}
 use Rattle.json_tree.specs.Json.{Json, Members, no_members, member, members_of, AreSoundMembers}
 use Rattle.json_tree.specs.Json as json
 use Rattle.fml_types.specs.Named.{IsBelow, AreRising, found, has_name}
@@ -24,14 +25,6 @@ use Rattle.fml_merge.specs.Merging.{member_laid, is_below, lower, upper, named, 
 above_of : (a b : List ℕ) → slice_cmp nat_cmp a b ≡ Less → slice_cmp nat_cmp b a ≡ Greater
 above_of a b less = nat_list_cmp_total.antisymm b a ∙ ap ordering_reverse less
 
-other_of : (a b : List ℕ) → slice_cmp nat_cmp a b ≡ Less → bytes_eq a b ≡ false
-other_of a b less = texts_ties a b ∙ ap is_eq less
-
-is_less : (o : Ordering) → is_lt o ≡ true → o ≡ Less
-is_less Less e = refl
-is_less Equal e = absurd cc
-is_less Greater e = absurd cc
-
 not_less : (a b : List ℕ) (o : Ordering) → slice_cmp nat_cmp a b ≡ o → is_lt o ≡ false → is_eq o ≡ false → slice_cmp nat_cmp b a ≡ Less
 not_less a b Less e l q = absurd cc
 not_less a b Equal e l q = absurd cc
@@ -43,7 +36,7 @@ with_past : (k : List ℕ) (v : TypedValue) (e : List ℕ × TypedValue) (es : L
 with_past k v e es less = ap (λ o. beside o (k, v) e es (with_entry k v es)) (above_of e.0 k less)
 
 found_past : {T : Type 0} (k : List ℕ) (e : List ℕ × T) (es : List (List ℕ × T)) → slice_cmp nat_cmp e.0 k ≡ Less → found k (e ∷ es) ≡ found k es
-found_past k e es less = ap (λ b. if b then Some e.1 else found k es) (other_of e.0 k less)
+found_past k e es less = ap (λ b. if b then Some e.1 else found k es) (lesser_texts e.0 k less)
 
 pub found_below : {T : Type 0} (k : List ℕ) (es : List (List ℕ × T)) → IsBelow k es → found k es ≡ None
 found_below k [] below = refl
@@ -68,9 +61,9 @@ none_below k (e ∷ es) below = has_past k e es (texts_ties e.0 k ∙ ap is_eq (
 
 put_past : (k : List ℕ) (v : TypedValue) (e : List ℕ × TypedValue) (es : List (List ℕ × TypedValue)) → slice_cmp nat_cmp e.0 k ≡ Less → put k v (e ∷ es) ≡ e ∷ put k v es
 put_past k v e es less =
-    ap (λ b. if b then replaced k v (e ∷ es) else with_entry k v (e ∷ es)) (has_past k e es (other_of e.0 k less))
+    ap (λ b. if b then replaced k v (e ∷ es) else with_entry k v (e ∷ es)) (has_past k e es (lesser_texts e.0 k less))
     ∙ elim (has_name k es) as (λ b. (if b then replaced k v (e ∷ es) else with_entry k v (e ∷ es)) ≡ e ∷ (if b then replaced k v es else with_entry k v es)) [
-      | true ↦ ap (λ b. if b then (k, v) ∷ es else e ∷ replaced k v es) (other_of e.0 k less)
+      | true ↦ ap (λ b. if b then (k, v) ∷ es else e ∷ replaced k v es) (lesser_texts e.0 k less)
       | false ↦ with_past k v e es less
     ]
 
@@ -100,7 +93,7 @@ lower_below : (k : List ℕ) (es : List (List ℕ × TypedValue)) (ms : Members)
 lower_below k [] ms below = tt
 lower_below k (e ∷ es) ms below =
     elim (is_lt (slice_cmp nat_cmp e.0 k)) as (λ b. is_lt (slice_cmp nat_cmp e.0 k) ≡ b → AllBelow (if b then e ∷ lower k es else []) ms) [
-      | true ↦ λ less. (below_members e.0 k ms (is_less _ less) below, lower_below k es ms below)
+      | true ↦ λ less. (below_members e.0 k ms (is_Less _ less) below, lower_below k es ms below)
       | false ↦ λ less. tt
     ] refl
 
@@ -128,7 +121,7 @@ module _ (zeros : Shape → TypedValue) (types : TypeTable) (type_of : List ℕ 
     with_member_lower o [] = refl
     with_member_lower o (e ∷ es) =
         elim (is_lt (slice_cmp nat_cmp e.0 k)) as (λ b. is_lt (slice_cmp nat_cmp e.0 k) ≡ b → with_member zeros taken lay k o (e ∷ es) ≡ (if b then e ∷ lower k es else []) ++ with_member zeros taken lay k o (if b then upper k es else e ∷ es)) [
-          | true ↦ λ less. with_member_past o e es (is_less _ less) ∙ ap (λ l. e ∷ l) (with_member_lower o es)
+          | true ↦ λ less. with_member_past o e es (is_Less _ less) ∙ ap (λ l. e ∷ l) (with_member_lower o es)
           | false ↦ λ less. refl
         ] refl
 

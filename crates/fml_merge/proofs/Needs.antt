@@ -2,6 +2,7 @@
 use Rattle.std.proofs.Common.{◌≡◌, ℕ, zero, suc, ◌<◌, ◌≤◌, Bool, true, false, List as Seq, [], ◌∷◌, length, map as over, get_or, Option as Maybe, Some, None, option_map, refl, sym, ap, ◌∙◌, subst, arith}
 use Rattle.std.proofs.lemmas.List.{length-map}
 use Rattle.std.specs.Prelude.{nat_lt, bytes_eq, option_and_then, if◌then◌else◌}
+use Rattle.std.proofs.lemmas.Bool.{lt-ltb}
 use Rattle.fml_types.specs.Graph.{mention, part_of, graph_of}
 use Rattle.fml_types.specs.Ground.{parts_at, greatest, at, reached_all, needed, height_up_to}
 use Rattle.fml_types.specs.Named.{found, place}
@@ -46,9 +47,6 @@ module _ (objects : Seq (Seq ℕ × ObjectDefinition)) where
 
 -- ---- small facts
 
-is_less : (i n : ℕ) → i < n → nat_lt i n ≡ true
-is_less i n h = grind arith
-
 pub at_le : (v r : ℕ → ℕ) → ((i : ℕ) → v i ≤ r i) → (m : Maybe ℕ) → at v m ≤ at r m
 at_le v r low None = omega arith
 at_le v r low (Some i) = low i
@@ -83,7 +81,7 @@ module _ (types : TypeTable) where
       let within = place_within n types.objects i e in
       let count : length graph ≡ length types.objects = length-map types.objects _ in
       let here = parts_found types.objects types.objects n o i e is in
-      let less : nat_lt i (length graph) ≡ true = is_less i (length graph) (omega (arith, within, count)) in
+      let less : nat_lt i (length graph) ≡ true = lt-ltb i (length graph) (omega (arith, within, count)) in
       let high : height_up_to graph (suc k) i ≡ suc (greatest (needed (height_up_to graph k) (reached_all graph (height_up_to graph k))) (over (part_of types.objects) o.fields)) =
       ap (λ b. if b then suc (greatest (needed (height_up_to graph k) (reached_all graph (height_up_to graph k))) (parts_at graph i)) else 0) less ∙ ap (λ ps. suc (greatest (needed (height_up_to graph k) (reached_all graph (height_up_to graph k))) ps)) here in
       omega (arith, high, low)

@@ -7,6 +7,7 @@ use Rattle.std.specs.List.Sorted.{ties, IsSortedBy, IsStableBy}
 use Rattle.std.specs.Cmp.Lexicographic.{slice_cmp, nat_list_cmp_total, texts_ties, bytes_decides}
 use Rattle.std.specs.Ordering.{nat_cmp, ordering_reverse, is_eq, is_lt}
 use Rattle.std.specs.declared.cmp.Ordering.{Ordering}
+use Rattle.sequences.proofs.Texts.{is_Less, is_eq-reverse}
 use Rattle.json_tree.specs.Json as json
 use Rattle.json_tree.specs.Json.{Json, depth, members_depth, members_of}
 use Rattle.json_tree.specs.Tree.{json_of}
@@ -24,18 +25,13 @@ tied_names a b Less h = refl
 tied_names a b Equal h = refl
 tied_names a b Greater h = refl
 
-turned : (o : Ordering) → is_eq (ordering_reverse o) ≡ is_eq o
-turned Less = refl
-turned Equal = refl
-turned Greater = refl
-
 -- pieces that tie have one name
 tie_is : (x y : Piece) → ties by_name x y ≡ bytes_eq y.name.now x.name.now
 tie_is x y =
     let a = x.name.now in
     let b = y.name.now in
     let back = nat_list_cmp_total.antisymm b a in
-    ap (λ o. not (is_lt (slice_cmp nat_cmp a b)) && not (is_lt o)) back ∙ tied_names a b (slice_cmp nat_cmp a b) refl ∙ sym (texts_ties b a ∙ ap is_eq back ∙ turned (slice_cmp nat_cmp a b))
+    ap (λ o. not (is_lt (slice_cmp nat_cmp a b)) && not (is_lt o)) back ∙ tied_names a b (slice_cmp nat_cmp a b) refl ∙ sym (texts_ties b a ∙ ap is_eq back ∙ is_eq-reverse (slice_cmp nat_cmp a b))
 
 -- ---- the trees of a name
 
@@ -77,11 +73,6 @@ stable_under ps qs stable k = first (some_named k ps)
 
 -- ---- names that never fall
 
-is_less : (o : Ordering) → is_lt o ≡ true → o ≡ Less
-is_less Less e = refl
-is_less Equal e = absurd cc
-is_less Greater e = absurd cc
-
 -- a is not below b, which is not below c
 not_below : (a b c : Seq ℕ) → is_lt (slice_cmp nat_cmp a b) ≡ false → is_lt (slice_cmp nat_cmp b c) ≡ false → is_lt (slice_cmp nat_cmp a c) ≡ false
 not_below a b c h i = by_order (slice_cmp nat_cmp b a) refl
@@ -89,7 +80,7 @@ not_below a b c h i = by_order (slice_cmp nat_cmp b a) refl
     by_order : (o : Ordering) → slice_cmp nat_cmp b a ≡ o → is_lt (slice_cmp nat_cmp a c) ≡ false
     by_order Less less =
         elim (is_lt (slice_cmp nat_cmp a c)) as (λ d. is_lt (slice_cmp nat_cmp a c) ≡ d → d ≡ false) [
-          | true ↦ λ under. (let through : true ≡ false = sym (ap is_lt (nat_list_cmp_total.trans b a c less (is_less _ under))) ∙ i in absurd cc)
+          | true ↦ λ under. (let through : true ≡ false = sym (ap is_lt (nat_list_cmp_total.trans b a c less (is_Less _ under))) ∙ i in absurd cc)
           | false ↦ λ n. refl
         ] refl
     by_order Equal tied = subst (λ n. is_lt (slice_cmp nat_cmp n c) ≡ false) ((bytes_decides b a).0 (texts_ties b a ∙ ap is_eq tied)) i

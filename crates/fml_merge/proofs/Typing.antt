@@ -5,6 +5,7 @@ use Rattle.std.specs.Option.{option_or}
 use Rattle.std.specs.Cmp.Lexicographic.{slice_cmp, bytes_decides}
 use Rattle.std.specs.Ordering.{nat_cmp}
 use Rattle.std.specs.declared.cmp.Ordering.TheVariants.{Less, Equal, Greater}
+use Rattle.std.proofs.lemmas.Bool.{and_parts}
 use Rattle.json_tree.specs.Json as json
 use Rattle.json_tree.specs.Json.{Json, IsSound, AreSoundItems, AreSoundMembers}
 use Rattle.fml_types.specs.Named.{found, has_name, IsBelow, AreRising}
@@ -33,10 +34,6 @@ use Rattle.fml_merge.proofs.Merge.{put_rising}
 or_false : (b c : Bool) → b ≡ false → (b || c) ≡ true → c ≡ true
 or_false true c e h = absurd cc
 or_false false c e h = h
-
-both_true : (b c : Bool) → (b && c) ≡ true → (b ≡ true) × (c ≡ true)
-both_true true c h = (refl, h)
-both_true false c h = absurd cc
 
 pub entries_kept : (es : TypedEntries) → entries_of (pairs_of es) ≡ es
 entries_kept no_entries = refl
@@ -382,7 +379,7 @@ module _ (types : TypeTable) where
       items_typed : (xs : json.Items) (t : Shape) → P t → AreSoundItems xs → all_items (takes types t) xs ≡ true → HaveType types t (items_laid zeros types t xs)
       items_typed json.no_items t p sound taken = tt
       items_typed (json.item x xs) t p sound taken =
-          let each = both_true (takes types t x) (all_items (takes types t) xs) taken in
+          let each = and_parts (takes types t x) (all_items (takes types t) xs) taken in
           (laid_typed x t (zeros t) p (zero_typed t p) sound.0 each.0, items_typed xs t p sound.1 each.1)
 
       pub members_typed : (ms : json.Members) (kind : Kind) → Scoped kind → (es : Seq (Seq ℕ × TypedValue)) → Has kind es → AreSoundMembers ms → Has kind (members_laid zeros types (type_of_kind kind) es ms)

@@ -90,10 +90,6 @@ rising_push p (q ∷ qs) rising above = (below_push q.0 p qs above.0 rising.0, r
 
 -- ---- one more at its place
 
-or_true : (b : Bool) → (b || true) ≡ true
-or_true true = refl
-or_true false = refl
-
 has-at : {T : Type 0} (s : List ℕ) (p : List ℕ × T) (ps : List (List ℕ × T)) (b : Bool) (o : Option ℕ) (i : ℕ) → ((j : ℕ) → o ≡ Some j → has_name s ps ≡ true) → (if b then Some 0 else option_map suc o) ≡ Some i → (b || has_name s ps) ≡ true
 has-at s p ps true o i rest h = refl
 has-at s p ps false None i rest h = absurd cc

@@ -1,12 +1,13 @@
 -- Values that are raised along mentions, one object more at a time.
-use Rattle.std.proofs.Common.{◌≡◌, ℕ, ◌+◌, ◌<◌, ◌≤◌, List, [], ◌∷◌, ◌++◌, length, get_or, Bool, true, false, Option, Some, None, inl, inr, refl, sym, ap, ◌∙◌, subst, arith, length-append}
+use Rattle.std.proofs.Common.{◌≡◌, ℕ, ◌+◌, ◌<◌, ◌≤◌, List, [], ◌∷◌, ◌++◌, length, get_or, Bool, Option, Some, None, inl, inr, refl, sym, ap, ◌∙◌, subst, arith, length-append}
 use Rattle.std.proofs.Math.ListN.{set}
-use Rattle.std.proofs.lemmas.Bool.{cases_lt, cases_eq}
+use Rattle.std.proofs.lemmas.Bool.{cases_lt, cases_eq, le-ltb, lt-ltb}
 use Rattle.std.proofs.lemmas.List.{length-set, get_or-set_same, get_or-set_other}
 use Rattle.std.proofs.lemmas.List.Elements.{Contains-append_left, Contains-append_right, Contains-append_cases, Contains-push, Contains-push_cases, Contains-get_or}
 use Rattle.std.proofs.lemmas.List.Sums.{sum_by-set}
 use Rattle.std.specs.List.{All, Contains, count_by, sum_by}
 use Rattle.std.specs.Prelude.{nat_lt, ◌⊎◌, if◌then◌else◌}
+use Rattle.std.proofs.lemmas.Option.{same_Some}
 use Rattle.fml_types.specs.Reach.{row, Closed, Raised, raised_one, raised_all}
 use Rattle.fml_types.specs.Values.{value_in}
 
@@ -22,9 +23,6 @@ pub record Raising (rows : List (List ℕ)) (place : ℕ) (old : List ℕ) (valu
   pub doing_equal : (i : ℕ) → doing ≡ Some i → value_in s.0 i ≡ value
   pub closed : (k : ℕ) → Closed rows (value_in old) k ⊎ (k ≡ place) → Closed rows (value_in s.0) k ⊎ (Contains s.1 k ⊎ (doing ≡ Some k))
   pub least : (u : ℕ → ℕ) → ((j : ℕ) → Closed rows u j) → ((i : ℕ) → value_in old i ≤ u i) → (i : ℕ) → value_in s.0 i ≤ u i
-
-some_same : (j k : ℕ) → Some j ≡ Some k → j ≡ k
-some_same j k e = cc
 
 none_some : (k : ℕ) → None ≡ Some k → ⊥
 none_some k e = cc
@@ -62,7 +60,7 @@ popped rows place old value vs pending rest j r e =
       count = was.count;
       rises = was.rises;
       equal = λ i c. was.equal i (Contains-append_left rest (j ∷ []) i c);
-      doing_equal = λ i d. ap (value_in vs) (sym (some_same j i d)) ∙ (was.equal j (Contains-push rest j)).1;
+      doing_equal = λ i d. ap (value_in vs) (sym (same_Some j i d)) ∙ (was.equal j (Contains-push rest j)).1;
       closed = λ k h. elim (was.closed k h) [
         | inl closed ↦ inl closed
         | inr waits ↦ elim waits [
@@ -125,17 +123,11 @@ raised_higher rows place old value j vs pending x r mentions inside low =
       ];
     }
 
-less_is : (n m : ℕ) → n < m → nat_lt n m ≡ true
-less_is n m h = grind arith
-
-not_less_is : (n m : ℕ) → m ≤ n → nat_lt n m ≡ false
-not_less_is n m h = grind arith
-
 raised_is : (value x : ℕ) (s : List ℕ × List ℕ) → value_in s.0 x < value → raised_one value x s ≡ (set s.0 x value, s.1 ++ x ∷ [])
-raised_is value x s h = ap (λ (b : Bool). if b then (set s.0 x value, s.1 ++ x ∷ []) else s) (less_is (value_in s.0 x) value h)
+raised_is value x s h = ap (λ (b : Bool). if b then (set s.0 x value, s.1 ++ x ∷ []) else s) (lt-ltb (value_in s.0 x) value h)
 
 kept_is : (value x : ℕ) (s : List ℕ × List ℕ) → value ≤ value_in s.0 x → raised_one value x s ≡ s
-kept_is value x s h = ap (λ (b : Bool). if b then (set s.0 x value, s.1 ++ x ∷ []) else s) (not_less_is (value_in s.0 x) value h)
+kept_is value x s h = ap (λ (b : Bool). if b then (set s.0 x value, s.1 ++ x ∷ []) else s) (le-ltb (value_in s.0 x) value h)
 
 one_raised : (rows : List (List ℕ)) (place : ℕ) (old : List ℕ) (value j : ℕ) (s : List ℕ × List ℕ) (x : ℕ) → Raising rows place old value (Some j) s → Contains (row rows j) x → x < length old
     → Raising rows place old value (Some j) (raised_one value x s)
@@ -172,8 +164,8 @@ one_left value x s within =
       | inl low ↦
           let f : ℕ → ℕ = λ y. if nat_lt y value then 1 else 0 in
           let less : sum_by f (set s.0 x value) + f (value_in s.0 x) ≡ sum_by f s.0 + f value = sum_by-set f s.0 x value 0 within in
-          let was : f (value_in s.0 x) ≡ 1 = ap (λ (b : Bool). if b then 1 else 0) (less_is (value_in s.0 x) value low) in
-          let now : f value ≡ 0 = ap (λ (b : Bool). if b then 1 else 0) (not_less_is value value (omega arith)) in
+          let was : f (value_in s.0 x) ≡ 1 = ap (λ (b : Bool). if b then 1 else 0) (lt-ltb (value_in s.0 x) value low) in
+          let now : f value ≡ 0 = ap (λ (b : Bool). if b then 1 else 0) (le-ltb value value (omega arith)) in
           let more = length-append s.1 (x ∷ []) in
           ap (left value) (raised_is value x s low) ∙ omega (arith, less, was, now, more)
       | inr high ↦ ap (left value) (kept_is value x s high)
@@ -227,7 +219,7 @@ finished rows place old value j s r there =
         | inr waits ↦ elim waits [
           | inl before ↦ inr (inl before)
           | inr doing ↦ inl (λ i c.
-              let same : j ≡ k = some_same j k doing in
+              let same : j ≡ k = same_Some j k doing in
               let high = there i (subst (λ (n : ℕ). Contains (row rows n) i) (sym same) c) in
               let e = r.doing_equal k doing in
               omega (arith, high, e))
@@ -283,7 +275,3 @@ less_left rows place old value vs pending rest j xs next_vs next_pending inside 
     let same = ap (left value) after ∙ all_left value (row rows j) (vs, rest) (λ x c. let d = r.count in let h = inside j x c in omega (arith, d, h)) in
     let fewer : length pending ≡ length rest + 1 = ap length e ∙ length-append rest (j ∷ []) in
     omega (arith, same, fewer)
-
-pub none_left : (xs : List ℕ) → length xs ≡ 0 → xs ≡ []
-none_left [] e = refl
-none_left (x ∷ xs) e = absurd (omega (arith, e))

@@ -1,6 +1,7 @@
 -- Values of objects: none past the objects, and what follows from what is reached.
 use Rattle.std.proofs.Common.{◌≡◌, ℕ, zero, suc, ◌+◌, ◌<◌, ◌≤◌, List, [], ◌∷◌, length, drop, Bool, true, false, Option, Some, refl, sym, ap, ◌∙◌, arith, add-one}
 use Rattle.std.specs.Prelude.{max, nat_lt, if◌then◌else◌}
+use Rattle.std.proofs.lemmas.Bool.{le-ltb}
 use Rattle.fml_types.specs.Ground.{parts_at, greatest, at, reached, reached_all, needed, height_up_to, first_above}
 use Rattle.fml_types.specs.Capped.{cap}
 use Rattle.fml_types.specs.CappedHeights as heights
@@ -20,22 +21,19 @@ pub reached_past : (g : List (List Part)) (v : ℕ → ℕ) → ((i : ℕ) → l
 reached_past g v none zero i h = none i h
 reached_past g v none (suc n) i h = ap (λ ps. max (v i) (greatest (λ (p : Part). at (reached g v n) p.mentions) ps)) (parts_past g i h) ∙ ap (λ m. max m 0) (none i h)
 
-pub not_below : (i n : ℕ) → n ≤ i → nat_lt i n ≡ false
-not_below i n h = grind arith
-
 pub height_past : (g : List (List Part)) (k i : ℕ) → length g ≤ i → height_up_to g k i ≡ 0
 height_past g zero i h = refl
-height_past g (suc k) i h = ap (λ b. if b then suc (greatest (needed (height_up_to g k) (reached_all g (height_up_to g k))) (parts_at g i)) else 0) (not_below i (length g) h)
+height_past g (suc k) i h = ap (λ b. if b then suc (greatest (needed (height_up_to g k) (reached_all g (height_up_to g k))) (parts_at g i)) else 0) (le-ltb i (length g) h)
 
 if_false : (b : Bool) (m : ℕ) → b ≡ false → (if b then m else 0) ≡ 0
 if_false true m e = absurd cc
 if_false false m e = refl
 
 pub next_height_past : (g : List (List Part)) (v : ℕ → ℕ) (i : ℕ) → length g ≤ i → heights.next_capped g v i ≡ 0
-next_height_past g v i h = let none = if_false (nat_lt i (length g)) (suc (greatest (needed v (reached_all g v)) (parts_at g i))) (not_below i (length g) h) in omega (arith, none)
+next_height_past g v i h = let none = if_false (nat_lt i (length g)) (suc (greatest (needed v (reached_all g v)) (parts_at g i))) (le-ltb i (length g) h) in omega (arith, none)
 
 pub next_weight_past : (g : List (List Part)) (v : ℕ → ℕ) (i : ℕ) → length g ≤ i → next_capped g v i ≡ 0
-next_weight_past g v i h = ap cap (if_false (nat_lt i (length g)) _ (not_below i (length g) h))
+next_weight_past g v i h = ap cap (if_false (nat_lt i (length g)) _ (le-ltb i (length g) h))
 
 pub weight_past : (g : List (List Part)) (k i : ℕ) → length g ≤ i → capped_weight_up_to g k i ≡ 0
 weight_past g zero i h = refl
@@ -55,4 +53,4 @@ above_turn limit v k (o ∷ os) zero h e = sym (ap (λ b. if b then Some o.0 els
 above_turn limit v k (o ∷ os) (suc i) h e = above_turn limit v k os i (omega arith) e
 
 pub above_next : {T : Type 0} (limit : ℕ) (v : ℕ → ℕ) (i : ℕ) (names : List (List ℕ × T)) (all : Option (List ℕ)) → i < length names → v i ≤ limit → first_above limit v i (drop i names) ≡ all → first_above limit v (i + 1) (drop (i + 1) names) ≡ all
-above_next limit v i names all h low so_far = ap (λ n. first_above limit v n (drop n names)) (add-one i) ∙ above_turn limit v i names i h (not_below limit (v i) low) ∙ so_far
+above_next limit v i names all h low so_far = ap (λ n. first_above limit v n (drop n names)) (add-one i) ∙ above_turn limit v i names i h (le-ltb limit (v i) low) ∙ so_far

@@ -1,6 +1,6 @@
 -- The weights of objects that aren't too high, and of those that need them.
 use Rattle.std.proofs.Common.{◌≡◌, ℕ, zero, suc, ◌+◌, ◌*◌, ◌<◌, ◌≤◌, Bool, true, false, List, [], ◌∷◌, length, map, get_or, inl, inr, refl, sym, ap, ◌∙◌, subst, arith, lt-ltb}
-use Rattle.std.proofs.lemmas.Bool.{cases_lt}
+use Rattle.std.proofs.lemmas.Bool.{cases_lt, le-ltb}
 use Rattle.std.proofs.lemmas.List.Sums.{sum_by-cons}
 use Rattle.std.specs.List.{sum_by}
 use Rattle.std.specs.Prelude.{nat_lt, if◌then◌else◌}
@@ -12,7 +12,7 @@ use Rattle.fml_types.specs.declared.graph.Part.{Part}
 use Rattle.fml_types.specs.declared.manifest.Field.{Field}
 use Rattle.fml_types.specs.declared.manifest.ObjectDefinition.{ObjectDefinition}
 use Rattle.fml_types.proofs.Needing.{heights_are_one_more, field_le}
-use Rattle.fml_types.proofs.Rounds.{parts_past, not_below}
+use Rattle.fml_types.proofs.Rounds.{parts_past}
 use Rattle.fml_types.proofs.WeightRounds.{shares_same}
 
 -- ---- two and shares
@@ -29,7 +29,7 @@ weight_within : (g : List (List Part)) (v : ℕ → ℕ) (i : ℕ) → i < lengt
 weight_within g v i within = if_true (nat_lt i (length g)) (two_and_shares g v i) (lt-ltb i (length g) within)
 
 weight_beyond : (g : List (List Part)) (v : ℕ → ℕ) (i : ℕ) → length g ≤ i → next_weights g v i ≡ 0
-weight_beyond g v i beyond = if_false (nat_lt i (length g)) (two_and_shares g v i) (not_below i (length g) beyond)
+weight_beyond g v i beyond = if_false (nat_lt i (length g)) (two_and_shares g v i) (le-ltb i (length g) beyond)
 
 -- heights up to a bound, each one more than what is needed
 module _ (g : List (List Part)) (h : ℕ → ℕ) (bound : ℕ) (heights : (i : ℕ) → i < length g → h i ≤ bound → h i ≡ one_more g h i) where

@@ -1,6 +1,6 @@
 -- Weights after rounds, whatever values they begin with, where no object is too high.
-use Rattle.std.proofs.Common.{◌≡◌, ℕ, zero, suc, ◌+◌, ◌*◌, ◌<◌, ◌≤◌, List, [], ◌∷◌, length, Bool, true, Option, Some, None, inl, inr, refl, sym, ap, ap₂, ◌∙◌, subst, arith, add-one}
-use Rattle.std.proofs.lemmas.Bool.{cases_lt}
+use Rattle.std.proofs.Common.{◌≡◌, ℕ, zero, suc, ◌+◌, ◌*◌, ◌<◌, ◌≤◌, List, [], ◌∷◌, length, Bool, Option, Some, None, inl, inr, refl, sym, ap, ap₂, ◌∙◌, subst, arith, add-one}
+use Rattle.std.proofs.lemmas.Bool.{cases_lt, lt-ltb}
 use Rattle.std.proofs.lemmas.List.Sums.{sum_by-cons}
 use Rattle.std.specs.List.{sum_by}
 use Rattle.std.specs.Prelude.{max, nat_lt, if◌then◌else◌}
@@ -55,11 +55,8 @@ are_heights g k low i =
     let same : height_up_to g k ≡ height_up_to g (suc k) = λ j m. (let e : height_up_to g k m ≡ height_up_to g (suc k) m = omega (arith, height_agrees g k m, low m) in e) j in
     ap (λ (h : ℕ → ℕ). higher g h (reached_all g h) i) same
 
-within_is : (i n : ℕ) → i < n → nat_lt i n ≡ true
-within_is i n h = grind arith
-
 one_higher : (g : List (List Part)) (h : ℕ → ℕ) → AreHeights g h → (i : ℕ) → i < length g → h i ≡ suc (greatest (needed h (reached_all g h)) (parts_at g i))
-one_higher g h heights i within = heights i ∙ ap (λ (b : Bool). if b then suc (greatest (needed h (reached_all g h)) (parts_at g i)) else 0) (within_is i (length g) within)
+one_higher g h heights i within = heights i ∙ ap (λ (b : Bool). if b then suc (greatest (needed h (reached_all g h)) (parts_at g i)) else 0) (lt-ltb i (length g) within)
 
 -- ---- rounds of weights
 

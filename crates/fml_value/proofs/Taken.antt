@@ -1,6 +1,7 @@
 -- A type takes the trees of its values.
-use Rattle.std.proofs.Common.{◌≡◌, ℕ, Bool, true, false, ◌&&◌, ◌||◌, List, Option, Some, None, refl, sym, ap, ap₂, ◌∙◌}
+use Rattle.std.proofs.Common.{◌≡◌, ℕ, true, false, ◌&&◌, List, Option, Some, None, refl, sym, ap, ap₂, ◌∙◌}
 use Rattle.std.specs.Prelude.{IsTrue}
+use Rattle.std.proofs.lemmas.Bool.{or_right}
 use Rattle.json_tree.specs.Json as json
 use Rattle.json_tree.specs.Json.{Json}
 use Rattle.fml_types.specs.Named.{found}
@@ -16,10 +17,6 @@ use Rattle.fml_value.specs.Kinds.{is_null, is_variant_of}
 use Rattle.fml_value.specs.Takes.{takes, takes_named, all_items}
 use Rattle.fml_value.specs.Trees.{tree_of, trees_of, HasNoValue}
 use Rattle.fml_value.specs.Typed.{TypedValue, truth, whole, text, absent, present, list, map, variant, object, TypedItems, no_items, item}
-
-or_true : (b c : Bool) → c ≡ true → (b || c) ≡ true
-or_true true c h = refl
-or_true false c h = h
 
 variant-taken : (e : Option EnumDefinition) (o : Option ObjectDefinition) (s : List ℕ) → IsTrue (is_variant_of e s) → takes_named e o (json.text s) ≡ true
 variant-taken None o s h = absurd cc
@@ -39,7 +36,7 @@ mutual
   taken types shape.text (text s) h = refl
   taken types shape.image (text s) h = refl
   taken types (shape.option t) absent h = refl
-  taken types (shape.option t) (present v) h = or_true (is_null (tree_of v)) _ (taken types t v h)
+  taken types (shape.option t) (present v) h = or_right (is_null (tree_of v)) _ (taken types t v h)
   taken types (shape.list t) (list vs) h = all_taken types t vs h
   taken types (shape.map key t) (map es) h = refl
   taken types (shape.named name) (variant s) h = variant-taken (found name types.enums) (found name types.objects) s h

@@ -1,7 +1,7 @@
 -- A part of a text, by its place.
 use Rattle.std.proofs.Common.{◌≡◌, ℕ, zero, suc, ◌+◌, ◌<◌, Bool, true, false, ◌&&◌, ◌||◌, ◌==◌, List, [], ◌∷◌, length, Option, Some, None, refl, sym, ap, ap₂, ◌∙◌, arith}
 use Rattle.std.specs.Prelude.{is_some, slice_index}
-use Rattle.std.proofs.lemmas.Bool.{true≢false, eqb-true, eq-eqb, false_from_ne_true}
+use Rattle.std.proofs.lemmas.Bool.{true≢false, eqb-true, eq-eqb, false_from_ne_true, or_right, or_left}
 use Rattle.std.specs.Cmp.{first_so, second_so}
 use Rattle.memchr.specs.Find.{FindsNeedle, OccursAt}
 use Rattle.jexl_eval.specs.Elements.{begins, occurs}
@@ -31,21 +31,13 @@ there_begins (p ∷ ps) (b ∷ bs) h =
     let rest : OccursAt bs ps 0 = there_begins ps bs (second_so (p == b) (begins ps bs) h) in
     record { fits = omega (arith, rest.fits); reads = there_at p b ps bs (sym same) rest }
 
-or_true : (a b : Bool) → b ≡ true → (a || b) ≡ true
-or_true true b h = refl
-or_true false b h = h
-
-or_first : (a b : Bool) → a ≡ true → (a || b) ≡ true
-or_first true b h = refl
-or_first false b h = absurd (true≢false (sym h))
-
 occurs_there : (k : ℕ) (part bytes : List ℕ) → OccursAt bytes part k → occurs part bytes ≡ true
 occurs_there zero part [] h = begins_there part [] h
-occurs_there zero part (b ∷ bs) h = or_first (begins part (b ∷ bs)) (occurs part bs) (begins_there part (b ∷ bs) h)
+occurs_there zero part (b ∷ bs) h = or_left (begins part (b ∷ bs)) (occurs part bs) (begins_there part (b ∷ bs) h)
 occurs_there (suc k) part [] h = absurd (omega (arith, h.fits))
 occurs_there (suc k) part (b ∷ bs) h =
     let rest : OccursAt bs part k = record { fits = omega (arith, h.fits); reads = λ j less. sym (at_next b bs (suc k + j) (k + j) (omega arith)) ∙ h.reads j less } in
-    or_true (begins part (b ∷ bs)) (occurs part bs) (occurs_there k part bs rest)
+    or_right (begins part (b ∷ bs)) (occurs part bs) (occurs_there k part bs rest)
 
 there_either : (part : List ℕ) (b : ℕ) (bs : List ℕ) (front : Bool) → begins part (b ∷ bs) ≡ front → (occurs part bs ≡ true → (k : ℕ) × OccursAt bs part k)
     → (front || occurs part bs) ≡ true → (k : ℕ) × OccursAt (b ∷ bs) part k

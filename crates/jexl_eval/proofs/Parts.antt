@@ -1,6 +1,7 @@
 -- What is known of parts: a part means the same for each item, and what is known stays true.
-use Rattle.std.proofs.Common.{◌≡◌, ℕ, zero, suc, Bool, true, false, ◌||◌, List, [], ◌∷◌, ◌++◌, Option, Some, None, Result, Ok, ◌⊎◌, inl, inr, refl, sym, ap, ap₂, ◌∙◌, subst}
+use Rattle.std.proofs.Common.{◌≡◌, ℕ, zero, suc, Bool, false, ◌||◌, List, [], ◌∷◌, ◌++◌, Option, Some, None, Result, Ok, ◌⊎◌, inl, inr, refl, sym, ap, ap₂, ◌∙◌, subst}
 use Rattle.std.specs.Prelude.{not, slice_get, slice_set, if◌then◌else◌, option_map, map}
+use Rattle.std.proofs.lemmas.Bool.{or_parts}
 use Rattle.json_tree.specs.Json.{Json, Members, truth, list, object, items_of, members_of}
 use Rattle.jexl_parser.specs.Tree as trees
 use Rattle.jexl_parser.specs.Tree.{Tree, Trees, Pairs, Literal, Named, Relative, Member, Index, Filter, Transform, Not, Binary, Choose, OrElse, none, one_more, no_pair, pair, has_relative, any_relative, any_pair_relative}
@@ -11,10 +12,6 @@ use Rattle.jexl_eval.specs.Operations.{decided, operate, filter_items}
 use Rattle.jexl_eval.specs.Meaning.{meaning, meanings, pair_meanings, transformed, unless_decided, kept, with_members}
 use Rattle.jexl_eval.specs.Steps.{IsPart}
 use Rattle.jexl_eval.specs.Parts.{AreUnknown, AreKnown}
-
-neither : (a b : Bool) → (a || b) ≡ false → (a ≡ false) × (b ≡ false)
-neither true b h = absurd cc
-neither false b h = (refl, h)
 
 module _ (has : List ℕ → Bool) (attributes : Members) (x y : Json) where
   abbrev choice : Result Json Fault → Result Json Fault → Result Json Fault → Result Json Fault
@@ -33,34 +30,34 @@ module _ (has : List ℕ → Bool) (attributes : Members) (x y : Json) where
     same_for (trees.Members ps) h = ap (λ r. r >>= λ ms. Ok (object (members_of (with_members [] ms)))) (pairs_same ps h)
     same_for (Member a n) h = ap (λ r. r >>= λ v. Ok (member n v)) (same_for a h)
     same_for (Index a b) h =
-        let e = neither (has_relative a) (has_relative b) h in
+        let e = or_parts (has_relative a) (has_relative b) h in
         ap₂ (λ r s. r >>= λ v. s >>= λ key. Ok (index v key)) (same_for a e.0) (same_for b e.1)
     same_for (Filter a b) h = ap (λ r. r >>= λ v. filter_items v >>= λ vs. kept (λ z. meaning has attributes z b) vs >>= λ ys. Ok (list (items_of ys))) (same_for a h)
     same_for (Transform a n ts) h =
-        let e = neither (has_relative a) (any_relative ts) h in
+        let e = or_parts (has_relative a) (any_relative ts) h in
         ap₂ (λ r s. r >>= λ v. s >>= λ vs. transformed has n attributes v vs) (same_for a e.0) (all_same ts e.1)
     same_for (Not a) h = ap (λ r. r >>= λ v. Ok (truth (not (is_truthy v)))) (same_for a h)
     same_for (Binary o a b) h =
-        let e = neither (has_relative a) (has_relative b) h in
+        let e = or_parts (has_relative a) (has_relative b) h in
         ap₂ (λ r s. r >>= λ v. unless_decided (decided o v) (s >>= λ w. operate o v w)) (same_for a e.0) (same_for b e.1)
     same_for (Choose a b c) h =
-        let e = neither (has_relative a) (has_relative b || has_relative c) h in
-        let d = neither (has_relative b) (has_relative c) e.1 in
+        let e = or_parts (has_relative a) (has_relative b || has_relative c) h in
+        let d = or_parts (has_relative b) (has_relative c) e.1 in
         ap₂ (λ r s. choice r s (meaning has attributes x c)) (same_for a e.0) (same_for b d.0) ∙ ap (λ u. choice (meaning has attributes y a) (meaning has attributes y b) u) (same_for c d.1)
     same_for (OrElse a c) h =
-        let e = neither (has_relative a) (has_relative c) h in
+        let e = or_parts (has_relative a) (has_relative c) h in
         ap₂ else_choice (same_for a e.0) (same_for c e.1)
 
     all_same : (ts : Trees) → any_relative ts ≡ false → meanings has attributes x ts ≡ meanings has attributes y ts
     all_same none h = refl
     all_same (one_more t ts) h =
-        let e = neither (has_relative t) (any_relative ts) h in
+        let e = or_parts (has_relative t) (any_relative ts) h in
         ap₂ (λ r s. r >>= λ v. s >>= λ vs. Ok (v ∷ vs)) (same_for t e.0) (all_same ts e.1)
 
     pairs_same : (ps : Pairs) → any_pair_relative ps ≡ false → pair_meanings has attributes x ps ≡ pair_meanings has attributes y ps
     pairs_same no_pair h = refl
     pairs_same (pair n t ps) h =
-        let e = neither (has_relative t) (any_pair_relative ps) h in
+        let e = or_parts (has_relative t) (any_pair_relative ps) h in
         ap₂ (λ r s. r >>= λ v. s >>= λ ms. Ok ((n, v) ∷ ms)) (same_for t e.0) (pairs_same ps e.1)
 
 -- one more that is unknown

@@ -5,10 +5,6 @@ use Rattle.std.proofs.lemmas.Bool.{ltb-true, ltb-false}
 use Rattle.std.proofs.lemmas.Str.{encode_ascii, inside_one, length-encode, len_utf8_bounds}
 use Rattle.jexl_lexer.specs.Scanning.{NoAsciiFront}
 
-pub no_bytes : (bs : List ℕ) → length bs ≡ 0 → bs ≡ []
-no_bytes [] e = refl
-no_bytes (b ∷ bs) e = absurd (omega arith)
-
 pub char_long : (c : ℕ) → 1 ≤ length (encode_utf8 c)
 char_long c = let b = len_utf8_bounds c in let e = length-encode c in omega arith
 

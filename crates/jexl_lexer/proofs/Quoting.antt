@@ -4,7 +4,7 @@ use Rattle.std.specs.Prelude.{◌==◌, ◌||◌, nat_lt, not, option_map, encod
 use Rattle.std.specs.Option.{unwrap_or}
 use Rattle.std.specs.Str.{IsCharBoundary}
 use Rattle.memchr.specs.Find.{IsFirstByte, is_byte2}
-use Rattle.std.proofs.lemmas.Bool.{eqb-true, eq-eqb, ltb-true, ltb-false}
+use Rattle.std.proofs.lemmas.Bool.{eq-eqb, ltb-true, ltb-false, ne_eqb}
 use Rattle.std.proofs.lemmas.Bool.Decides.{nat_tests}
 use Rattle.std.proofs.lemmas.Str.{encode_ascii, inside_one, IsCharBoundary-end, IsCharBoundary-before_ascii}
 use Rattle.jexl_lexer.proofs.Bytes.{char_long}
@@ -29,10 +29,6 @@ char_byte c k h l s = let e : c ≡ get_or (encode_utf8 c) k 0 = inside_one c []
 
 char_big : (c : ℕ) → 128 ≤ c → AllPastAscii (encode_utf8 c)
 char_big c h = all_big (encode_utf8 c) (λ k l. not_small (get_or (encode_utf8 c) k 0) (nat_lt (get_or (encode_utf8 c) k 0) 128) refl (char_byte c k h l))
-
-not_eq : (a b : ℕ) → (a ≡ b → ⊥) → (t : Bool) → (a == b) ≡ t → t ≡ false
-not_eq a b n true e = absurd (n (eqb-true a b e))
-not_eq a b n false e = refl
 
 abbrev Found : Type 0
 Found = Option (List ℕ × List ℕ)
@@ -59,8 +55,8 @@ high q e l = omega arith
 one_plain : (q c : ℕ) (cs : List ℕ) → (c ≡ q → ⊥) → (c ≡ 92 → ⊥) → inside q false (c ∷ cs) ≡ option_map (prepend c) (inside q false cs)
 unfolding inside
 one_plain q c cs n m =
-    ap (λ (t : Bool). cond t (Some ([], cs)) (cond (c == 92) (inside q true cs) (option_map (prepend c) (inside q false cs)))) (not_eq c q n (c == q) refl)
-    ∙ ap (λ (t : Bool). cond t (inside q true cs) (option_map (prepend c) (inside q false cs))) (not_eq c 92 m (c == 92) refl)
+    ap (λ (t : Bool). cond t (Some ([], cs)) (cond (c == 92) (inside q true cs) (option_map (prepend c) (inside q false cs)))) (ne_eqb c q n)
+    ∙ ap (λ (t : Bool). cond t (inside q true cs) (option_map (prepend c) (inside q false cs))) (ne_eqb c 92 m)
 
 big_plain : (q : ℕ) (xs rest : List ℕ) → q < 92 → AllPastAscii xs → inside q false (xs ++ rest) ≡ option_map (with_bytes xs) (inside q false rest)
 big_plain q [] rest l h = sym (map_none (inside q false rest))
@@ -114,7 +110,7 @@ unfolding inside
 backslash q c bs rest l e f =
     let s : encode_utf8 c ≡ 92 ∷ [] = encode_ascii c (omega arith) ∙ ap (λ (b : ℕ). b ∷ []) f in
     ap (inside q false) (e ∙ ap (λ (w : List ℕ). w ++ rest) s)
-    ∙ ap (λ (t : Bool). cond t (Some ([], rest)) (inside q true rest)) (not_eq 92 q (λ g. high q g l) (92 == q) refl)
+    ∙ ap (λ (t : Bool). cond t (Some ([], rest)) (inside q true rest)) (ne_eqb 92 q (λ g. high q g l))
 
 pub inside_escaped : (q c d : ℕ) (bs rest after : List ℕ) → q < 92 → bs ≡ encode_utf8 c ++ rest → c ≡ 92 → rest ≡ encode_utf8 d ++ after → inside q false bs ≡ option_map (with_bytes (encode_utf8 d)) (inside q false after)
 inside_escaped q c d bs rest after l e f g = backslash q c bs rest l e f ∙ ap (inside q true) g ∙ escaped_by q d after (nat_lt d 128) refl l

@@ -1,10 +1,9 @@
 -- What lexing gives are the tokens, or the first fault.
 use Rattle.std.proofs.Common.{◌≡◌, ℕ, zero, suc, ◌+◌, ◌^◌, ◌<◌, ◌≤◌, Bool, true, false, List, [], ◌∷◌, ◌++◌, length, Option, Some, None, Ok, Err, refl, sym, ap, subst, arith, length-append}
 use Rattle.std.specs.Prelude.{◌&&◌, ◌==◌, nat_lt}
-use Rattle.std.proofs.lemmas.Bool.{eqb-true, ltb-true, ltb-false}
+use Rattle.std.proofs.lemmas.Bool.{eqb-true, ltb-true, ltb-false, and_parts}
 use Rattle.jexl_lexer.specs.declared.lexer.TheConstants.{MAX_TOKENS}
 use Rattle.jexl_lexer.specs.declared.token.Sign.{Sign}
-use Rattle.jexl_lexer.specs.declared.token.Sign.TheVariants.{And, Or, Equal, NotEqual, AtMost, AtLeast, FloorDiv, Less, Greater, Plus, Minus, Star, Percent, Caret, Bang, Question, Colon, Dot, Comma, LeftRound, RightRound, LeftSquare, RightSquare, LeftBrace, RightBrace, Bar}
 use Rattle.jexl_lexer.specs.declared.token.TokenKind.{TokenKind}
 use Rattle.jexl_lexer.specs.declared.token.TokenKind.TheVariants as kinds
 use Rattle.sequences.specs.Runs.{run, value_from}
@@ -12,15 +11,11 @@ use Rattle.jexl_lexer.specs.Lexing.{is_blank, is_digit, is_start, is_word, is_qu
 use Rattle.jexl_lexer.specs.Scanning.{inside, first_sign, all_signs}
 use Rattle.jexl_lexer.specs.Reading.{TokenRead, decimal, value_part, number_part, quote_part, sign_part, other_part, name_part, token_part, token_at, AllRead, in_front, end_of, after_token, room_part, blank_part, lex_from}
 use Rattle.jexl_lexer.proofs.Scans.{run_is, Closed, inside_is}
-use Rattle.jexl_lexer.proofs.LongestSign.{Told, sign_told}
+use Rattle.jexl_lexer.proofs.LongestSign.{Told, sign_told, at_least_one}
 
 abbrev pub Tells : List ℕ → TokenRead → Type 0
 Tells bs (Ok x) = Begins bs x.0 x.1
 Tells bs (Err f) = FaultAt bs f
-
-and_true : (a b : Bool) → (a && b) ≡ true → (a ≡ true) × (b ≡ true)
-and_true true b e = (refl, e)
-and_true false b e = absurd cc
 
 and_false : (a b : Bool) → (a && b) ≡ false → a ≡ true → b ≡ true → ⊥
 and_false true b e f g = cc
@@ -29,7 +24,7 @@ and_false false b e f g = cc
 decimal_is : (bs : List ℕ) → decimal bs ≡ true → IsDecimal bs
 decimal_is [] e = absurd cc
 decimal_is (b ∷ []) e = absurd cc
-decimal_is (b ∷ c ∷ bs) e = let p = and_true (b == 46) (is_digit c) e in (eqb-true b 46 p.0, p.1)
+decimal_is (b ∷ c ∷ bs) e = let p = and_parts (b == 46) (is_digit c) e in (eqb-true b 46 p.0, p.1)
 
 decimal_not : (bs : List ℕ) → decimal bs ≡ false → IsDecimal bs → ⊥
 decimal_not [] e h = h
@@ -75,40 +70,12 @@ pub tells : (b : ℕ) (bs : List ℕ) → Tells (b ∷ bs) (token_at b bs)
 unfolding token_at
 tells b bs = tells_part b bs (is_digit b) refl
 
-sign_long : (s : Sign) → 1 ≤ length (sign_text s)
-sign_long And = omega arith
-sign_long Or = omega arith
-sign_long Equal = omega arith
-sign_long NotEqual = omega arith
-sign_long AtMost = omega arith
-sign_long AtLeast = omega arith
-sign_long FloorDiv = omega arith
-sign_long Less = omega arith
-sign_long Greater = omega arith
-sign_long Plus = omega arith
-sign_long Minus = omega arith
-sign_long Star = omega arith
-sign_long Percent = omega arith
-sign_long Caret = omega arith
-sign_long Bang = omega arith
-sign_long Question = omega arith
-sign_long Colon = omega arith
-sign_long Dot = omega arith
-sign_long Comma = omega arith
-sign_long LeftRound = omega arith
-sign_long RightRound = omega arith
-sign_long LeftSquare = omega arith
-sign_long RightSquare = omega arith
-sign_long LeftBrace = omega arith
-sign_long RightBrace = omega arith
-sign_long Bar = omega arith
-
 -- a token takes at least one byte
 pub shrinks : {bs rest : List ℕ} {k : TokenKind} → Begins bs k rest → length rest < length bs
 shrinks (number d ds rest p s n v) = omega (arith, length-append ds rest)
 shrinks (name b bs rest e p s) = omega (arith, length-append bs rest)
 shrinks (quoted q body text rest e i) = omega (arith, length-append body (q ∷ rest))
-shrinks (sign s rest l) = omega (arith, length-append (sign_text s) rest, sign_long s)
+shrinks (sign s rest l) = omega (arith, length-append (sign_text s) rest, at_least_one s)
 
 -- all of the bytes
 abbrev pub Lexed : ℕ → ℕ → List ℕ → AllRead → Type 0

@@ -1,7 +1,7 @@
 -- What is spelled is what lexing gives.
 use Rattle.std.proofs.Common.{◌≡◌, ◌≢◌, ℕ, zero, suc, ◌+◌, ◌^◌, ◌<◌, Bool, true, false, cond, List, [], ◌∷◌, ◌++◌, length, Option, Some, None, Ok, Err, refl, sym, ap, ◌∙◌, arith, ◌⊎◌, inl, inr}
-use Rattle.std.specs.Prelude.{◌&&◌, ◌==◌}
-use Rattle.std.proofs.lemmas.Bool.{eq-eqb, lt-ltb, le-ltb}
+use Rattle.std.specs.Prelude.{◌==◌}
+use Rattle.std.proofs.lemmas.Bool.{eq-eqb, lt-ltb, le-ltb, and_from}
 use Rattle.std.proofs.lemmas.Bool.Decides.{nat_tests}
 use Rattle.jexl_lexer.specs.declared.lexer.TheConstants.{MAX_TOKENS}
 use Rattle.jexl_lexer.specs.declared.token.Token.{Token}
@@ -21,11 +21,6 @@ use Rattle.jexl_lexer.proofs.LongestSign.{Told, sign_told}
 use Rattle.jexl_lexer.proofs.Soundness.{shrinks, Lexed, lexed}
 use Rattle.jexl_lexer.specs.Laws.{OneList, OneFault, NeverBoth, AlwaysOne}
 use Rattle.jexl_lexer.proofs.Scans.{run_there, inside_there, never_there}
-
-and_makes : (a b : Bool) → a ≡ true → b ≡ true → (a && b) ≡ true
-and_makes true true e f = refl
-and_makes true false e f = cc
-and_makes false b e f = cc
 
 pub start_no_digit : (b : ℕ) → is_start b ≡ true → is_digit b ≡ false
 start_no_digit b h = grind (arith, nat_tests)
@@ -161,7 +156,7 @@ token_only (sign s rest l) = sign_front s rest ∙ ap sign_part (sign_found s re
 is_decimal : (bs : List ℕ) → IsDecimal bs → decimal bs ≡ true
 is_decimal [] h = absurd h
 is_decimal (b ∷ []) h = absurd h
-is_decimal (b ∷ c ∷ bs) h = and_makes (b == 46) (is_digit c) (eq-eqb b 46 h.0) h.1
+is_decimal (b ∷ c ∷ bs) h = and_from (b == 46) (is_digit c) (eq-eqb b 46 h.0) h.1
 
 -- and a fault at the front is found
 pub fault_only : {bs : List ℕ} {f : Fault} → FaultAt bs f → token_of bs ≡ Err f

@@ -45,7 +45,7 @@ fn first_other(bytes: &[u8], class: ByteClass) -> Option<usize>
 }
 
 /// The first character, and the text after it.
-#[tactic(auto, using(crate::proofs::Bytes::no_bytes, crate::proofs::Bytes::shorter))]
+#[tactic(auto, using(std::proofs::lemmas::List::nil_from_length, crate::proofs::Bytes::shorter))]
 pub fn first_char(text: &str) -> Option<(char, &str)>
     ensures found { MatchOption result (text.now ≡ []) (λ x. text.now ≡ encode_utf8 x.0 ++ x.1.now) }
     ensures short { IfSome result (λ x. length x.1.now < length text.now) }

@@ -1,9 +1,10 @@
 -- A moment that is written out reads back, in each form.
-use Rattle.std.proofs.Common.{◌≡◌, ℕ, suc, zero, ◌+◌, ◌-◌, ◌*◌, ◌<◌, ◌≤◌, Bool, true, false, List, [], ◌∷◌, ◌++◌, length, drop, Option, Some, None, refl, sym, ap, ◌∙◌, arith, le-leb, IsTrue, append-nil}
-use Rattle.std.specs.Prelude.{ℤ, pos, negsuc, neg_ℤ, ◌+ℤ◌, ◌-ℤ◌, ◌*ℤ◌, ◌==◌, not, option_map, option_and_then, if◌then◌else◌, nat_le, ◌&&◌, ⊤}
+use Rattle.std.proofs.Common.{◌≡◌, ℕ, suc, zero, ◌+◌, ◌-◌, ◌*◌, ◌<◌, ◌≤◌, true, false, List, [], ◌∷◌, ◌++◌, length, drop, Option, Some, None, refl, sym, ap, ◌∙◌, arith, le-leb, IsTrue, append-nil}
+use Rattle.std.specs.Prelude.{ℤ, pos, negsuc, neg_ℤ, ◌+ℤ◌, ◌-ℤ◌, ◌*ℤ◌, ◌==◌, not, option_map, option_and_then, if◌then◌else◌, nat_le, ⊤}
 use Rattle.std.specs.Char.{is_ascii_digit}
 use Rattle.std.specs.List.{list_all}
 use Rattle.std.proofs.lemmas.Int.{ints}
+use Rattle.std.proofs.lemmas.Bool.{and_parts}
 use Rattle.jiff_core.specs.Calendar.{IsCivilDate, days_from_civil}
 use Rattle.plain_text.specs.Moments.{two, then_two, date, hours_and_minutes, clock, digits_in_front, without_fraction, at_end, offset, time, moment}
 use Rattle.plain_text.specs.Laws.{two_digits, date_text, clock_text, IsTime, IsFraction, time_text, offset_text, day_start, seconds_in, DayReadsBack, PlainTimeReadsBack, UtcTimeReadsBack, FractionIsDropped, AheadReadsBack, BehindReadsBack}
@@ -21,15 +22,11 @@ abbrev Ends : List ℕ → Type 0
 Ends [] = ⊤
 Ends (x ∷ zone) = (is_ascii_digit x ≡ false) × ((x == 46) ≡ false)
 
-both : (a b : Bool) → (a && b) ≡ true → (a ≡ true) × (b ≡ true)
-both true b is = (refl, is)
-both false b is = absurd cc
-
 digits_then : (ds zone : List ℕ) → list_all is_ascii_digit ds ≡ true → Ends zone → digits_in_front (ds ++ zone) ≡ length ds
 digits_then [] [] all ends = refl
 digits_then [] (x ∷ zone) all ends = rw ends.0 refl
 digits_then (x ∷ ds) zone all ends =
-    let parts = both (is_ascii_digit x) (list_all is_ascii_digit ds) all in
+    let parts = and_parts (is_ascii_digit x) (list_all is_ascii_digit ds) all in
     rw parts.0 (omega (arith, digits_then ds zone parts.1 ends))
 
 dropped : (ds zone : List ℕ) → drop (length ds) (ds ++ zone) ≡ zone

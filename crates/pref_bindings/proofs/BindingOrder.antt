@@ -6,19 +6,15 @@ use Rattle.std.specs.List.{AllByRecursion}
 use Rattle.std.specs.List.Sorted.{IsStrictlySortedBy}
 use Rattle.std.specs.Ordering.{ordering_then}
 use Rattle.std.proofs.lemmas.Cmp.{tied_itself}
+use Rattle.sequences.proofs.Alls.{all_so, all_push}
 use Rattle.json_tree.specs.Json as json
 use Rattle.json_tree.specs.Json.{Json, Members, no_members, member, AreSoundMembers, IsBelow, IsSound}
 use Rattle.plain_text.specs.Names.{is_name}
 use Rattle.recipe_reader.specs.Outcome.{only_if}
 use Rattle.recipe_reader.specs.Payloads.{slug_cmp}
 use Rattle.enrol_states.specs.Order.{is_in}
-use Rattle.row_batches.proofs.Keeping.{all_push}
 use Rattle.pref_bindings.specs.declared.bindings.Binding.{Binding}
 use Rattle.pref_bindings.specs.Bindings.{AreByVariable, binding_cmp, or_at_fault, preferences_of, with_feature, with_features, with_variable, with_variables}
-
-all_to : {X : Type 0} (P Q : X → Type 0) (xs : Seq X) → ((x : X) → P x → Q x) → AllByRecursion P xs → AllByRecursion Q xs
-all_to P Q [] to all = tt
-all_to P Q (x ∷ xs) to all = (to x all.0, all_to P Q xs to all.1)
 
 -- ---- one variable more
 
@@ -65,10 +61,10 @@ variables_order feature bs cs no_members one sound order before = let same : bs 
 variables_order feature bs cs (member variable x vs) one sound order before =
     at (with_variable feature bs variable x) refl one (λ more rest order_more before_more. variables_order feature more cs vs rest sound.3 order_more before_more) where
       first : AllByRecursion (λ b. binding_cmp b (bound_to feature variable []) ≡ Less) bs
-      first = all_to (IsBefore feature (member variable x vs)) (λ b. binding_cmp b (bound_to feature variable []) ≡ Less) bs (λ b both. both.0) before
+      first = all_so (IsBefore feature (member variable x vs)) (λ b. binding_cmp b (bound_to feature variable []) ≡ Less) bs (λ b both. both.0) before
 
       others : AllByRecursion (IsBefore feature vs) bs
-      others = all_to (IsBefore feature (member variable x vs)) (IsBefore feature vs) bs (λ b both. both.1) before
+      others = all_so (IsBefore feature (member variable x vs)) (IsBefore feature vs) bs (λ b both. both.1) before
 
       at : (o : Option (Seq Binding)) → with_variable feature bs variable x ≡ o → option_and_then (λ more. with_variables feature more vs) o ≡ Some cs
           → ((more : Seq Binding) → with_variables feature more vs ≡ Some cs → AreByVariable more → AllByRecursion (IsBefore feature vs) more → AreByVariable cs) → AreByVariable cs
@@ -110,8 +106,8 @@ feature_order bs cs feature (json.list xs) ms one sound below after = absurd cc
 feature_order bs cs feature (json.object vs) ms one sound below after =
     record {
       order =
-          variables_order feature bs cs vs one sound after.order (all_to (IsBelowAll (member feature (json.object vs) ms)) (IsBefore feature vs) bs (λ b both. before_feature feature vs b both.0) after.below);
-      below = variables_features (λ f. IsBelow f ms) feature bs cs vs one below (all_to (IsBelowAll (member feature (json.object vs) ms)) (IsBelowAll ms) bs (λ b both. both.1) after.below);
+          variables_order feature bs cs vs one sound after.order (all_so (IsBelowAll (member feature (json.object vs) ms)) (IsBefore feature vs) bs (λ b both. before_feature feature vs b both.0) after.below);
+      below = variables_features (λ f. IsBelow f ms) feature bs cs vs one below (all_so (IsBelowAll (member feature (json.object vs) ms)) (IsBelowAll ms) bs (λ b both. both.1) after.below);
     }
 
 features_order : (bs cs : Seq Binding) (ms : Members) → with_features bs ms ≡ Ok cs → AreSoundMembers ms → IsAfter bs ms → AreByVariable cs

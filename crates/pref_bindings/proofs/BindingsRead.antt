@@ -3,6 +3,8 @@ use Rattle.std.proofs.Common.{◌≡◌, ℕ, suc, ◌+◌, ◌<◌, ◌≤◌, 
 use Rattle.std.specs.Prelude.{◌&&◌, ◌||◌, not, bytes_eq, option_and_then}
 use Rattle.std.specs.List.{AllByRecursion}
 use Rattle.std.proofs.lemmas.List.{drop_all, map-append}
+use Rattle.std.proofs.lemmas.Bool.{or_parts}
+use Rattle.sequences.proofs.Alls.{all_push}
 use Rattle.json_tree.specs.Json as json
 use Rattle.json_tree.specs.Json.{Json, Members, no_members, member, members_of}
 use Rattle.json_tree.specs.Tree.{json_of, member_of}
@@ -11,10 +13,9 @@ use Rattle.plain_text.specs.Names.{is_name}
 use Rattle.recipe_reader.specs.Outcome.{only_if}
 use Rattle.enrol_states.specs.Order.{is_in}
 use Rattle.enrol_states.proofs.Ordered.{bytes_turned}
-use Rattle.row_batches.proofs.Keeping.{all_push}
 use Rattle.pref_bindings.specs.declared.bindings.Binding.{Binding}
 use Rattle.pref_bindings.specs.Bindings.{AreBindings, Differ, or_at_fault, preferences_of, with_feature, with_features, with_variable, with_variables}
-use Rattle.pref_bindings.proofs.FoundBindings.{in_pushed, left_false, right_false}
+use Rattle.pref_bindings.proofs.FoundBindings.{in_pushed}
 
 here : (xs : Seq (Seq ℕ × Tree)) (i : ℕ) (x : Seq ℕ × Tree) → i < length xs → x ≡ get_or xs i x → drop i xs ≡ x ∷ drop (i + 1) xs
 here xs i x h is = rw add-one (drop-cons xs i x h ∙ ap (λ y. y ∷ drop (suc i) xs) (sym is))
@@ -66,7 +67,7 @@ features_end bs xs i all h so_far = sym so_far ∙ ap (λ ys. with_features bs (
 differ_pushed : (ts : Seq (Seq ℕ)) (k : Seq ℕ) → Differ ts → is_in ts k ≡ false → Differ (ts ++ k ∷ [])
 differ_pushed [] k differ new = (refl, tt)
 differ_pushed (t ∷ ts) k differ new =
-    (in_pushed t k ts ∙ both (is_in ts t) (bytes_eq k t) differ.0 (turned_false t k (left_false (bytes_eq t k) (is_in ts k) new)), differ_pushed ts k differ.1 (right_false (bytes_eq t k) (is_in ts k) new)) where
+    (in_pushed t k ts ∙ both (is_in ts t) (bytes_eq k t) differ.0 (turned_false t k (or_parts (bytes_eq t k) (is_in ts k) new).0), differ_pushed ts k differ.1 (or_parts (bytes_eq t k) (is_in ts k) new).1) where
       both : (a b : Bool) → a ≡ false → b ≡ false → (a || b) ≡ false
       both a b h k = ap (λ c. c || b) h ∙ k
 

@@ -1,5 +1,5 @@
 -- What a branch sets, one binding after the other; and that it is such as a join takes.
-use Rattle.std.proofs.Common.{◌≡◌, ℕ, zero, suc, ◌+◌, ◌<◌, Bool, true, false, cond, List as Seq, [], ◌∷◌, ◌++◌, length, get_or, map, take, Option, Some, None, Less, Equal, Greater, IsTrue, refl, sym, ap, ◌∙◌, subst, arith}
+use Rattle.std.proofs.Common.{◌≡◌, ℕ, ◌+◌, ◌<◌, Bool, true, false, cond, List as Seq, [], ◌∷◌, ◌++◌, length, get_or, map, take, Option, Some, None, Less, Equal, Greater, IsTrue, refl, sym, ap, ◌∙◌, subst}
 use Rattle.std.specs.Prelude.{bytes_eq, fold}
 use Rattle.std.specs.BTreeMap.{insert_entry}
 use Rattle.std.specs.List.{AllByRecursion, cons_option, filter_map, flat_map}
@@ -9,6 +9,7 @@ use Rattle.std.specs.declared.cmp.Ordering.{Ordering}
 use Rattle.std.proofs.lemmas.List.{take_more}
 use Rattle.std.proofs.lemmas.List.Elements.{filter_map-append}
 use Rattle.std.proofs.lemmas.List.Sums.{fold-append}
+use Rattle.sequences.proofs.Alls.{all_at}
 use Rattle.json_tree.specs.Json.{IsSound}
 use Rattle.json_tree.specs.Tree.{json_of}
 use Rattle.json_tree.specs.declared.tree.Tree.{Tree}
@@ -89,13 +90,8 @@ put_each k v (e ∷ es) named sound all = at (slug_cmp k e.0) (put_each k v es n
 pub are_settings : (vs ws : Seq Setting) → vs ≡ ws → Rise (map (λ v. v.0) ws) → AllByRecursion IsSetting ws → AreSettings vs
 are_settings vs ws same rise all = subst AreSettings (sym same) (record { names = rise; each = all })
 
-named_get : (bs : Seq Binding) (i : ℕ) (d : Binding) → i < length bs → AllByRecursion (λ b. IsTrue (is_name b.preference)) bs → IsTrue (is_name (get_or bs i d).preference)
-named_get [] i d h all = absurd (omega arith)
-named_get (b ∷ bs) zero d h all = all.0
-named_get (b ∷ bs) (suc i) d h all = named_get bs i d (omega arith) all.1
-
 pub named_at : (bs : Seq Binding) (i : ℕ) (b : Binding) → i < length bs → b ≡ get_or bs i b → AllByRecursion (λ c. IsTrue (is_name c.preference)) bs → IsTrue (is_name b.preference)
-named_at bs i b h at all = subst (λ (c : Binding). IsTrue (is_name c.preference)) (sym at) (named_get bs i b h all)
+named_at bs i b h at all = subst (λ (c : Binding). IsTrue (is_name c.preference)) (sym at) (all_at (λ (c : Binding). IsTrue (is_name c.preference)) bs i b h all)
 
 -- ---- what a bound type takes is a value of a preference
 

@@ -8,6 +8,8 @@ use Rattle.std.specs.Ordering.{is_lt, ordering_then}
 use Rattle.std.proofs.lemmas.Bool.{cases_lt}
 use Rattle.std.proofs.lemmas.List.{take_all}
 use Rattle.std.proofs.lemmas.Map.Keys.{Less-from_sorted}
+use Rattle.sequences.proofs.Texts.{is_Less}
+use Rattle.sequences.proofs.Alls.{all_at}
 use Rattle.recipe_reader.specs.Payloads.{slug_cmp}
 use Rattle.enrol_states.proofs.Ordered.{less_trans, same_texts, lesser_texts}
 use Rattle.pref_bindings.specs.declared.bindings.Binding.{Binding}
@@ -67,11 +69,6 @@ same_feature a b Less v e less apart = let two : true ≡ false = sym (ap is_lt 
 same_feature a b Equal v e less apart = same_texts a b e
 same_feature a b Greater v e less apart = absurd cc
 
-less_from : (o : Ordering) → is_lt o ≡ true → o ≡ Less
-less_from Less e = refl
-less_from Equal e = absurd cc
-less_from Greater e = absurd cc
-
 abbrev pub is_below : List ℕ → Binding → Bool
 is_below feature b = is_lt (slug_cmp b.feature feature)
 
@@ -81,14 +78,9 @@ below_parted feature bs order i j d most within is =
       | inl less ↦
           let a = get_or bs i d in
           let b = get_or bs j d in
-          ap is_lt (most_feature a.feature b.feature (slug_cmp a.feature b.feature) (slug_cmp a.variable b.variable) refl (Less-from_sorted binding_cmp bs i j d order less within) feature (less_from (slug_cmp b.feature feature) is))
+          ap is_lt (most_feature a.feature b.feature (slug_cmp a.feature b.feature) (slug_cmp a.variable b.variable) refl (Less-from_sorted binding_cmp bs i j d order less within) feature (is_Less (slug_cmp b.feature feature) is))
       | inr least ↦ let same : j ≡ i = omega arith in subst (λ k. is_below feature (get_or bs k d) ≡ true) same is
     ]
-
-all_at : {X : Type 0} (P : X → Type 0) (xs : List X) (i : ℕ) (d : X) → i < length xs → AllByRecursion P xs → P (get_or xs i d)
-all_at P [] i d less all = absurd (omega arith)
-all_at P (x ∷ xs) zero d less all = all.0
-all_at P (x ∷ xs) (suc i) d less all = all_at P xs i d (omega arith) all.1
 
 abbrev pub is_of : List ℕ → Binding → Bool
 is_of feature b = bytes_eq b.feature feature
@@ -113,10 +105,6 @@ order_behind (b ∷ bs) (suc i) order = order_behind bs i order.1
 
 -- ---- those of a feature are among those that aren't below it
 
-negated : (b : Bool) → not b ≡ true → b ≡ false
-negated true e = absurd cc
-negated false e = refl
-
 pub none_below : (feature : List ℕ) (bs : List Binding) → AllByRecursion (λ b. is_below feature b ≡ false) (filter (λ b. not (is_below feature b)) bs)
 none_below feature [] = tt
 none_below feature (b ∷ bs) = at (is_below feature b) refl (none_below feature bs) where
@@ -125,7 +113,7 @@ none_below feature (b ∷ bs) = at (is_below feature b) refl (none_below feature
   at false e rest = subst (AllByRecursion (λ d. is_below feature d ≡ false)) (sym (kept (λ d. not (is_below feature d)) b bs (ap not e))) (e, rest)
 
 below_apart : (feature : List ℕ) (b : Binding) → is_below feature b ≡ true → is_of feature b ≡ false
-below_apart feature b is = lesser_texts b.feature feature (less_from (slug_cmp b.feature feature) is)
+below_apart feature b is = lesser_texts b.feature feature (is_Less (slug_cmp b.feature feature) is)
 
 pub own_among : (feature : List ℕ) (bs : List Binding) → of_feature feature (filter (λ b. not (is_below feature b)) bs) ≡ of_feature feature bs
 own_among feature [] = refl

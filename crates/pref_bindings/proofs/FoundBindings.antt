@@ -7,10 +7,11 @@ use Rattle.std.specs.List.{list_any}
 use Rattle.std.specs.Ordering.{is_eq, match_ordering}
 use Rattle.std.specs.declared.cmp.Ordering.{Ordering}
 use Rattle.std.proofs.lemmas.List.{map-append}
-use Rattle.std.proofs.lemmas.Map.Text.{is_eq-slice_cmp}
+use Rattle.std.proofs.lemmas.Bool.{or_parts}
+use Rattle.std.proofs.Math.Bool.{or_comm, or_assoc}
+use Rattle.sequences.proofs.Texts.{is_eq-turned}
 use Rattle.recipe_reader.specs.Payloads.{slug_cmp}
 use Rattle.enrol_states.specs.Order.{is_in}
-use Rattle.enrol_states.proofs.Ordered.{bytes_turned}
 use Rattle.pref_bindings.specs.declared.bindings.Binding.{Binding}
 use Rattle.pref_bindings.specs.Bindings.{preferences_of}
 
@@ -18,42 +19,21 @@ use Rattle.pref_bindings.specs.Bindings.{preferences_of}
 abbrev pub holds : List (List ℕ) → List ℕ → Bool
 holds keys name = list_any (is_at (slug_cmp name)) keys
 
-sides : (a b : List ℕ) → is_eq (slug_cmp a b) ≡ bytes_eq b a
-sides a b = is_eq-slice_cmp a b ∙ bytes_turned a b
-
-or_turned : (a b : Bool) → (a || b) ≡ (b || a)
-or_turned true true = refl
-or_turned true false = refl
-or_turned false true = refl
-or_turned false false = refl
-
-or_grouped : (a b c : Bool) → (a || (b || c)) ≡ ((a || b) || c)
-or_grouped true b c = refl
-or_grouped false b c = refl
-
-pub left_false : (a b : Bool) → (a || b) ≡ false → a ≡ false
-left_false true b h = absurd cc
-left_false false b h = refl
-
-pub right_false : (a b : Bool) → (a || b) ≡ false → b ≡ false
-right_false true b h = absurd cc
-right_false false b h = h
-
 holds-insert : (k q x : List ℕ) (xs inserted : List (List ℕ)) (o : Ordering) → is_eq o ≡ false → holds inserted q ≡ (holds xs q || bytes_eq k q) → holds (match_ordering o (k ∷ x ∷ xs) (x ∷ xs) (x ∷ inserted)) q ≡ (holds (x ∷ xs) q || bytes_eq k q)
-holds-insert k q x xs inserted Less apart rest = ap (λ b. b || holds (x ∷ xs) q) (sides q k) ∙ or_turned (bytes_eq k q) (holds (x ∷ xs) q)
+holds-insert k q x xs inserted Less apart rest = ap (λ b. b || holds (x ∷ xs) q) (is_eq-turned q k) ∙ or_comm (bytes_eq k q) (holds (x ∷ xs) q)
 holds-insert k q x xs inserted Equal apart rest = absurd cc
-holds-insert k q x xs inserted Greater apart rest = ap (λ b. is_eq (slug_cmp q x) || b) rest ∙ or_grouped (is_eq (slug_cmp q x)) (holds xs q) (bytes_eq k q)
+holds-insert k q x xs inserted Greater apart rest = ap (λ b. is_eq (slug_cmp q x) || b) rest ∙ sym (or_assoc (is_eq (slug_cmp q x)) (holds xs q) (bytes_eq k q))
 
 -- a new key is there, and the others as before
 holds_insert : (k q : List ℕ) (ks : List (List ℕ)) → holds ks k ≡ false → holds (insert_key slug_cmp ks k) q ≡ (holds ks q || bytes_eq k q)
-holds_insert k q [] absent = ap (λ b. b || false) (sides q k) ∙ or_turned (bytes_eq k q) false
+holds_insert k q [] absent = ap (λ b. b || false) (is_eq-turned q k) ∙ or_comm (bytes_eq k q) false
 holds_insert k q (x ∷ xs) absent =
-    let apart : is_eq (slug_cmp k x) ≡ false = left_false (is_eq (slug_cmp k x)) (holds xs k) absent in
-    holds-insert k q x xs (insert_key slug_cmp xs k) (slug_cmp k x) apart (holds_insert k q xs (right_false (is_eq (slug_cmp k x)) (holds xs k) absent))
+    let apart : is_eq (slug_cmp k x) ≡ false = (or_parts (is_eq (slug_cmp k x)) (holds xs k) absent).0 in
+    holds-insert k q x xs (insert_key slug_cmp xs k) (slug_cmp k x) apart (holds_insert k q xs (or_parts (is_eq (slug_cmp k x)) (holds xs k) absent).1)
 
 pub in_pushed : (q k : List ℕ) (ts : List (List ℕ)) → is_in (ts ++ k ∷ []) q ≡ (is_in ts q || bytes_eq k q)
-in_pushed q k [] = or_turned (bytes_eq k q) false
-in_pushed q k (t ∷ ts) = ap (λ b. bytes_eq t q || b) (in_pushed q k ts) ∙ or_grouped (bytes_eq t q) (is_in ts q) (bytes_eq k q)
+in_pushed q k [] = or_comm (bytes_eq k q) false
+in_pushed q k (t ∷ ts) = ap (λ b. bytes_eq t q || b) (in_pushed q k ts) ∙ sym (or_assoc (bytes_eq t q) (is_in ts q) (bytes_eq k q))
 
 -- one more preference in the set and among the bindings
 pub found_next : (b : Binding) (keys more : List (List ℕ)) (bs longer : List Binding) → ((q : List ℕ) → holds keys q ≡ is_in (preferences_of bs) q) → is_in (preferences_of bs) b.preference ≡ false

@@ -2,6 +2,7 @@
 use Rattle.std.proofs.Common.{Ordering, Less, Equal, Greater, ◌≡◌, ℕ, Bool, true, false, cond, List, [], ◌∷◌, ◌++◌, Option, None, Some, refl, sym, ap, ◌∙◌}
 use Rattle.std.specs.List.{list_any}
 use Rattle.std.specs.Option.{is_some}
+use Rattle.std.proofs.lemmas.Bool.{or_parts}
 use Rattle.json_tree.specs.declared.tree.Tree.{Tree}
 use Rattle.recipe_reader.specs.Payloads.{slug_cmp}
 use Rattle.row_batches.specs.declared.store_row.StoreRow.{StoreRow}
@@ -12,7 +13,6 @@ use Rattle.pref_bindings.specs.Held.{held_preferences}
 use Rattle.pref_bindings.specs.Laws.{HoldsNone}
 use Rattle.pref_bindings.specs.Preferences.{holder_of}
 use Rattle.pref_bindings.specs.Rows.{hold_row, hold_rows}
-use Rattle.pref_bindings.proofs.FoundBindings.{left_false, right_false}
 use Rattle.pref_bindings.proofs.Places.{with_step, without_step}
 use Rattle.pref_bindings.proofs.UserMaps.{free_behind, free_here, left_none, own}
 
@@ -51,7 +51,7 @@ holds_none_of : (slug : List ℕ) (ps : List Preference) → list_any (λ p. hol
 holds_none_of slug [] none = tt
 holds_none_of slug (p ∷ ps) none =
     let others = list_any (λ (q : Preference). holds slug q.hold) ps in
-    (left_false (holds slug p.hold) others none, holds_none_of slug ps (right_false (holds slug p.hold) others none))
+    ((or_parts (holds slug p.hold) others none).0, holds_none_of slug ps (or_parts (holds slug p.hold) others none).1)
 
 -- a leave of a slug that holds none of them changes nothing
 pub left_held : (slug : List ℕ) (ps : List Preference) → list_any (λ p. holds slug p.hold) (held_preferences ps) ≡ false → left slug ps ≡ ps

@@ -3,6 +3,7 @@ use Rattle.std.proofs.Common.{Ordering, Less, Equal, Greater, ◌≡◌, ℕ, Bo
 use Rattle.std.specs.Prelude.{bytes_eq, option_map, if◌then◌else◌}
 use Rattle.std.specs.Cmp.Lexicographic.{bytes_decides}
 use Rattle.std.specs.List.Sorted.{IsStrictlySortedBy}
+use Rattle.std.proofs.lemmas.Option.{same_Some}
 use Rattle.recipe_reader.specs.Payloads.{slug_cmp}
 use Rattle.enrol_states.specs.Order.{Rise, AreAbove}
 use Rattle.enrol_states.proofs.Ordered.{same_texts, lesser_texts, above_trans}
@@ -15,9 +16,6 @@ use Rattle.pref_bindings.proofs.Joins.{joined_name, one_step, stays_held}
 use Rattle.pref_bindings.proofs.Parts.{AtMost, restored_most}
 use Rattle.pref_bindings.proofs.Places.{found_step, holder_in, with_step, without_step}
 use Rattle.pref_bindings.proofs.Sound.{rise_one}
-
-some_same : {A : Type 0} (x y : A) → Some x ≡ Some y → x ≡ y
-some_same x y same = cc
 
 other_bytes : (b : Bool) (xs ys : List ℕ) → bytes_eq xs ys ≡ b → (xs ≡ ys → ⊥) → bytes_eq xs ys ≡ false
 other_bytes true xs ys is other = absurd (other ((bytes_decides xs ys).0 is))
@@ -41,7 +39,7 @@ one_at Less b slug v p q ps e is above held there rest =
     let less : slug_cmp v.0 p.name ≡ Less = above_found v.0 p (q ∷ ps) (e, above_trans v.0 q.name (names_of ps) e above) there in
     ap (found p.name) (one_step slug v q ps Less e) ∙ found_step p.name (held_by slug v None) (q ∷ ps) false (lesser_texts v.0 p.name less) ∙ there
 one_at Equal true slug v p q ps e is above held there rest =
-    let one : q ≡ p = some_same q p (sym (found_step p.name q ps true is) ∙ there) in
+    let one : q ≡ p = same_Some q p (sym (found_step p.name q ps true is) ∙ there) in
     ap (found p.name) (one_step slug v q ps Equal e) ∙ ap (λ (r : Preference). found p.name (r ∷ ps)) (stays_held slug v q (ap (λ (r : Preference). is_held r.hold) one ∙ held)) ∙ there
 one_at Equal false slug v p q ps e is above held there rest =
     let name : (joined_at slug v q).name ≡ q.name = joined_name (is_held q.hold) slug v q (sym (same_texts v.0 q.name e)) ∙ same_texts v.0 q.name e in
@@ -77,7 +75,7 @@ not_restored slug q other = ap (λ (b : Bool). if b then users_part q q.hold els
 leave_at : (b : Bool) (slug : List ℕ) (p q : Preference) (ps : List Preference) → bytes_eq q.name p.name ≡ b → holds slug p.hold ≡ false → found p.name (q ∷ ps) ≡ Some p
     → (found p.name ps ≡ Some p → found p.name (left slug ps) ≡ Some p) → found p.name (left slug (q ∷ ps)) ≡ Some p
 leave_at true slug p q ps is other there rest =
-    let one : q ≡ p = some_same q p (sym (found_step p.name q ps true is) ∙ there) in
+    let one : q ≡ p = same_Some q p (sym (found_step p.name q ps true is) ∙ there) in
     ap (λ (l : List Preference). found p.name (l ++ left slug ps)) (not_restored slug q (ap (λ (r : Preference). holds slug r.hold) one ∙ other))
     ∙ found_step p.name q (left slug ps) true is ∙ ap Some one
 leave_at false slug p q ps is other there rest =

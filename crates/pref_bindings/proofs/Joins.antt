@@ -1,11 +1,11 @@
 -- What a slug makes of the least name of preferences and settings comes first.
-use Rattle.std.proofs.Common.{Ordering, Less, Equal, Greater, ◌≡◌, ℕ, ◌<◌, Bool, true, false, List, [], ◌∷◌, map, length, get_or, None, Some, refl, sym, ap, ◌∙◌, subst, arith}
+use Rattle.std.proofs.Common.{Ordering, Less, Equal, Greater, ◌≡◌, ℕ, Bool, true, false, List, [], ◌∷◌, map, length, None, Some, refl, sym, ap, ◌∙◌, arith}
 use Rattle.std.specs.Prelude.{if◌then◌else◌}
 use Rattle.std.specs.List.Sorted.{IsStrictlySortedBy}
 use Rattle.std.specs.Ordering.{match_ordering}
 use Rattle.recipe_reader.specs.Payloads.{slug_cmp}
 use Rattle.enrol_states.specs.Order.{Rise, AreAbove}
-use Rattle.enrol_states.proofs.Ordered.{same_texts, turned_up, above_trans}
+use Rattle.enrol_states.proofs.Ordered.{same_texts, turned_up}
 use Rattle.pref_bindings.specs.declared.preference.Preference.{Preference}
 use Rattle.pref_bindings.specs.Preferences.{names_of}
 use Rattle.pref_bindings.specs.Changes.{Setting, is_held, held_by, joined_at, joined_one, joined}
@@ -45,28 +45,6 @@ unfolding IsStrictlySortedBy
 both_first slug v vs p ps even rise =
     let name : (joined_at slug v p).name ≡ v.0 = joined_name (is_held p.hold) slug v p (same_texts p.name v.0 even) in
     ap (joined slug vs) (one_step slug v p ps Equal (turned_even p.name v.0 even)) ∙ stays_first slug vs (joined_at slug v p) ps (above_same v.0 (joined_at slug v p).name (settings_names vs) (sym name) rise.0)
-
--- names above one that is below the first of those that rise
-pub all_above : (a b : List ℕ) (ts : List (List ℕ)) → slug_cmp a b ≡ Less → Rise (b ∷ ts) → AreAbove a (b ∷ ts)
-unfolding IsStrictlySortedBy
-all_above a b ts less rise = (less, above_trans a b ts less rise.0)
-
-pub preference_rest : (p : Preference) (ps : List Preference) → Rise (names_of (p ∷ ps)) → Rise (names_of ps)
-unfolding IsStrictlySortedBy
-preference_rest p ps rise = rise.1
-
-pub setting_rest : (v : Setting) (vs : List Setting) → Rise (settings_names (v ∷ vs)) → Rise (settings_names vs)
-unfolding IsStrictlySortedBy
-setting_rest v vs rise = rise.1
-
--- all names that rise are above one that is below the first
-pub preferences_above : (s : List ℕ) (ps : List Preference) (p : Preference) → 0 < length ps → p ≡ get_or ps 0 p → slug_cmp s p.name ≡ Less → Rise (names_of ps) → AreAbove s (names_of ps)
-preferences_above s [] p some is less rise = absurd (omega arith)
-preferences_above s (q ∷ ps) p some is less rise = all_above s q.name (names_of ps) (subst (λ (x : Preference). slug_cmp s x.name ≡ Less) is less) rise
-
-pub settings_above : (s : List ℕ) (vs : List Setting) (v : Setting) → 0 < length vs → v ≡ get_or vs 0 v → slug_cmp s v.0 ≡ Less → Rise (settings_names vs) → AreAbove s (settings_names vs)
-settings_above s [] v some is less rise = absurd (omega arith)
-settings_above s (w ∷ vs) v some is less rise = all_above s w.0 (settings_names vs) (subst (λ (x : Setting). slug_cmp s x.0 ≡ Less) is less) rise
 
 pub none_joined : (slug : List ℕ) (vs : List Setting) (ps : List Preference) → length ps ≡ 0 → length vs ≡ 0 → joined slug vs ps ≡ []
 none_joined slug [] [] p v = refl

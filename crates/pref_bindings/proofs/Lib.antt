@@ -11,7 +11,6 @@ pub mod Told
 pub mod RowSizes
 pub mod RowOrder
 pub mod Merged
-pub mod Names
 pub mod Read
 pub mod FoundBindings
 pub mod BindingsRead

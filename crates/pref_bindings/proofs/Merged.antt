@@ -4,8 +4,9 @@ use Rattle.std.proofs.lemmas.List.{append-nil, drop_more, drop_all, take_all, ta
 use Rattle.std.proofs.lemmas.Grind.{flat_map-append}
 use Rattle.std.specs.List.{AllByRecursion}
 use Rattle.std.specs.List.Sorted.{IsStrictlySortedBy}
+use Rattle.sequences.proofs.Alls.{all_push, all_behind}
+use Rattle.sequences.proofs.Rising.{behind_rises}
 use Rattle.row_batches.specs.declared.store_row.StoreRow.{StoreRow}
-use Rattle.row_batches.proofs.Keeping.{all_push}
 use Rattle.enrol_states.specs.Order.{Rise, AreAbove}
 use Rattle.pref_bindings.specs.declared.preference.Preference.{Preference}
 use Rattle.pref_bindings.specs.Preferences.{IsPreference, IsSound, names_of}
@@ -35,17 +36,8 @@ pub record BeginWith (holds values : List StoreRow) (ps : List Preference) (hold
 pub begin : (holds values : List StoreRow) → BeginWith holds values [] holds values
 begin holds values = record { rest = λ qs sound h v. (qs, refl, h, v) }
 
-each_behind : (ps qs : List Preference) → AllByRecursion IsPreference (ps ++ qs) → AllByRecursion IsPreference qs
-each_behind [] qs each = each
-each_behind (p ∷ ps) qs each = each_behind ps qs each.1
-
-rise_behind : (ps qs : List Preference) → Rise (names_of (ps ++ qs)) → Rise (names_of qs)
-unfolding IsStrictlySortedBy
-rise_behind [] qs rise = rise
-rise_behind (p ∷ ps) qs rise = rise_behind ps qs rise.1
-
 sound_behind : (ps qs : List Preference) → IsSound (ps ++ qs) → IsSound qs
-sound_behind ps qs sound = record { names = rise_behind ps qs sound.names; each = each_behind ps qs sound.each }
+sound_behind ps qs sound = record { names = behind_rises (λ (p : Preference). p.name) ps qs sound.names; each = all_behind IsPreference ps qs sound.each }
 
 first_above : (p : Preference) (ps : List Preference) → IsSound (p ∷ ps) → AreAbove p.name (names_of ps)
 unfolding IsStrictlySortedBy

@@ -1,6 +1,7 @@
 -- Sound preferences that have one list of rows are one.
 use Rattle.std.proofs.Common.{◌≡◌, ℕ, true, false, List, [], ◌∷◌, ◌++◌, Option, Some, None, Less, refl, sym, ap, ap₂, ◌∙◌, subst}
 use Rattle.std.specs.List.Sorted.{IsStrictlySortedBy}
+use Rattle.sequences.proofs.Texts.{bytes_same}
 use Rattle.recipe_reader.specs.Payloads.{slug_cmp}
 use Rattle.enrol_states.specs.Order.{AreAbove}
 use Rattle.enrol_states.proofs.Ordered.{lesser_texts}
@@ -11,7 +12,6 @@ use Rattle.pref_bindings.specs.Preferences.{IsHold, IsPreference, IsSound, names
 use Rattle.pref_bindings.specs.Reading.{AreHolds, BeginsWith, IsAlone, IsNoHoldFirst, is_hold}
 use Rattle.pref_bindings.specs.Rows.{hold_key, hold_row, hold_rows, hold_text, value_key, value_row, value_rows, value_text}
 use Rattle.pref_bindings.specs.Laws.{HasOneListOfRows}
-use Rattle.pref_bindings.proofs.Order.{bytes_same}
 use Rattle.pref_bindings.proofs.Values.{same_values, same_holds}
 
 pub cons_head : {X : Type 0} {x y : X} {xs ys : List X} → x ∷ xs ≡ y ∷ ys → x ≡ y

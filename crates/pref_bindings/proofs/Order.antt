@@ -1,16 +1,11 @@
 -- How names compare, and names above one.
 pub use Rattle.sequences.proofs.Texts.{turned_even}
-use Rattle.std.proofs.Common.{◌≡◌, ℕ, true, List, refl, subst}
-use Rattle.std.specs.Cmp.Lexicographic.{bytes_decides}
-use Rattle.std.specs.Prelude.{bytes_eq}
+use Rattle.std.proofs.Common.{◌≡◌, ℕ, List, subst}
 use Rattle.enrol_states.specs.Order.{AreAbove}
 use Rattle.pref_bindings.specs.declared.preference.Preference.{Preference}
 
 abbrev pub name_of : Preference → List ℕ
 name_of p = p.name
-
-pub bytes_same : (a : List ℕ) → bytes_eq a a ≡ true
-bytes_same a = (bytes_decides a a).1 refl
 
 -- names above one name are above each that is the same
 pub above_same : (a b : List ℕ) (ts : List (List ℕ)) → a ≡ b → AreAbove a ts → AreAbove b ts

@@ -1,30 +1,21 @@
 -- The rows of preferences are in the order of their keys.
-use Rattle.std.proofs.Common.{Less, ◌≡◌, ℕ, List, [], ◌∷◌, ◌++◌, map, Option, Some, None, refl, sym, subst, append_assoc}
-use Rattle.std.specs.List.{AllByRecursion}
+use Rattle.std.proofs.Common.{Less, ◌≡◌, ℕ, List, [], ◌∷◌, ◌++◌, Option, Some, None, refl, sym, subst, append_assoc}
 use Rattle.std.specs.List.Sorted.{IsStrictlySortedBy}
 use Rattle.std.proofs.lemmas.List.{append-nil}
 use Rattle.recipe_reader.specs.Payloads.{slug_cmp}
 use Rattle.enrol_states.specs.Order.{Rise, AreAbove}
-use Rattle.row_batches.specs.Rows.{AreRows, key_cmp, key_of}
+use Rattle.row_batches.specs.Rows.{AreRows}
 use Rattle.row_batches.specs.declared.store_row.StoreRow.{StoreRow}
+use Rattle.row_batches.proofs.RowOrder.{IsBelow, rise_section}
 use Rattle.pref_bindings.specs.declared.preference.Hold.{Hold}
 use Rattle.pref_bindings.specs.declared.preference.Preference.{Preference}
 use Rattle.pref_bindings.specs.Preferences.{names_of}
-use Rattle.pref_bindings.specs.Rows.{hold_key, hold_row, hold_rows, rows_of, value_key, value_rows}
-
-abbrev IsBelow : List ℕ → List StoreRow → Type 0
-IsBelow key rows = AllByRecursion (λ k. key_cmp key k ≡ Less) (map key_of rows)
+use Rattle.pref_bindings.specs.Rows.{hold_key, hold_row, hold_rows, rows_of, value_rows, value_row}
 
 -- ---- values
 
-below_values : (name : List ℕ) (ps : List Preference) → AreAbove name (names_of ps) → IsBelow (value_key name) (value_rows ps)
-below_values name [] above = tt
-below_values name (p ∷ ps) above = (above.0, below_values name ps above.1)
-
 pub values_rise : (ps : List Preference) → Rise (names_of ps) → AreRows (value_rows ps)
-unfolding IsStrictlySortedBy
-values_rise [] rise = tt
-values_rise (p ∷ ps) rise = (below_values p.name ps rise.0, values_rise ps rise.1)
+values_rise ps rise = rise_section (λ (p : Preference). p.name) value_row (λ p q. refl) ps rise
 
 -- ---- holds, and values behind them
 

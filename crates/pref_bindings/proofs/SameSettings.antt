@@ -1,6 +1,6 @@
 -- What a branch sets is the same in whatever order the bindings of its features are looked up.
 use Rattle.std.proofs.Common.{Ordering, ◌≡◌, ◌⊎◌, inl, inr, ℕ, Bool, true, false, cond, List, [], ◌∷◌, ◌++◌, Option, Some, None, Less, Equal, Greater, refl, sym, ap, ◌∙◌, subst}
-use Rattle.std.specs.Prelude.{◌||◌, bytes_eq, find, fold, option_and_then, option_map}
+use Rattle.std.specs.Prelude.{bytes_eq, find, fold, option_and_then, option_map}
 use Rattle.std.specs.BTreeMap.{insert_entry, is_at}
 use Rattle.std.specs.BTreeSet.{insert_key}
 use Rattle.std.specs.Cmp.Lexicographic.{nat_list_cmp_total, bytes_decides}
@@ -10,6 +10,9 @@ use Rattle.std.specs.Map.{lookup}
 use Rattle.std.specs.Ordering.{is_eq, match_ordering}
 use Rattle.std.proofs.lemmas.Cmp.{tied_itself}
 use Rattle.std.proofs.lemmas.Map.Entries.{lookup_head, lookup_tail}
+use Rattle.std.proofs.lemmas.Bool.{or_right, or_left}
+use Rattle.sequences.proofs.Texts.{is_Equal}
+use Rattle.sequences.proofs.Rising.{rest_rises, first_above}
 use Rattle.json_tree.specs.declared.tree.Tree.{Tree}
 use Rattle.fml_types.specs.declared.manifest.Manifest.{Manifest}
 use Rattle.recipe_reader.specs.Payloads.{slug_cmp}
@@ -17,13 +20,12 @@ use Rattle.recipe_reader.specs.declared.recipe.Branch.{Branch}
 use Rattle.recipe_reader.specs.declared.recipe.FeatureValue.{FeatureValue}
 use Rattle.enrol_states.specs.Order.{Rise, AreAbove, is_in}
 use Rattle.enrol_states.proofs.Ordered.{same_texts, turned_down}
-use Rattle.enrol_states.proofs.Leasts.{is_Equal}
 use Rattle.enrol_states.proofs.OptOuts.{rise-insert}
 use Rattle.pref_bindings.specs.declared.bindings.Binding.{Binding}
 use Rattle.pref_bindings.specs.Bindings.{Differ, of_feature, preferences_of}
 use Rattle.pref_bindings.specs.Bound.{bound_value, in_order, setting_of, value_for, variable_of, with_setting}
 use Rattle.pref_bindings.specs.Changes.{Setting}
-use Rattle.pref_bindings.proofs.Joins.{all_above, setting_rest, settings_names}
+use Rattle.pref_bindings.proofs.Joins.{settings_names}
 
 -- ---- one of a list
 
@@ -199,10 +201,10 @@ no_value v o some none = let two : Some v ≡ None = sym some ∙ none in cc
 
 module _ (v w : Setting) (vs ws : List Setting) (v_rise : Rise (settings_names (v ∷ vs))) (w_rise : Rise (settings_names (w ∷ ws))) (one : (q : List ℕ) → value_at q (v ∷ vs) ≡ value_at q (w ∷ ws)) where
   name_by : (o : Ordering) → slug_cmp v.0 w.0 ≡ o → v.0 ≡ w.0
-  name_by Less e = absurd (no_value v.1 (value_at v.0 (w ∷ ws)) (sym (one v.0) ∙ first_value v vs) (above_none v.0 (w ∷ ws) (all_above v.0 w.0 (settings_names ws) e w_rise)))
+  name_by Less e = absurd (no_value v.1 (value_at v.0 (w ∷ ws)) (sym (one v.0) ∙ first_value v vs) (above_none v.0 (w ∷ ws) (first_above (λ (u : Setting). u.0) v.0 w ws e w_rise)))
   name_by Equal e = same_texts v.0 w.0 e
   name_by Greater e =
-      absurd (no_value w.1 (value_at w.0 (v ∷ vs)) (one w.0 ∙ first_value w ws) (above_none w.0 (v ∷ vs) (all_above w.0 v.0 (settings_names vs) (turned_down v.0 w.0 e) v_rise)))
+      absurd (no_value w.1 (value_at w.0 (v ∷ vs)) (one w.0 ∙ first_value w ws) (above_none w.0 (v ∷ vs) (first_above (λ (u : Setting). u.0) w.0 v vs (turned_down v.0 w.0 e) v_rise)))
 
   name : v.0 ≡ w.0
   name = name_by (slug_cmp v.0 w.0) refl
@@ -223,7 +225,7 @@ same_settings [] [] v_rise w_rise one = refl
 same_settings [] (w ∷ ws) v_rise w_rise one = absurd (no_value w.1 (value_at w.0 []) (one w.0 ∙ first_value w ws) refl)
 same_settings (v ∷ vs) [] v_rise w_rise one = absurd (no_value v.1 (value_at v.0 []) (sym (one v.0) ∙ first_value v vs) refl)
 same_settings (v ∷ vs) (w ∷ ws) v_rise w_rise one =
-    let rest = same_settings vs ws (setting_rest v vs v_rise) (setting_rest w ws w_rise) (others v w vs ws v_rise w_rise one) in
+    let rest = same_settings vs ws (rest_rises (λ (v : Setting). v.0) v vs v_rise) (rest_rises (λ (v : Setting). v.0) w ws w_rise) (others v w vs ws v_rise w_rise one) in
     (λ i. (name v w vs ws v_rise w_rise one i, value v w vs ws v_rise w_rise one i) ∷ rest i)
 
 -- ---- settings of which no two give one name different values, in whatever order
@@ -292,20 +294,12 @@ same_order vs ws same = same_settings (in_order vs) (in_order ws) (rise_all [] v
 
 -- ---- the bindings of the branch's features
 
-or_yes : (a b : Bool) → a ≡ true → (a || b) ≡ true
-or_yes true b e = refl
-or_yes false b e = absurd cc
-
-or_behind : (a b : Bool) → b ≡ true → (a || b) ≡ true
-or_behind true b e = refl
-or_behind false b e = e
-
 in_those : (b : Binding) (bs : List Binding) → IsAmong b bs → is_in (preferences_of bs) b.preference ≡ true
 in_those b [] is = absurd is
 in_those b (c ∷ bs) is =
     elim is [
-      | inl here ↦ or_yes (bytes_eq c.preference b.preference) (is_in (preferences_of bs) b.preference) ((bytes_decides c.preference b.preference).1 (ap (λ (d : Binding). d.preference) (sym here)))
-      | inr behind ↦ or_behind (bytes_eq c.preference b.preference) (is_in (preferences_of bs) b.preference) (in_those b bs behind)
+      | inl here ↦ or_left (bytes_eq c.preference b.preference) (is_in (preferences_of bs) b.preference) ((bytes_decides c.preference b.preference).1 (ap (λ (d : Binding). d.preference) (sym here)))
+      | inr behind ↦ or_right (bytes_eq c.preference b.preference) (is_in (preferences_of bs) b.preference) (in_those b bs behind)
     ]
 
 apart : (b c : Binding) (bs : List Binding) → is_in (preferences_of bs) b.preference ≡ false → IsAmong c bs → b.preference ≡ c.preference → ⊥

@@ -5,6 +5,7 @@ use Rattle.std.specs.List.{flat_map}
 use Rattle.std.specs.List.Sorted.{IsStrictlySortedBy}
 use Rattle.std.proofs.lemmas.List.{append-nil}
 use Rattle.std.proofs.lemmas.Grind.{flat_map-append}
+use Rattle.sequences.proofs.Texts.{bytes_same}
 use Rattle.json_tree.specs.declared.tree.Tree.{Tree}
 use Rattle.recipe_reader.specs.Payloads.{slug_cmp}
 use Rattle.enrol_states.specs.Order.{Rise, AreAbove}
@@ -14,7 +15,7 @@ use Rattle.pref_bindings.specs.declared.preference.Preference.{Preference}
 use Rattle.pref_bindings.specs.Preferences.{holder_of, names_of}
 use Rattle.pref_bindings.specs.Changes.{Setting, is_held, held_by, joined_one, joined, holds, left, restored, set_value, users_part, user_map, with_preference, without_name}
 use Rattle.pref_bindings.specs.Laws.{HoldsNone, LeaveUndoesJoin, JoinKeepsUserMap, LeaveKeepsUserMap, UserSetsOwn}
-use Rattle.pref_bindings.proofs.Order.{bytes_same, turned_even}
+use Rattle.pref_bindings.proofs.Order.{turned_even}
 use Rattle.pref_bindings.proofs.Parts.{AtMost, above_parts, users_most}
 use Rattle.pref_bindings.proofs.Places.{found_step, holder_in, with_step, without_step}
 use Rattle.pref_bindings.proofs.Joins.{one_step}

@@ -5,6 +5,7 @@ use Rattle.std.specs.Ordering.{ordering_reverse, is_eq, is_lt}
 use Rattle.std.specs.List.{insert}
 use Rattle.std.proofs.lemmas.Cmp.{nat_list_cmp_total}
 use Rattle.std.proofs.lemmas.Map.Text.{is_eq-slice_cmp}
+use Rattle.std.proofs.Math.Bool.{or-true}
 use Rattle.sequences.proofs.Texts.{turned_down}
 use Rattle.recipe_reader.specs.declared.recipe.Recipe.{Recipe}
 use Rattle.recipe_reader.specs.Records.{IsValid}
@@ -15,16 +16,12 @@ above_at a [] i d lt above = absurd (omega arith)
 above_at a (r ∷ rs) zero d lt above = above.0
 above_at a (r ∷ rs) (suc i) d lt above = above_at a rs i d (omega arith) above.1
 
-or_true : (b : Bool) → (b || true) ≡ true
-or_true true = refl
-or_true false = refl
-
 pub has_at : (s : List ℕ) (rs : List Recipe) (i : ℕ) (d : Recipe) → i < length rs → slug_cmp (get_or rs i d).slug s ≡ Equal → has_slug s rs ≡ true
 has_at s [] i d lt h = absurd (omega arith)
 has_at s (r ∷ rs) zero d lt h =
     let same : bytes_eq r.slug s ≡ true = sym (is_eq-slice_cmp r.slug s) ∙ ap is_eq h in
     ap (λ b. b || has_slug s rs) same
-has_at s (r ∷ rs) (suc i) d lt h = ap (λ b. bytes_eq r.slug s || b) (has_at s rs i d (omega arith) h) ∙ or_true (bytes_eq r.slug s)
+has_at s (r ∷ rs) (suc i) d lt h = ap (λ b. bytes_eq r.slug s || b) (has_at s rs i d (omega arith) h) ∙ or-true (bytes_eq r.slug s)
 
 -- the recipe at the place of the slug is the one with it
 pub with_at : (s : List ℕ) (rs : List Recipe) (i : ℕ) (d : Recipe) → i < length rs → AreInOrder rs → slug_cmp (get_or rs i d).slug s ≡ Equal → recipe_with s rs ≡ slice_get rs i

@@ -1,7 +1,7 @@
 -- The parts of a valid recipe have few bytes.
-use Rattle.std.proofs.Common.{◌≡◌, ◌≤◌, ℕ, List as Seq, [], map, Bool, true, false, Option, Some, None, Result, Ok, refl, sym, ap, ◌∙◌, subst, arith}
-use Rattle.std.specs.Prelude.{◌&&◌, nat_le, nat_lt, length, codes, All}
-use Rattle.std.proofs.lemmas.Bool.{leb-true}
+use Rattle.std.proofs.Common.{◌≡◌, ◌≤◌, List as Seq, [], map, Bool, true, false, Option, Some, None, Result, Ok, sym, ap, ◌∙◌, subst, arith}
+use Rattle.std.specs.Prelude.{◌&&◌, nat_le, length, codes, All}
+use Rattle.std.proofs.lemmas.Bool.{leb-true, and_parts}
 use Rattle.std.proofs.lemmas.List.Elements.{All-cons, All-nil}
 use Rattle.json_tree.specs.Json.{Json, Items, no_items, item, items_of, get, depth}
 use Rattle.json_tree.specs.Tree.{json_of}
@@ -24,14 +24,7 @@ use Rattle.recipe_reader.proofs.Steps.{ok_is, needed_ok, only_if_ok}
 use Rattle.recipe_reader.proofs.BranchesAgain.{one_more, feature_parts, list_parts, listed_again, branch_parts, feature_test, branch_test}
 use Rattle.recipe_reader.proofs.Again.{recipe_parts, branches_in_ok}
 use Rattle.recipe_reader.specs.Lengths.{IsShort, HasShortFeatures, HasShortBranches}
-use Rattle.plain_text.specs.Names.{is_name}
-
-both : (a b : Bool) → (a && b) ≡ true → (a ≡ true) × (b ≡ true)
-both true b is = (refl, is)
-both false b is = absurd cc
-
-name_short : (name : Seq ℕ) → is_name name ≡ true → length name ≤ 80
-name_short name is = leb-true (length name) 80 (both _ _ (both (nat_lt 0 (length name) && nat_le (length name) 80) _ is).0).1
+use Rattle.plain_text.proofs.Names.{name_short}
 
 third : (a b c : Bool) → (a && b && c) ≡ true → c ≡ true
 third true true c e = e
@@ -79,15 +72,11 @@ branch_short x b e =
     let p = branch_parts (slug_in BadBranches x) (count_at (codes "ratio") 0 1000000 x) features b e in
     features_short (items_of (map feature_json b.features)) b (listed_again (present (get (codes "features") x)) (present (get (codes "feature") x)) b.features p.2)
 
-second : (a b : Bool) → (a && b) ≡ true → b ≡ true
-second true b e = e
-second false b e = absurd cc
-
 branches_short : (xs : Items) (r : Recipe) → branches_of xs ≡ Ok r.branches → HasShortBranches r
 unfolding branches_of
 branches_short xs r e =
     let p = list_parts branch_test (is_branch_count xs) (each branch_of xs) r.branches e in
-    let most : items_len xs ≤ 100 = leb-true (items_len xs) 100 (second (nat_le 1 (items_len xs)) (nat_le (items_len xs) 100) p.0) in
+    let most : items_len xs ≤ 100 = leb-true (items_len xs) 100 (and_parts (nat_le 1 (items_len xs)) (nat_le (items_len xs) 100) p.0).1 in
     record { count = omega (arith, most, each_count branch_of xs r.branches p.1); each = each_short branch_of HasShortFeatures branch_short xs r.branches p.1 }
 
 pub valid_short : (r : Recipe) → IsValid r → HasShortBranches r

@@ -6,10 +6,10 @@ use Rattle.std.specs.BTreeMap.{insert_entry, is_at}
 use Rattle.std.specs.Map.{lookup, keys_of, values_of}
 use Rattle.std.specs.List.{AllByRecursion}
 use Rattle.std.specs.List.Sorted.{IsStrictlySortedBy}
-use Rattle.std.specs.Ordering.{nat_cmp, ordering_reverse, is_eq, is_lt, match_ordering}
+use Rattle.std.specs.Ordering.{nat_cmp, is_eq, is_lt, match_ordering}
 use Rattle.std.specs.Cmp.Lexicographic.{slice_cmp}
-use Rattle.std.proofs.lemmas.Cmp.{nat_list_cmp_total}
-use Rattle.std.proofs.lemmas.Map.Text.{is_eq-slice_cmp}
+use Rattle.std.proofs.lemmas.Bool.{or_parts}
+use Rattle.sequences.proofs.Texts.{is_eq-turned}
 use Rattle.recipe_reader.specs.declared.recipe.Recipe.{Recipe}
 use Rattle.recipe_reader.specs.declared.payload.Taken.{Taken}
 use Rattle.recipe_reader.specs.Records.{IsValid}
@@ -19,22 +19,6 @@ use Rattle.recipe_reader.specs.Taken.{HaveOwnSlugs, so_far}
 pub none_taken : (t : Taken) → t.recipes.entries ≡ [] → t.skipped ≡ [] → so_far t ≡ no_records
 none_taken t recipes skipped = rw (recipes, skipped) refl
 
-eq_reverse : (o : Ordering) → is_eq (ordering_reverse o) ≡ is_eq o
-eq_reverse Less = refl
-eq_reverse Equal = refl
-eq_reverse Greater = refl
-
-sides : (a b : List ℕ) → is_eq (slice_cmp nat_cmp a b) ≡ bytes_eq b a
-sides a b = sym (eq_reverse (slice_cmp nat_cmp a b)) ∙ sym (ap is_eq (nat_list_cmp_total.antisymm b a)) ∙ is_eq-slice_cmp b a
-
-left_false : (a b : Bool) → (a || b) ≡ false → a ≡ false
-left_false true b h = absurd cc
-left_false false b h = refl
-
-right_false : (a b : Bool) → (a || b) ≡ false → b ≡ false
-right_false true b h = absurd cc
-right_false false b h = h
-
 first-held : (b : Bool) (r : Recipe) (o : Option Recipe) (h : Bool) → is_some o ≡ h → is_some (cond b (Some r) o) ≡ (b || h)
 first-held true r o h e = refl
 first-held false r o h e = e
@@ -43,12 +27,12 @@ pub held_slug : (s : List ℕ) (es : List (List ℕ × Recipe)) → HaveOwnSlugs
 held_slug s [] own = refl
 held_slug s (e ∷ es) own =
     first-held (is_eq (slice_cmp nat_cmp s e.0)) e.1 (lookup (is_at (slice_cmp nat_cmp s)) es) (has_slug s (values_of es)) (held_slug s es own.1)
-    ∙ ap (λ b. b || has_slug s (values_of es)) (sides s e.0 ∙ ap (λ t. bytes_eq t s) own.0)
+    ∙ ap (λ b. b || has_slug s (values_of es)) (is_eq-turned s e.0 ∙ ap (λ t. bytes_eq t s) own.0)
 
 -- ---- one recipe more
 
 apart_here : (s : List ℕ) (e : List ℕ × Recipe) (es : List (List ℕ × Recipe)) → e.0 ≡ e.1.slug → has_slug s (values_of (e ∷ es)) ≡ false → is_eq (slice_cmp nat_cmp s e.0) ≡ false
-apart_here s e es own h = sides s e.0 ∙ ap (λ t. bytes_eq t s) own ∙ left_false (bytes_eq e.1.slug s) (has_slug s (values_of es)) h
+apart_here s e es own h = is_eq-turned s e.0 ∙ ap (λ t. bytes_eq t s) own ∙ (or_parts (bytes_eq e.1.slug s) (has_slug s (values_of es)) h).0
 
 put_first : (r : Recipe) (e : List ℕ × Recipe) (es equal inserted : List (List ℕ × Recipe)) (rest : List Recipe) (o : Ordering) → is_eq o ≡ false → values_of inserted ≡ rest
     → values_of (match_ordering o ((r.slug, r) ∷ e ∷ es) equal (e ∷ inserted)) ≡ (if is_lt o then r ∷ e.1 ∷ values_of es else e.1 ∷ rest)
@@ -60,7 +44,7 @@ pub put : (r : Recipe) (es : List (List ℕ × Recipe)) → HaveOwnSlugs es → 
 put r [] own h = refl
 put r (e ∷ es) own h =
     put_first r e es ((e.0, r) ∷ es) (insert_entry (slice_cmp nat_cmp) es r.slug r) (with_recipe r (values_of es)) (slice_cmp nat_cmp r.slug e.0) (apart_here r.slug e es own.0 h)
-    (put r es own.1 (right_false (bytes_eq e.1.slug r.slug) (has_slug r.slug (values_of es)) h))
+    (put r es own.1 (or_parts (bytes_eq e.1.slug r.slug) (has_slug r.slug (values_of es)) h).1)
     ∙ ap (λ t. if is_lt (slice_cmp nat_cmp r.slug t) then r ∷ e.1 ∷ values_of es else e.1 ∷ with_recipe r (values_of es)) own.0
 
 own_first : (r : Recipe) (e : List ℕ × Recipe) (es equal inserted : List (List ℕ × Recipe)) (o : Ordering) → is_eq o ≡ false → HaveOwnSlugs (e ∷ es) → HaveOwnSlugs inserted → HaveOwnSlugs (match_ordering o ((r.slug, r) ∷ e ∷ es) equal (e ∷ inserted))
@@ -72,7 +56,7 @@ pub put_own : (r : Recipe) (es : List (List ℕ × Recipe)) → HaveOwnSlugs es 
 put_own r [] own h = (refl, tt)
 put_own r (e ∷ es) own h =
     own_first r e es ((e.0, r) ∷ es) (insert_entry (slice_cmp nat_cmp) es r.slug r) (slice_cmp nat_cmp r.slug e.0) (apart_here r.slug e es own.0 h) own
-    (put_own r es own.1 (right_false (bytes_eq e.1.slug r.slug) (has_slug r.slug (values_of es)) h))
+    (put_own r es own.1 (or_parts (bytes_eq e.1.slug r.slug) (has_slug r.slug (values_of es)) h).1)
 
 valid_if : (b : Bool) (r q : Recipe) (qs rest : List Recipe) → IsValid r → AreValid (q ∷ qs) → AreValid rest → AreValid (if b then r ∷ q ∷ qs else q ∷ rest)
 valid_if true r q qs rest one all more = (one, all)

@@ -1,10 +1,11 @@
 -- The rows of items, and the steps of a walk over two lists of them.
 use Rattle.std.proofs.Common.{Less, Equal, Greater, ◌≡◌, ◌≢◌, ◌+◌, ◌<◌, ◌≤◌, ◌++◌, ◌∷◌, [], List, ℕ, Bool, true, false, All, map, length, get_or, take, refl, sym, ap, ap₂, subst, ◌∙◌, append_assoc, arith}
-use Rattle.std.specs.Prelude.{bytes_eq, if◌then◌else◌}
+use Rattle.std.specs.Prelude.{if◌then◌else◌}
 use Rattle.std.specs.List.{AllByRecursion}
 use Rattle.std.specs.Cmp.Lexicographic.{bytes_decides}
 use Rattle.std.proofs.lemmas.List.{map-append, take_all, take_more}
 use Rattle.std.proofs.lemmas.List.Elements.{All-cons, All-from_recursion, All-head, All-nil, All-tail}
+use Rattle.sequences.proofs.Texts.{other_bytes}
 use Rattle.row_batches.specs.Between.{changes_between}
 use Rattle.row_batches.specs.ItemRows.{IsFirst, item_row, item_rows}
 use Rattle.row_batches.specs.Rows.{key_cmp}
@@ -88,10 +89,6 @@ walked whole front after all rest c d so_far split grows is =
     ∙ append_assoc front (c ∷ []) rest
     ∙ ap (λ (cs : List RowChange). front ++ cs) (sym split) ∙ so_far
 
-other_bytes : (b : Bool) (xs ys : List ℕ) → bytes_eq xs ys ≡ b → (xs ≢ ys) → bytes_eq xs ys ≡ false
-other_bytes true xs ys is other = absurd (other ((bytes_decides xs ys).0 is))
-other_bytes false xs ys is other = is
-
 -- two lists of rows that begin with these
 module _ (r s : StoreRow) (rs ss olds news : List StoreRow) (old_is : olds ≡ r ∷ rs) (new_is : news ≡ s ∷ ss) where
   both : changes_between olds news ≡ changes_between (r ∷ rs) (s ∷ ss)
@@ -104,7 +101,7 @@ module _ (r s : StoreRow) (rs ss olds news : List StoreRow) (old_is : olds ≡ r
   added_at more = both ∙ (turns.added r s rs ss more).split ∙ ap (λ (l : List StoreRow). Put s ∷ changes_between l ss) (sym old_is)
 
   differs_at : (key_cmp r.key s.key ≡ Equal) × (r.value ≢ s.value) → changes_between olds news ≡ Put s ∷ changes_between rs ss
-  differs_at step = both ∙ (turns.differs r s rs ss (other_bytes (bytes_eq r.value s.value) r.value s.value refl step.1) step.0).split
+  differs_at step = both ∙ (turns.differs r s rs ss (other_bytes r.value s.value step.1) step.0).split
 
   same_at : (key_cmp r.key s.key ≡ Equal) × (r.value ≡ s.value) → changes_between olds news ≡ changes_between rs ss
   same_at step = both ∙ (turns.same r s rs ss ((bytes_decides r.value s.value).1 step.1) step.0).split

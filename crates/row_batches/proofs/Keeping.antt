@@ -7,10 +7,7 @@ use Rattle.row_batches.specs.Places.{AreAbove}
 use Rattle.row_batches.specs.Rows.{Rise, key_cmp, key_in}
 use Rattle.row_batches.specs.declared.change.RowChange.{RowChange}
 use Rattle.sequences.proofs.Texts.{less_trans}
-
-pub all_push : {X : Type 0} (P : X → Type 0) (xs : List X) (x : X) → AllByRecursion P xs → P x → AllByRecursion P (xs ++ x ∷ [])
-all_push P [] x all here = (here, tt)
-all_push P (y ∷ ys) x all here = (all.0, all_push P ys x all.1 here)
+use Rattle.sequences.proofs.Alls.{all_push}
 
 pub none_rule : (clear : Bool) (changes : List RowChange) → changes ≡ [] → IsBatch (record { clear = clear; changes = changes })
 unfolding IsStrictlySortedBy

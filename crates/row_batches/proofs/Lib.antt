@@ -4,6 +4,7 @@ pub mod Fields
 pub mod FieldsRead
 pub mod Found
 pub mod Joining
+pub mod RowOrder
 pub mod ItemWalks
 pub mod Keeping
 pub mod Merged

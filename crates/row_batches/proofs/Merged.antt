@@ -1,5 +1,5 @@
 -- The steps of a walk over changes and the rows that they change.
-use Rattle.std.proofs.Common.{Less, Equal, Greater, ◌≡◌, ℕ, List, [], ◌∷◌, ◌++◌, map, length, refl, sym, ap, ◌∙◌, subst, arith, append_assoc}
+use Rattle.std.proofs.Common.{Less, Equal, Greater, ◌≡◌, ℕ, List, [], ◌∷◌, ◌++◌, map, refl, sym, ap, ◌∙◌, subst, arith, append_assoc}
 use Rattle.std.specs.List.Sorted.{IsStrictlySortedBy}
 use Rattle.std.specs.Ordering.{match_ordering}
 use Rattle.row_batches.specs.Batch.{change_text, changes_text}
@@ -136,7 +136,3 @@ pub at_no_changes : (changes : List RowChange) (rows : List StoreRow) (r : Store
 at_no_changes changes rows r rs none rows_are order =
     subst (λ (k : List RowChange). IsMerged (r ∷ []) k rs k rows) (sym none)
     (subst (λ (k : List StoreRow). IsMerged (r ∷ []) [] rs [] k) (sym rows_are) (row_last r rs (subst (λ (k : List RowChange). AreInOrder k (r ∷ rs)) none (subst (λ (k : List StoreRow). AreInOrder changes k) rows_are order))))
-
-pub none_left : {A : Type 0} (xs : List A) → length xs ≡ 0 → xs ≡ []
-none_left [] is = refl
-none_left (x ∷ xs) is = absurd (omega arith)

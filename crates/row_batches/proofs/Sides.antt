@@ -9,6 +9,7 @@ use Rattle.row_batches.specs.Rows.{AreRows, key_cmp, key_of, value_of, with_row,
 use Rattle.row_batches.specs.declared.store_row.StoreRow.{StoreRow}
 use Rattle.row_batches.proofs.Found.{valued, picked, dropped}
 use Rattle.sequences.proofs.Texts.{same_texts, turned_up, turned_down, turned_even, less_trans}
+use Rattle.sequences.proofs.Rising.{behind_rises, front_rises}
 
 pub length_around : (below : List StoreRow) (q : StoreRow) (above : List StoreRow) → length (below ++ q ∷ above) ≡ length below + (length above + 1)
 length_around below q above = let more = length-append below (q ∷ above) in omega (arith, more)
@@ -28,14 +29,8 @@ below_trans : (a b : List ℕ) (ts : List (List ℕ)) → key_cmp a b ≡ Less �
 below_trans a b [] less below = tt
 below_trans a b (t ∷ ts) less below = (less_trans t a b below.0 less, below_trans a b ts less below.1)
 
-above_front : (key : List ℕ) (rows behind : List StoreRow) → AreAbove key (map key_of (rows ++ behind)) → AreAbove key (map key_of rows)
-above_front key [] behind above = tt
-above_front key (r ∷ rows) behind above = (above.0, above_front key rows behind above.1)
-
 pub rise_front : (rows behind : List StoreRow) → AreRows (rows ++ behind) → AreRows rows
-unfolding IsStrictlySortedBy
-rise_front [] behind rise = tt
-rise_front (r ∷ rows) behind rise = (above_front r.key rows behind rise.0, rise_front rows behind rise.1)
+rise_front rows behind rise = front_rises key_of rows behind rise
 
 pub rise_behind : (below : List StoreRow) (q : StoreRow) (above : List StoreRow) → AreRows (below ++ q ∷ above) → AreRows above
 unfolding IsStrictlySortedBy
@@ -122,9 +117,7 @@ value_above key below q above rise more =
 -- ---- rows that all stand in one of two lists
 
 pub rise_back : (listed standing : List StoreRow) → AreRows (listed ++ standing) → AreRows standing
-unfolding IsStrictlySortedBy
-rise_back [] standing rise = rise
-rise_back (r ∷ listed) standing rise = rise_back listed standing rise.1
+rise_back listed standing rise = behind_rises key_of listed standing rise
 
 pub none_listed : (listed : List StoreRow) (count : ℕ) → count ≡ length listed → eqb count 0 ≡ true → listed ≡ []
 none_listed [] count counted is = refl

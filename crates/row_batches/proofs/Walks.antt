@@ -15,7 +15,7 @@ use Rattle.row_batches.specs.Rows.{Rise, AreRows, key_cmp, key_of, key_in, with_
 use Rattle.row_batches.specs.declared.change.RowChange.{RowChange}
 use Rattle.row_batches.specs.declared.change.RowChange.TheVariants.{Put, Delete}
 use Rattle.row_batches.specs.declared.store_row.StoreRow.{StoreRow}
-use Rattle.sequences.proofs.Texts.{same_texts, turned_up, turned_down, turned_even, above_trans}
+use Rattle.sequences.proofs.Texts.{same_texts, turned_up, turned_down, turned_even, above_trans, bytes_same}
 
 abbrev keys : List StoreRow → List (List ℕ)
 keys rows = map key_of rows
@@ -194,14 +194,11 @@ applied_whole rows any rise = made_of_none rows rise
 
 -- ---- nothing between equal rows
 
-same_value : (value : List ℕ) → bytes_eq value value ≡ true
-same_value value = (bytes_decides value value).1 refl
-
 between_itself : (rows : List StoreRow) → changes_between rows rows ≡ []
 between_itself [] = refl
 between_itself (r ∷ rs) =
     ap (λ o. match_ordering o (Delete r.key ∷ rest_of rs (r ∷ rs)) (put_where_differs r r ++ rest_of rs rs) (Put r ∷ changes_from r (λ more. rest_of rs more) rs)) (even r.key)
-    ∙ ap (λ (b : Bool). (if b then [] else Put r ∷ []) ++ rest_of rs rs) (same_value r.value) ∙ between_itself rs
+    ∙ ap (λ (b : Bool). (if b then [] else Put r ∷ []) ++ rest_of rs rs) (bytes_same r.value) ∙ between_itself rs
 
 pub empty_between : IsEmptyWhereEqual
 empty_between olds news old_rise rise =

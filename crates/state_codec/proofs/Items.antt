@@ -4,6 +4,7 @@ use Rattle.std.specs.Bool.{Decides}
 use Rattle.std.specs.Prelude.{◌↔◌}
 use Rattle.std.proofs.lemmas.Bool.{false≢true}
 use Rattle.std.proofs.lemmas.List.Elements.{All-cons, All-nil}
+use Rattle.std.proofs.lemmas.Option.{same_Some}
 use Rattle.json_tree.specs.Json as json
 use Rattle.recipe_reader.specs.Equal.{recipe_eq}
 use Rattle.recipe_reader.specs.Equals.{recipe_Decides}
@@ -39,12 +40,9 @@ tagged Version a b = refl
 
 -- ---- values
 
-pub some_same : {A : Type 0} (x y : A) → Some x ≡ Some y → x ≡ y
-some_same x y same = cc
-
 -- what is read of its text is one where the texts are
 one_text : {A : Type 0} (text : A → List ℕ) (read : List ℕ → Option A) (x y : A) → read (text x) ≡ Some x → read (text y) ≡ Some y → text x ≡ text y → x ≡ y
-one_text text read x y x_read y_read same = some_same x y (sym x_read ∙ ap read same ∙ y_read)
+one_text text read x y x_read y_read same = same_Some x y (sym x_read ∙ ap read same ∙ y_read)
 
 pub values_told : {A : Type 0} (text : A → List ℕ) (read : List ℕ → Option A) (x y : A) (test : Bool) → Decides test (x ≡ y) → read (text x) ≡ Some x → read (text y) ≡ Some y → IsTrue test ↔ (text x ≡ text y)
 values_told text read x y test decides x_read y_read = (λ e. ap text (decides.0 e), λ same. decides.1 (one_text text read x y x_read y_read same))

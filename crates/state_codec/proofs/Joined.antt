@@ -10,6 +10,7 @@ use Rattle.row_batches.specs.Between.{put_where_differs, changes_between}
 use Rattle.row_batches.specs.declared.change.RowChange.{RowChange}
 use Rattle.row_batches.specs.declared.store_row.StoreRow.{StoreRow}
 use Rattle.row_batches.proofs.Joining.{Precede, between-append}
+use Rattle.row_batches.proofs.RowOrder.{IsBelow, all_below}
 use Rattle.row_batches.proofs.Turns as turns
 use Rattle.state_codec.specs.Encoding.{row, key_row, recipe_row, status_row, status_rows, last_rows, pending_recipes, first_rows, later_rows, rows_with}
 use Rattle.state_codec.specs.RecipeChanges.{live_changes, pending_changes}
@@ -17,7 +18,7 @@ use Rattle.state_values.specs.Statuses.{number}
 use Rattle.state_values.specs.Values.{hyphenated, bit}
 use Rattle.std.specs.Option.{is_some}
 use Rattle.state_codec.proofs.Added.{follow}
-use Rattle.state_codec.proofs.KeyOrder.{IsBelow, all_below, from_statuses, from_opt_outs, from_pending, from_live, from_id, client_rows_below, opt_outs_below, pending_below, live_below, features_below}
+use Rattle.state_codec.proofs.KeyOrder.{from_statuses, from_opt_outs, from_pending, from_live, from_id, client_rows_below, opt_outs_below, pending_below, live_below, features_below}
 
 abbrev pub id_changes : State → State → List RowChange
 id_changes s t = put_where_differs (row (codes "i") (hyphenated s.id)) (row (codes "i") (hyphenated t.id))

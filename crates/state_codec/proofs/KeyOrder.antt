@@ -1,5 +1,5 @@
 -- The rows of a consistent state are in the order of their keys.
-use Rattle.std.proofs.Common.{◌≡◌, ◌++◌, ◌∷◌, [], List, ℕ, Option, Some, None, map, Less, refl, sym, subst, ap₂, ◌∙◌}
+use Rattle.std.proofs.Common.{◌≡◌, ◌++◌, ◌∷◌, [], List, ℕ, Option, Some, None, map, Less, refl, sym, subst}
 use Rattle.std.specs.List.{AllByRecursion}
 use Rattle.std.specs.List.Sorted.{IsStrictlySortedBy}
 use Rattle.recipe_reader.specs.Payloads as payloads
@@ -10,45 +10,13 @@ use Rattle.enrol_states.specs.Consistent.{IsConsistent, ArePending}
 use Rattle.enrol_states.specs.declared.state.State.{State}
 use Rattle.enrol_states.proofs.Ordered.{map_itself}
 use Rattle.enrol_states.specs.declared.state.Row.{Row}
-use Rattle.row_batches.specs.Rows.{key_of, AreRows}
-use Rattle.row_batches.proofs.Joining.{Precede}
+use Rattle.row_batches.specs.Rows.{AreRows}
 use Rattle.state_values.specs.Values.{hyphenated, participation_byte}
 use Rattle.state_codec.specs.Encoding.{row, key_row, recipe_row, status_row, status_rows, last_rows, pending_recipes, rows_behind_recipes, first_rows, later_rows, rows_with, rows_of}
 use Rattle.row_batches.specs.declared.store_row.StoreRow.{StoreRow}
-
--- the key is below those of all these rows
-abbrev pub IsBelow : List ℕ → List StoreRow → Type 0
-IsBelow key rows = AllByRecursion (λ t. slug_cmp key t ≡ Less) (map key_of rows)
-
-below_append : (key : List ℕ) (rs ss : List StoreRow) → IsBelow key rs → IsBelow key ss → IsBelow key (rs ++ ss)
-below_append key [] ss r_are s_are = s_are
-below_append key (r ∷ rs) ss r_are s_are = (r_are.0, below_append key rs ss r_are.1 s_are)
-
-below_map : {A : Type 0} (key : List ℕ) (f : A → StoreRow) (xs : List A) → ((x : A) → slug_cmp key (f x).key ≡ Less) → IsBelow key (map f xs)
-below_map key f [] each = tt
-below_map key f (x ∷ xs) each = (each x, below_map key f xs each)
-
-pub all_below : {A : Type 0} (f : A → StoreRow) (xs : List A) (behind : List StoreRow) → ((x : A) → IsBelow (f x).key behind) → Precede (map f xs) behind
-all_below f [] behind each = tt
-all_below f (x ∷ xs) behind each = (each x, all_below f xs behind each)
-
-pub rise_append : (rs ss : List StoreRow) → AreRows rs → AreRows ss → Precede rs ss → AreRows (rs ++ ss)
-unfolding IsStrictlySortedBy
-rise_append [] ss r_rise s_rise below = s_rise
-rise_append (r ∷ rs) ss r_rise s_rise below = (below_append r.key rs ss r_rise.0 below.0, rise_append rs ss r_rise.1 s_rise below.1)
+use Rattle.row_batches.proofs.RowOrder.{IsBelow, below_append, below_map, all_below, rise_append, rise_section}
 
 -- ---- sections
-
--- keys of one letter are in the order of what follows it
-module _ {A : Type 0} (tag : ℕ) (text : A → List ℕ) (f : A → StoreRow) (keyed : (x : A) → (f x).key ≡ tag ∷ text x) (same : (s t : List ℕ) → slug_cmp (tag ∷ s) (tag ∷ t) ≡ slug_cmp s t) where
-  above_section : (x : A) (xs : List A) → AllByRecursion (λ t. slug_cmp (text x) t ≡ Less) (map text xs) → IsBelow (f x).key (map f xs)
-  above_section x [] above = tt
-  above_section x (y ∷ ys) above = (ap₂ (λ (a b : List ℕ). slug_cmp a b) (keyed x) (keyed y) ∙ same (text x) (text y) ∙ above.0, above_section x ys above.1)
-
-  rise_section : (xs : List A) → Rise (map text xs) → AreRows (map f xs)
-  unfolding IsStrictlySortedBy
-  rise_section [] rise = tt
-  rise_section (x ∷ xs) rise = (above_section x xs rise.0, rise_section xs rise.1)
 
 recipes_above : (slug : List ℕ) (rs : List Recipe) → payloads.AreAbove slug rs → AllByRecursion (λ t. slug_cmp slug t ≡ Less) (map (λ (r : Recipe). r.slug) rs)
 recipes_above slug [] above = tt
@@ -67,13 +35,13 @@ pending_order (Some rs) are = are.in_order
 
 pub first_rise : (s : State) → IsConsistent s → AreRows (first_rows s)
 unfolding first_rows
-first_rise s is = rise_section 99 (λ (t : List ℕ). t) (key_row (99 ∷ [])) (λ t. refl) (λ a b. refl) s.coenrolling (subst Rise (sym (map_itself s.coenrolling)) is.coenrolling_order)
+first_rise s is = rise_section (λ (t : List ℕ). t) (key_row (99 ∷ [])) (λ x y. refl) s.coenrolling (subst Rise (sym (map_itself s.coenrolling)) is.coenrolling_order)
 
 pub opted_out_rise : (s : State) → IsConsistent s → AreRows (map (key_row (111 ∷ [])) s.opted_out)
-opted_out_rise s is = rise_section 111 (λ (t : List ℕ). t) (key_row (111 ∷ [])) (λ t. refl) (λ a b. refl) s.opted_out (subst Rise (sym (map_itself s.opted_out)) is.opted_out_order)
+opted_out_rise s is = rise_section (λ (t : List ℕ). t) (key_row (111 ∷ [])) (λ x y. refl) s.opted_out (subst Rise (sym (map_itself s.opted_out)) is.opted_out_order)
 
 pub client_rows_rise : (s : State) → IsConsistent s → AreRows (map status_row s.rows)
-client_rows_rise s is = rise_section 114 (λ (w : Row). w.slug) status_row (λ w. refl) (λ a b. refl) s.rows is.row_order
+client_rows_rise s is = rise_section (λ (w : Row). w.slug) status_row (λ x y. refl) s.rows is.row_order
 
 module _ (byte : ℕ) (s : State) where
   -- behind the lists the sections follow one another
@@ -148,14 +116,14 @@ module _ (byte : ℕ) (s : State) where
   pending_rise is =
       let rs = pending_recipes s.pending in
       rise_append (map (recipe_row (110 ∷ [])) rs) from_opt_outs
-      (rise_section 110 (λ (r : Recipe). r.slug) (recipe_row (110 ∷ [])) (λ r. refl) (λ a b. refl) rs (recipes_rise rs (pending_order s.pending is.pending)))
+      (rise_section (λ (r : Recipe). r.slug) (recipe_row (110 ∷ [])) (λ x y. refl) rs (recipes_rise rs (pending_order s.pending is.pending)))
       (opt_outs_rise is)
       (all_below (recipe_row (110 ∷ [])) rs from_opt_outs (λ r. pending_below r.slug))
 
   live_rise : IsConsistent s → AreRows from_live
   live_rise is =
       rise_append (map (recipe_row (108 ∷ [])) s.live) from_pending
-      (rise_section 108 (λ (r : Recipe). r.slug) (recipe_row (108 ∷ [])) (λ r. refl) (λ a b. refl) s.live (recipes_rise s.live is.live.in_order))
+      (rise_section (λ (r : Recipe). r.slug) (recipe_row (108 ∷ [])) (λ x y. refl) s.live (recipes_rise s.live is.live.in_order))
       (pending_rise is)
       (all_below (recipe_row (108 ∷ [])) s.live from_pending (λ r. live_below r.slug))
 

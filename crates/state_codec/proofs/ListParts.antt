@@ -8,13 +8,13 @@ use Rattle.row_batches.proofs.Joining.{Precede, between-append}
 use Rattle.row_batches.proofs.Sizes.{puts_size-append}
 use Rattle.row_batches.specs.Batch.{puts_text}
 use Rattle.row_batches.specs.Between.{changes_between}
-use Rattle.row_batches.specs.Rows.{AreRows}
+use Rattle.row_batches.specs.Rows.{AreRows, key_of}
 use Rattle.row_batches.specs.declared.change.RowChange.{RowChange}
 use Rattle.row_batches.specs.declared.store_row.StoreRow.{StoreRow}
 use Rattle.sequences.specs.ListParts.{IsPart, part_of_old, part_of_new}
 use Rattle.sequences.specs.declared.list_part.ListPart.{ListPart}
+use Rattle.sequences.proofs.Rising.{behind_rises, above_behind}
 use Rattle.state_codec.proofs.Joined.{between_itself}
-use Rattle.state_codec.proofs.KeyOrder.{IsBelow}
 
 -- what holds of all items holds of those of a part
 pub part_of_all : {A : Type 0} (P : A → Type 0) (xs : List A) (i n : ℕ) → All P xs → All P (take n (drop i xs))
@@ -37,25 +37,16 @@ module _ {A : Type 0} (part : ListPart) (old new : List A) (is : IsPart part old
 
 -- ---- rows that are joined
 
-last_below : (key : List ℕ) (rs ss : List StoreRow) → IsBelow key (rs ++ ss) → IsBelow key ss
-last_below key [] ss below = below
-last_below key (r ∷ rs) ss below = last_below key rs ss below.1
-
 precede : (rs ss : List StoreRow) → AreRows (rs ++ ss) → Precede rs ss
 unfolding IsStrictlySortedBy
 precede [] ss rise = tt
-precede (r ∷ rs) ss rise = (last_below r.key rs ss rise.0, precede rs ss rise.1)
-
-last_rise : (rs ss : List StoreRow) → AreRows (rs ++ ss) → AreRows ss
-unfolding IsStrictlySortedBy
-last_rise [] ss rise = rise
-last_rise (r ∷ rs) ss rise = last_rise rs ss rise.1
+precede (r ∷ rs) ss rise = (above_behind key_of r.key rs ss rise.0, precede rs ss rise.1)
 
 pub middle_alone : (front olds news behind : List StoreRow) → AreRows (front ++ (olds ++ behind)) → AreRows (front ++ (news ++ behind))
     → changes_between (front ++ (olds ++ behind)) (front ++ (news ++ behind)) ≡ changes_between olds news
 middle_alone front olds news behind old_rise new_rise =
-    let old_behind = last_rise front (olds ++ behind) old_rise in
-    let new_behind = last_rise front (news ++ behind) new_rise in
+    let old_behind = behind_rises key_of front (olds ++ behind) old_rise in
+    let new_behind = behind_rises key_of front (news ++ behind) new_rise in
     between-append (olds ++ behind) (news ++ behind) front front (precede front (news ++ behind) new_rise) (precede front (olds ++ behind) old_rise)
     ∙ ap (λ (cs : List RowChange). cs ++ changes_between (olds ++ behind) (news ++ behind)) (between_itself front)
     ∙ between-append behind behind olds news (precede olds behind old_behind) (precede news behind new_behind)

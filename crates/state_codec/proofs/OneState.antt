@@ -1,5 +1,6 @@
 -- Rows, and bytes, are a form of one sound state at most.
 use Rattle.std.proofs.Common.{◌≡◌, ℕ, List, inl, refl, sym, ◌∙◌, subst}
+use Rattle.std.proofs.lemmas.Option.{same_Some}
 use Rattle.enrol_states.specs.declared.state.State.{State}
 use Rattle.row_batches.specs.Batch.{whole_of}
 use Rattle.row_batches.specs.declared.store_row.StoreRow.{StoreRow}
@@ -8,11 +9,10 @@ use Rattle.row_batches.proofs.OneEncoding.{one_encoding as batch_encoding}
 use Rattle.state_codec.specs.Forms.{IsForm, IsEncoded}
 use Rattle.state_codec.specs.Encoding.{encoding}
 use Rattle.state_codec.specs.Sound.{IsSound}
-use Rattle.state_codec.proofs.Items.{some_same}
 use Rattle.state_codec.proofs.Forms.{Text, form_read, form_rises, form_rule, text_of_form}
 
 pub one_form : (rows : List StoreRow) (s t : State) → IsSound s → IsSound t → IsForm s rows → IsForm t rows → s ≡ t
-one_form rows s t s_is t_is s_has t_has = some_same s t (sym (form_read rows s s_is s_has) ∙ form_read rows t t_is t_has)
+one_form rows s t s_is t_is s_has t_has = same_Some s t (sym (form_read rows s s_is s_has) ∙ form_read rows t t_is t_has)
 
 one_text : (bytes : List ℕ) (s t : State) → IsSound s → IsSound t → Text s bytes → Text t bytes → s ≡ t
 one_text bytes s t s_is t_is a b =

@@ -18,7 +18,7 @@ use Rattle.state_codec.specs.Reading as reading
 use Rattle.state_values.specs.Reading.{flags, participation_in}
 use Rattle.state_codec.specs.Reading.{participation_under, slug_row, text_row, client_row, client_row_in, inserting, slugs_under, texts_under, client_rows_under, recipes_under, number_under, flag_under, id_under, version_under, pending_if, lists_in, recipes_in, last_in, state_in}
 use Rattle.state_values.proofs.ValuesRead.{slug_read, text_read, number_read, flag_read, id_read, recipe_read, status_read}
-use Rattle.state_values.proofs.Names.{name_utf8}
+use Rattle.state_values.proofs.Names.{IsUtf8-name}
 use Rattle.state_codec.proofs.SectionsRead.{all_kept, all_inserted, skipped, all_sections, all_statuses, all_last, to_statuses, to_last}
 
 -- ---- the lists
@@ -26,7 +26,7 @@ use Rattle.state_codec.proofs.SectionsRead.{all_kept, all_inserted, skipped, all
 features_read : (s : State) → IsConsistent s → texts_under 99 (first_rows s) ≡ Some s.coenrolling
 unfolding texts_under text_row first_rows
 features_read s is =
-    all_kept (λ name. IsTrue (is_name name)) (text_row 99) (key_row (99 ∷ [])) s.coenrolling [] (λ name is_one. ap (λ o. o >>= λ t. Some (Some t)) (text_read name (name_utf8 name is_one))) is.coenrolling_names
+    all_kept (λ name. IsTrue (is_name name)) (text_row 99) (key_row (99 ∷ [])) s.coenrolling [] (λ name is_one. ap (λ o. o >>= λ t. Some (Some t)) (text_read name (IsUtf8-name name is_one))) is.coenrolling_names
 
 opted_out_read : (byte : ℕ) (s : State) → IsConsistent s → slugs_under 111 (later_rows byte s) ≡ Some s.opted_out
 unfolding slugs_under slug_row

@@ -1,7 +1,8 @@
 -- Rows whose slugs rise.
-use Rattle.std.proofs.Common.{Ordering, ◌≡◌, ◌-◌, ◌<◌, ◌≤◌, true, List, [], ◌∷◌, length, get_or, take, drop, take_all, Less, Equal, Greater, refl, subst, arith}
+use Rattle.std.proofs.Common.{◌≡◌, ◌-◌, ◌<◌, ◌≤◌, true, List, [], ◌∷◌, length, get_or, take, drop, take_all, Less, subst, arith}
 use Rattle.std.specs.Ordering.{is_lt}
 use Rattle.std.specs.List.Sorted.{IsStrictlySortedBy}
+use Rattle.sequences.proofs.Texts.{is_Less}
 use Rattle.recipe_reader.specs.Payloads.{slug_cmp}
 use Rattle.enrol_states.specs.Order.{Rise}
 use Rattle.enrol_states.specs.State.{slugs_of}
@@ -18,14 +19,9 @@ rise_first : (r s : Row) (rows : List Row) → slug_cmp r.slug s.slug ≡ Less �
 unfolding IsStrictlySortedBy
 rise_first r s rows less rise = ((less, above_trans r.slug s.slug (slugs_of rows) less rise.0), rise)
 
-less_is : (o : Ordering) → is_lt o ≡ true → o ≡ Less
-less_is Less e = refl
-less_is Equal e = absurd (cc)
-less_is Greater e = absurd (cc)
-
 pub rise_next : (rows : List Row) (a b : Row) → 2 ≤ length rows → a ≡ get_or rows 0 a → b ≡ get_or rows 1 b → is_lt (slug_cmp a.slug b.slug) ≡ true → Rise (slugs_of (take (length rows - 1) (drop 1 rows))) → Rise (slugs_of rows)
 rise_next [] a b two first second less rise = absurd (omega arith)
 rise_next (r ∷ []) a b two first second less rise = absurd (omega arith)
 rise_next (r ∷ s ∷ rows) a b two first second less rise =
-    rise_first r s rows (less_is _ (subst (λ (q : Row). is_lt (slug_cmp r.slug q.slug) ≡ true) second (subst (λ (q : Row). is_lt (slug_cmp q.slug b.slug) ≡ true) first less)))
+    rise_first r s rows (is_Less _ (subst (λ (q : Row). is_lt (slug_cmp r.slug q.slug) ≡ true) second (subst (λ (q : Row). is_lt (slug_cmp q.slug b.slug) ≡ true) first less)))
     (subst (λ (l : List Row). Rise (slugs_of l)) (take_all (length (r ∷ s ∷ rows) - 1) (s ∷ rows) (omega arith)) rise)

@@ -1,7 +1,7 @@
 -- Runs, a byte at a time.
 use Rattle.std.proofs.Common.{◌≡◌, ℕ, Bool, true, false, cond, List, [], ◌∷◌, ◌++◌, length, ◌-◌, ◌≤◌, refl, sym, ap, ◌∙◌, arith, length-append}
-use Rattle.std.specs.Prelude.{◌==◌, take}
-use Rattle.std.proofs.lemmas.Bool.{eqb-true, eq-eqb}
+use Rattle.std.specs.Prelude.{take}
+use Rattle.std.proofs.lemmas.Bool.{eq-eqb, ne_eqb}
 use Rattle.std.proofs.lemmas.List.{take_at}
 use Rattle.sequences.specs.Runs.{prepend, run}
 use Rattle.version_compare.specs.Bytes.{is_no_dot}
@@ -21,12 +21,8 @@ pub after_none : (test : ℕ → Bool) (all bs : List ℕ) → all ≡ (run test
 unfolding run
 after_none test all bs e f = f ∙ sym (e ∙ ap (λ (w : List ℕ). (run test w).1) f)
 
-pub differs : (a b : ℕ) → (a ≡ b → ⊥) → (t : Bool) → (a == b) ≡ t → t ≡ false
-differs a b n true e = absurd (n (eqb-true a b e))
-differs a b n false e = refl
-
 pub dot_on : (all : List ℕ) (b : ℕ) (bs rest : List ℕ) → all ≡ (run is_no_dot bs).1 → bs ≡ b ∷ rest → (b ≡ 46 → ⊥) → all ≡ (run is_no_dot rest).1
-dot_on all b bs rest e f n = after_on is_no_dot all b bs rest true e f (sym (ap (λ (t : Bool). cond t false true) (differs b 46 n (b == 46) refl))) refl
+dot_on all b bs rest e f n = after_on is_no_dot all b bs rest true e f (sym (ap (λ (t : Bool). cond t false true) (ne_eqb b 46 n))) refl
 
 pub dot_stop : (all : List ℕ) (b : ℕ) (bs rest : List ℕ) → all ≡ (run is_no_dot bs).1 → bs ≡ b ∷ rest → b ≡ 46 → bs ≡ all
 dot_stop all b bs rest e f n = after_stop is_no_dot all b bs rest false e f (sym (ap (λ (t : Bool). cond t false true) (eq-eqb b 46 n))) refl

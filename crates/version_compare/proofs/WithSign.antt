@@ -1,10 +1,10 @@
 -- Numbers with a sign.
 use Rattle.std.proofs.Common.{◌≡◌, ℕ, Bool, cond, List, [], ◌∷◌, refl, sym, ap, subst, ◌∙◌}
 use Rattle.std.specs.Char.{is_ascii_digit}
-use Rattle.std.specs.Prelude.{ℤ, pos, neg_ℤ, ◌==◌}
+use Rattle.std.specs.Prelude.{ℤ, pos, neg_ℤ}
+use Rattle.std.proofs.lemmas.Bool.{ne_eqb}
 use Rattle.sequences.specs.Runs.{prepend, run}
 use Rattle.version_compare.specs.Versions.{magnitude, number_after_minus, number_in_front, number_of_digits}
-use Rattle.version_compare.proofs.RunLaws.{differs}
 
 abbrev pub above_zero : ℕ → List ℕ → ℤ × List ℕ
 above_zero value rest = (pos value, rest)
@@ -19,7 +19,7 @@ pub number_some : (b : ℕ) (bs after rest : List ℕ) (value : ℕ) → bs ≡ 
 number_some b bs after rest value e n ev er =
     let x : ℤ × List ℕ = (pos value, rest) in
     let same : x ≡ number_of_digits (run is_ascii_digit bs) = ap (λ (m : ℕ). above_zero m rest) ev ∙ ap (above_zero (magnitude (run is_ascii_digit bs).0)) er in
-    same ∙ ap (λ (w : List ℕ). number_of_digits (run is_ascii_digit w)) e ∙ sym (ap number_in_front e ∙ ap (λ (t : Bool). cond t (number_after_minus after (run is_ascii_digit after)) (number_of_digits (run is_ascii_digit (b ∷ after)))) (differs b 45 n (b == 45) refl))
+    same ∙ ap (λ (w : List ℕ). number_of_digits (run is_ascii_digit w)) e ∙ sym (ap number_in_front e ∙ ap (λ (t : Bool). cond t (number_after_minus after (run is_ascii_digit after)) (number_of_digits (run is_ascii_digit (b ∷ after)))) (ne_eqb b 45 n))
 
 pub minus_none : (bs after : List ℕ) → bs ≡ 45 ∷ after → run is_ascii_digit after ≡ ([], after) → above_zero 0 bs ≡ number_in_front bs
 minus_none bs after e f = ap (above_zero 0) e ∙ sym (ap number_in_front e ∙ ap (number_after_minus after) f)

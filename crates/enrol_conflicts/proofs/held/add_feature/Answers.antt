@@ -2,13 +2,10 @@ use Rattle.std.proofs.Common.{◌≡◌, Bool, true, false, List, ℕ, ◌&&◌,
 use Rattle.std.specs.BTreeSet.{BTreeSet}
 use Rattle.std.specs.Borrow.{Bor}
 use Rattle.std.specs.Cmp.Lexicographic.{bytes_decides}
+use Rattle.std.proofs.Math.Bool.{or-false}
 use Rattle.enrol_states.specs.TextSets.{has_text}
 use Rattle.enrol_states.proofs.Sets.{has_text-insert}
 use Rattle.enrol_conflicts.proofs.held.add_feature.Goals as goal
-
-or_none : (a : Bool) → a ≡ (a || false)
-or_none true = refl
-or_none false = refl
 
 -- a text that may not be shared
 alone : (set : BTreeSet (Bor (List ℕ))) (g f : List ℕ) (b : Bool) → bytes_eq g f ≡ b → has_text set g ≡ false → b ≡ (b && not (has_text set f))
@@ -23,7 +20,7 @@ spared set g f false e there = refl
 pub returns-then-has_text : goal.returns-then-has_text
 returns-then-has_text c = λ f.
     let there : has_text c.args.shared.now c.args.feature.now ≡ true = cc in
-    or_none (has_text c.args.held.now f) ∙ ap (λ b. has_text c.args.held.now f || b) (sym (spared c.args.shared.now c.args.feature.now f (bytes_eq c.args.feature.now f) refl there))
+    sym (or-false (has_text c.args.held.now f)) ∙ ap (λ b. has_text c.args.held.now f || b) (sym (spared c.args.shared.now c.args.feature.now f (bytes_eq c.args.feature.now f) refl there))
 
 pub returns : goal.returns
 returns c = λ f.

@@ -1,6 +1,6 @@
 use Rattle.std.proofs.Common.{rules, ◌≡◌, [], ap, ◌∙◌}
 use Rattle.std.specs.Prelude.{unwrap_or}
-use Rattle.enrol_evolver.proofs.Results.{if_matched}
+use Rattle.enrol_states.proofs.Answered.{if_matched}
 use Rattle.enrol_evolver.proofs.refreshing.version_of.Goals as goal
 
 pub returns-in-Some : goal.returns-in-Some

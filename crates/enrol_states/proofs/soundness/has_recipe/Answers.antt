@@ -1,14 +1,10 @@
 -- There is a recipe with the slug exactly where one is found.
-use Rattle.std.proofs.Common.{◌≡◌, List, ℕ, Option, Some, None, refl, sym, ap, ◌∙◌}
-use Rattle.std.specs.Prelude.{option_map}
+use Rattle.std.proofs.Common.{List, ℕ, sym, ap, ◌∙◌}
 use Rattle.std.specs.Option.{is_some}
 use Rattle.recipe_reader.specs.Payloads.{recipe_with}
 use Rattle.enrol_states.proofs.SoundEnrolments.{is_some-recipe_with}
+use Rattle.enrol_states.proofs.Lookups.{is_some-map}
 use Rattle.enrol_states.proofs.soundness.has_recipe.Goals as goal
-
-is_some-map : {A B : Type 0} (f : A → B) (o : Option A) → is_some (option_map f o) ≡ is_some o
-is_some-map f None = refl
-is_some-map f (Some a) = refl
 
 pub returns : goal.returns
 returns c =

@@ -1,6 +1,6 @@
 use Rattle.std.proofs.Common.{◌≡◌, ◌++◌, ◌∷◌, [], List, ℕ, ◌<◌, ◌^◌, length, length-append, sym, subst, ap, arith}
 use Rattle.std.specs.List.{AllByRecursion}
-use Rattle.row_batches.proofs.Keeping.{all_push}
+use Rattle.sequences.proofs.Alls.{all_push}
 use Rattle.event_counts.proofs.Values.{one_more}
 use Rattle.event_counts.proofs.reading.numbers_in.Goals as goal
 

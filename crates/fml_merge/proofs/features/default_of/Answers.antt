@@ -1,4 +1,5 @@
 use Rattle.std.proofs.Common.{◌≡◌, map, Bor, IfOk, sym, ap, ap₂, ◌∙◌, subst}
+use Rattle.std.proofs.lemmas.Result.{IfOk-weaker}
 use Rattle.json_tree.specs.Json.{Json}
 use Rattle.json_tree.specs.Tree.{json_of}
 use Rattle.json_tree.specs.declared.tree.Tree.{Tree}
@@ -11,7 +12,6 @@ use Rattle.fml_merge.specs.Features as features
 use Rattle.fml_merge.specs.Zero.{zero_of, initial}
 use Rattle.fml_merge.proofs.Levels.{zeros_typed, low_objects}
 use Rattle.fml_merge.proofs.Patches.{patches_laid}
-use Rattle.fml_merge.proofs.Results.{ok_weaker}
 use Rattle.fml_merge.proofs.Variables.{variables_typed}
 use Rattle.fml_merge.proofs.features.default_of.Goals as goal
 
@@ -30,7 +30,7 @@ pub returns-clause-typed : goal.returns-clause-typed
 returns-clause-typed c =
     let m = c.args.manifest.now in
     let f = c.args.feature.now in
-    ok_weaker c.overlay_each.result (λ v. IsSoundTable m.types → IsGrounded m.types → AreSoundFields m.types f.variables → IsOfFeature m f (object (entries_of c.in_ok-initial.field-0)) → IsOfFeature m f (typed_of v))
+    IfOk-weaker c.overlay_each.result (λ v. IsSoundTable m.types → IsGrounded m.types → AreSoundFields m.types f.variables → IsOfFeature m f (object (entries_of c.in_ok-initial.field-0)) → IsOfFeature m f (typed_of v))
     (λ v. IsSoundTable m.types → IsGrounded m.types → AreSoundFields m.types f.variables → IsOfFeature m f (typed_of v))
     (λ v h table grounded sound. h table grounded sound
     (subst (λ es. AreFields m.types f.variables (entries_of es)) (sym c.in_ok-initial.ensures) (variables_typed m.types table (zeros_typed m.types table (low_objects m.types grounded)) f.variables sound)))

@@ -1,8 +1,9 @@
 use Rattle.std.proofs.Common.{◌≡◌, ℕ, ◌<◌, List, [], ◌∷◌, length, refl, ap, ◌∙◌, arith}
 use Rattle.std.specs.List.{Contains}
+use Rattle.std.proofs.lemmas.List.{nil_from_length}
 use Rattle.fml_types.specs.Reach.{row, raised_all}
 use Rattle.fml_types.specs.Values.{value_in}
-use Rattle.fml_types.proofs.Raising.{begun, next_within, row_within, turn, less_left, none_left, ended}
+use Rattle.fml_types.proofs.Raising.{begun, next_within, row_within, turn, less_left, ended}
 use Rattle.fml_types.proofs.reach.raise_from.Goals as goal
 
 pub raise-requires : goal.raise-requires
@@ -48,4 +49,4 @@ loop-next-preserved c =
 pub returns : goal.returns
 returns c =
     let empty : length c.loop-next.pending.items ≡ 0 = omega (arith, c.in_default.ensures.cases.0, c.loop-next.pending.ok.0) in
-    ended c.args.mentioned_by.now c.args.place c.args.values.now (value_in c.args.values.now c.args.place) c.loop-next.values c.loop-next.pending.items c.loop-next.invariant (none_left c.loop-next.pending.items empty)
+    ended c.args.mentioned_by.now c.args.place c.args.values.now (value_in c.args.values.now c.args.place) c.loop-next.values c.loop-next.pending.items c.loop-next.invariant (nil_from_length c.loop-next.pending.items empty)

@@ -1,14 +1,15 @@
 use Rattle.std.proofs.Common.{◌≡◌, ◌∷◌, ◌++◌, [], map, sym, ap, ◌∙◌, subst}
 use Rattle.serde_json.proofs.Views.{Entry}
 use Rattle.std.specs.Vec.Iter.{into_iter_items}
+use Rattle.std.proofs.lemmas.List.{nil_from_length}
 use Rattle.json_tree.specs.Json.{items_of, members_of, IsAbove}
 use Rattle.json_tree.proofs.Growing.{IsRising, IsAbove-done}
-use Rattle.json_tree.proofs.Converting.{item_of, entry_of, of_items-items_view, of_members-members_view, IsRising-entries, none_left, all_done}
+use Rattle.json_tree.proofs.Converting.{item_of, entry_of, of_items-items_view, of_members-members_view, IsRising-entries, all_done}
 use Rattle.json_tree.proofs.reading.+convert.Goals as goal
 
 pub convert_items-returns : goal.convert_items-returns
 convert_items-returns t c =
-    let over : into_iter_items c.loop-value.value-iterator ≡ [] = none_left _ (sym c.loop-value.value-iterator.rest.ok.0 ∙ c.in-None.ensures.steps.0) in
+    let over : into_iter_items c.loop-value.value-iterator ≡ [] = nil_from_length _ (sym c.loop-value.value-iterator.rest.ok.0 ∙ c.in-None.ensures.steps.0) in
     ap items_of (all_done item_of _ _ _ over c.loop-value.invariant) ∙ sym (of_items-items_view c.args.values.items)
 
 pub convert_members-push-requires : goal.convert_members-push-requires
