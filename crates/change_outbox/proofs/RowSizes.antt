@@ -3,7 +3,7 @@ use Rattle.std.proofs.Common.{◌≡◌, ◌+◌, ◌*◌, ◌<◌, ◌≤◌, �
 use Rattle.std.specs.Prelude.{nat_lt, if◌then◌else◌}
 use Rattle.std.proofs.lemmas.Bool.{lt-ltb}
 use Rattle.std.proofs.lemmas.List.{map-append, take-append-drop, take_more}
-use Rattle.plain_text.proofs.Names.{slug_short}
+use Rattle.plain_text.proofs.ShortNames.{slug_short}
 use Rattle.row_batches.proofs.Sizes.{put_size, puts_size-append}
 use Rattle.row_batches.specs.Batch.{puts_text}
 use Rattle.change_outbox.specs.declared.change.Change.{Change}

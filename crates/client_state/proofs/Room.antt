@@ -3,7 +3,7 @@ use Rattle.std.proofs.Common.{◌≤◌, ◌<◌, ◌^◌, ◌∷◌, [], List, 
 use Rattle.std.specs.Prelude.{nat_lt, if◌then◌else◌}
 use Rattle.std.specs.List.{AllByRecursion}
 use Rattle.plain_text.specs.Names.{is_name}
-use Rattle.plain_text.proofs.Names.{name_short}
+use Rattle.plain_text.proofs.ShortNames.{name_short}
 use Rattle.row_batches.specs.Batch.{batch_text, whole_of}
 use Rattle.row_batches.specs.Batches.{HaveRoom}
 use Rattle.event_counts.specs.Rows as count_rows

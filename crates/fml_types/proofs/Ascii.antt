@@ -5,7 +5,7 @@ use Rattle.std.specs.Cmp.{first_so, second_so}
 use Rattle.std.specs.List.{list_all}
 use Rattle.std.specs.Prelude.{◌&&◌, ◌||◌, nat_lt, nat_le, length, not}
 use Rattle.plain_text.specs.Names.{is_name_byte, is_name}
-use Rattle.plain_text.proofs.Names.{all_ascii}
+use Rattle.plain_text.proofs.ShortNames.{all_ascii}
 use Rattle.fml_types.specs.TypeTexts.{is_type_name, is_simple_word, is_bracket_word}
 
 pub IsUtf8-name : (b : List ℕ) → is_type_name b ≡ true → IsUtf8 b

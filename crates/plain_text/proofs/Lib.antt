@@ -1,7 +1,7 @@
 pub mod Decimals
 pub mod Splitting
 pub mod Slugs
-pub mod Names
+pub mod ShortNames
 pub mod Days
 pub mod Written
 pub mod Forms

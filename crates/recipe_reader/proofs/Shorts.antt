@@ -24,7 +24,7 @@ use Rattle.recipe_reader.proofs.Steps.{ok_is, needed_ok, only_if_ok}
 use Rattle.recipe_reader.proofs.BranchesAgain.{one_more, feature_parts, list_parts, listed_again, branch_parts, feature_test, branch_test}
 use Rattle.recipe_reader.proofs.Again.{recipe_parts, branches_in_ok}
 use Rattle.recipe_reader.specs.Lengths.{IsShort, HasShortFeatures, HasShortBranches}
-use Rattle.plain_text.proofs.Names.{name_short}
+use Rattle.plain_text.proofs.ShortNames.{name_short}
 
 third : (a b c : Bool) → (a && b && c) ≡ true → c ≡ true
 third true true c e = e

@@ -1,5 +1,5 @@
 -- Slugs and names are short, and in UTF-8.
-pub use Rattle.plain_text.proofs.Names.{slug_short, name_short, IsUtf8-name}
+pub use Rattle.plain_text.proofs.ShortNames.{slug_short, name_short, IsUtf8-name}
 use Rattle.std.proofs.Common.{◌≡◌, ℕ, true, Option, Some, None, refl}
 use Rattle.std.specs.Prelude.{not}
 use Rattle.std.specs.Option.{is_some}

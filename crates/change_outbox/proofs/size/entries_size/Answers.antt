@@ -1,6 +1,6 @@
 -- One entry more, whose slug and branch have at most 80 bytes each.
 use Rattle.std.proofs.Common.{length, ap, arith}
-use Rattle.plain_text.proofs.Names.{slug_short}
+use Rattle.plain_text.proofs.ShortNames.{slug_short}
 use Rattle.change_outbox.proofs.RowSizes.{size_more}
 use Rattle.change_outbox.proofs.size.entries_size.Goals as goal
 

@@ -1,7 +1,7 @@
 -- The bytes of a name are a text.
 use Rattle.std.proofs.Common.{◌≡◌, ◌-◌, false, List, ℕ, Result, Ok, Err, IsUtf8, length, take, drop, sym, ◌∙◌}
 use Rattle.std.specs.Result.{MatchResult, is_ok}
-use Rattle.plain_text.proofs.Names.{IsUtf8-name}
+use Rattle.plain_text.proofs.ShortNames.{IsUtf8-name}
 use Rattle.event_counts.proofs.reading.name_in.Goals as goal
 
 failed : {T E : Type 0} (r : Result T E) (P : T → Type 0) (Q : E → Type 0) → is_ok r ≡ false → MatchResult r P Q → ((e : E) → Q e → ⊥) → ⊥

@@ -1,6 +1,6 @@
 -- One name more, which has at most 80 bytes.
 use Rattle.std.proofs.Common.{length, ap, arith}
-use Rattle.plain_text.proofs.Names.{name_short}
+use Rattle.plain_text.proofs.ShortNames.{name_short}
 use Rattle.event_counts.specs.declared.name_counts.NameCounts.{NameCounts}
 use Rattle.event_counts.proofs.RowSizes.{size_more, sound_at}
 use Rattle.event_counts.proofs.size.names_size.Goals as goal

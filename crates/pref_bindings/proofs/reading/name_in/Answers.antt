@@ -1,6 +1,6 @@
 -- The bytes of a name are a text.
 use Rattle.std.proofs.Common.{◌≡◌, ◌-◌, List, ℕ, length, take, drop, sym, ◌∙◌}
-use Rattle.plain_text.proofs.Names.{IsUtf8-name}
+use Rattle.plain_text.proofs.ShortNames.{IsUtf8-name}
 use Rattle.pref_bindings.proofs.reading.name_in.Goals as goal
 
 pub returns-in-Err-clause-none : goal.returns-in-Err-clause-none
