@@ -251,7 +251,7 @@ impl Client {
         ensures fits { IfOk result (λ next. IfOk next (λ _. length (encoding (state_after change.now (state_of self.old))) ≤ max_size)) }
         ensures large { IfOk result (λ next. IfErr next (λ size. (size ≡ length (encoding (state_after change.now (state_of self.old)))) × (max_size < size))) }
     {
-        match self.store.sized(change)? {
+        match self.store.sized(alloc, change)? {
             Ok(next) => Ok(Ok(self.store.change_to(alloc, next, change)?)),
             Err(size) => Ok(Err(size)),
         }
