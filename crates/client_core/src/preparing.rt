@@ -138,7 +138,7 @@ impl Client {
             Command::WriteManifest => writing_manifest(alloc, &self.session),
             Command::Event { name, count } => counting(alloc, self.state(), name, *count, now),
             Command::Changes => listing_changes(self.state()),
-            Command::Confirm { number } => confirming(self.state(), *number),
+            Command::Confirm { number } => confirming(alloc, self.state(), *number),
             Command::SetPreference { name, value } => self.preferring(alloc, name, Some(value)),
             Command::ClearPreference { name } => self.preferring(alloc, name, None),
             Command::Preferences => listing_preferences(self.state()),
@@ -159,8 +159,8 @@ impl Client {
         ensures answer { IfOk result (λ prepared. IsAnswerOrRefused (answer_for asked) (answer_in prepared)) }
     {
         match asked {
-            Asked::NewState { change, answer } => self.changed(alloc, change, answer),
-            Asked::Followed { change, answer } => self.changed_to(alloc, &change, answer),
+            Asked::NewState { change, answer } => self.changed(alloc, change.into_change(), answer),
+            Asked::Followed { change, answer } => self.changed_to(alloc, change.get(), answer),
             Asked::SameState { change, answer } => Ok(self.unchanged(change, answer)),
             Asked::Refused(refusal) => {
                 Ok(self.unchanged(SessionChange::Stays, Answer::Refused(refusal)))
@@ -251,7 +251,7 @@ impl Client {
         ensures fits { IfOk result (λ next. IfOk next (λ _. length (encoding (state_after change.now (state_of self.old))) ≤ max_size)) }
         ensures large { IfOk result (λ next. IfErr next (λ size. (size ≡ length (encoding (state_after change.now (state_of self.old)))) × (max_size < size))) }
     {
-        match self.store.sized(change)? {
+        match self.store.sized(alloc, change)? {
             Ok(next) => Ok(Ok(self.store.change_to(alloc, next, change)?)),
             Err(size) => Ok(Err(size)),
         }

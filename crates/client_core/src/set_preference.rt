@@ -14,7 +14,7 @@ ghost use Rattle.client_steps.specs.Steps.{Accepted, Refused, preferring, releas
 use crate::client::Client;
 use change_outbox::AppendChangesFault;
 use client_state::StateChange;
-use client_steps::Asked;
+use client_steps::{Asked, BoxedChange};
 use client_words::{Answer, Refusal};
 use enrol_states::{NextState, end_enrolment};
 use json_tree::Tree;
@@ -43,7 +43,7 @@ impl Client {
             Ok(change) => {
                 let change = self.store.set_preference(change, name, value)?;
                 Ok(Asked::Followed {
-                    change,
+                    change: BoxedChange::new(alloc, change)?,
                     answer: Answer::Okay,
                 })
             }

@@ -25,4 +25,5 @@ mod Trees
 mod SoundValues
 pub mod WrittenManifests
 pub mod AskedFiles
+mod Asking
 mod TakingPart

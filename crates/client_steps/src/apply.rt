@@ -42,12 +42,12 @@ pub fn applying(
     let Some(context) = &session.context else {
         return Ok(Asked::Refused(Refusal::NoContext));
     };
-    let context = with_events(context, &state.events.view(alloc, now)?)?;
+    let context = with_events(context.get(), &state.events.view(alloc, now)?)?;
     let coenrolling = linked.coenrolling(alloc)?;
     let next = evolve(alloc, &state.enrolment, &context, coenrolling, table, now)?;
     let recipes = applied_lists(&state.enrolment);
     let answer = applied_answer(&next);
-    Ok(Asked::enrolled(next, recipes, answer))
+    Ok(Asked::enrolled(alloc, next, recipes, answer)?)
 }
 
 /// What an apply makes of the lists of recipes: they stay where none are pending.

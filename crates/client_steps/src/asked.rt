@@ -1,24 +1,26 @@
 // What a command asks for.
-ghost use Rattle.std.specs.Prelude.{◌≡◌};
+ghost use Rattle.std.specs.Prelude.{◌≡◌, IfOk};
 ghost use Rattle.client_state.specs.Changes.{of_enrolment, of_next_state};
 
+use crate::boxed_change::BoxedChange;
 use crate::session::SessionChange;
 use client_state::StateChange;
 use client_words::{Answer, Refusal};
 use enrol_states::{NextState, State};
 use state_codec::RecipeLists;
+use std::alloc::{AllocError, Global};
 
 /// What a command asks for. What it leaves is known once the new state's size is.
 #[derive(Drop)]
 pub enum Asked {
     /// A new state, in the same session. What follows it isn't in the change yet.
     NewState {
-        change: StateChange,
+        change: BoxedChange,
         answer: Answer,
     },
     /// A new state with all that follows it, in the same session.
     Followed {
-        change: StateChange,
+        change: BoxedChange,
         answer: Answer,
     },
     /// The same state.
@@ -31,24 +33,37 @@ pub enum Asked {
 }
 
 impl Asked {
-    /// A new enrolment, in the same session.
-    pub(crate) fn enrolled(enrolment: State, recipes: RecipeLists, answer: Answer) -> Asked
-        ensures { result ≡ Asked.NewState (of_enrolment enrolment recipes) answer }
+    /// A new state, in the same session.
+    pub(crate) fn new_state(
+        alloc: Global,
+        change: StateChange,
+        answer: Answer,
+    ) -> Result<Asked, AllocError>
+        ensures { IfOk result (λ asked. asked ≡ Asked.NewState change answer) }
     {
-        Asked::NewState {
-            change: StateChange::of_enrolment(enrolment, recipes),
-            answer,
-        }
+        let change = BoxedChange::new(alloc, change)?;
+        Ok(Asked::NewState { change, answer })
+    }
+
+    /// A new enrolment, in the same session.
+    pub(crate) fn enrolled(
+        alloc: Global,
+        enrolment: State,
+        recipes: RecipeLists,
+        answer: Answer,
+    ) -> Result<Asked, AllocError>
+        ensures { IfOk result (λ asked. asked ≡ Asked.NewState (of_enrolment enrolment recipes) answer) }
+    {
+        let change = StateChange::of_enrolment(enrolment, recipes);
+        Asked::new_state(alloc, change, answer)
     }
 
     /// What a user chose: a new enrolment of which the lists are as before but for its parts, in the same session.
-    pub(crate) fn chosen(next: NextState) -> Asked
-        ensures { result ≡ Asked.NewState (of_next_state next) Answer.Okay }
+    pub(crate) fn chosen(alloc: Global, next: NextState) -> Result<Asked, AllocError>
+        ensures { IfOk result (λ asked. asked ≡ Asked.NewState (of_next_state next) Answer.Okay) }
     {
-        Asked::NewState {
-            change: StateChange::of_next_state(next),
-            answer: Answer::Okay,
-        }
+        let change = StateChange::of_next_state(next);
+        Asked::new_state(alloc, change, Answer::Okay)
     }
 
     /// The same state, in another session.

@@ -8,10 +8,10 @@ use crate::asked::Asked;
 use change_outbox::ConfirmFault;
 use client_state::{ClientState, StateChange};
 use client_words::{Answer, Refusal};
-use std::alloc::AllocError;
+use std::alloc::{AllocError, Global};
 
 /// What `confirm` asks for.
-pub fn confirming(state: &ClientState, number: u64) -> Result<Asked, AllocError>
+pub fn confirming(alloc: Global, state: &ClientState, number: u64) -> Result<Asked, AllocError>
     ensures asks { IfOk result (λ asked. (session : Session) → asked_outcome state.now session asked
         ≡ confirming state.now session number) }
     ensures follows { IfOk result (λ asked. FollowsFrom state.now asked) }
@@ -19,10 +19,8 @@ pub fn confirming(state: &ClientState, number: u64) -> Result<Asked, AllocError>
     match state.outbox.confirm(number) {
         Ok(outbox) => {
             outbox.next();
-            Ok(Asked::NewState {
-                change: StateChange::of_outbox(outbox),
-                answer: Answer::Okay,
-            })
+            let change = StateChange::of_outbox(outbox);
+            Asked::new_state(alloc, change, Answer::Okay)
         }
         Err(ConfirmFault::NoSuchChange(next)) => Ok(Asked::Refused(Refusal::NoSuchChange(next))),
         Err(ConfirmFault::OutOfMemory) => Err(AllocError),

@@ -12,6 +12,7 @@ ghost use Rattle.client_steps.specs.Steps.{context_read, reading_context};
 use crate::asked::Asked;
 use crate::faults::StepFault;
 use crate::files::read_tree;
+use crate::run_context::RunContext;
 use crate::session::SessionChange;
 use app_context::{ContextFault, read_context};
 use client_words::Refusal;
@@ -47,7 +48,10 @@ fn context_in(alloc: Global, tree: &Tree) -> Result<Asked, AllocError>
     ensures follows { IfOk result (λ asked. (s : ClientState) → FollowsFrom s asked) }
 {
     match read_context(alloc, tree) {
-        Ok(context) => Ok(Asked::in_session(SessionChange::Context(context))),
+        Ok(context) => {
+            let context = RunContext::new(alloc, context)?;
+            Ok(Asked::in_session(SessionChange::Context(context)))
+        }
         Err(ContextFault::BadContext(key)) => Ok(Asked::Refused(Refusal::BadContext(key))),
         Err(ContextFault::OutOfMemory) => Err(AllocError),
     }

@@ -28,10 +28,10 @@ pub fn counting(
     ensures follows { IfOk result (λ asked. FollowsFrom state.now asked) }
 {
     match state.events.count_in(alloc, name.as_str(), count, now) {
-        Ok(counted) => Ok(Asked::NewState {
-            change: StateChange::of_events(counted.counts, counted.part),
-            answer: Answer::Okay,
-        }),
+        Ok(counted) => {
+            let change = StateChange::of_events(counted.counts, counted.part);
+            Ok(Asked::new_state(alloc, change, Answer::Okay)?)
+        }
         Err(CountFault::EventLimit) => Ok(Asked::Refused(Refusal::EventLimit)),
         Err(CountFault::OutOfMemory) => Err(AllocError),
     }

@@ -42,13 +42,13 @@ pub fn fetching<F: Shelf>(
     ensures quiet { ¬ IsErrOf result StepFault.ShelfFault → F.faults shelf.new ≡ F.faults shelf.old }
 {
     match fetch(alloc, shelf, file)? {
-        Ok(payload) => Ok(with_pending(state, payload)?),
+        Ok(payload) => Ok(with_pending(alloc, state, payload)?),
         Err(refusal) => Ok(Asked::Refused(refusal)),
     }
 }
 
 /// The state with the recipes of a payload pending.
-fn with_pending(state: &ClientState, payload: Payload) -> Result<Asked, AllocError>
+fn with_pending(alloc: Global, state: &ClientState, payload: Payload) -> Result<Asked, AllocError>
     requires consistent { IsConsistent state.now }
     requires kept { AreKept payload.recipes }
     ensures asks { IfOk result (λ asked. (session : Session) → asked_outcome state.now session asked ≡ enrolling state.now session (accepted state.now.enrolment session payload)) }
@@ -59,7 +59,7 @@ fn with_pending(state: &ClientState, payload: Payload) -> Result<Asked, AllocErr
     let mut next = state.enrolment.clone()?;
     next.pending = Some(recipes);
     let answer = Answer::Fetched { kept, skipped };
-    Ok(Asked::enrolled(next, RecipeLists::LiveAsBefore, answer))
+    Ok(Asked::enrolled(alloc, next, RecipeLists::LiveAsBefore, answer)?)
 }
 
 /// The payload of the file of this name, or the refusal of the command.

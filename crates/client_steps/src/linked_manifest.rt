@@ -11,11 +11,11 @@ use sequences::{Sequence, Text};
 use std::alloc::{AllocError, Global};
 use std::marker::Model;
 
-/// A manifest that is linked and whose defaults fit, which is checked once, when it is set. Contracts see it as the
-/// manifest.
+/// A manifest that is linked and whose defaults fit, which is checked once, when it is set. It stands in a box. Contracts see it as
+/// the manifest.
 #[derive(Drop)]
 pub struct LinkedManifest {
-    manifest: Manifest,
+    manifest: Box<Manifest>,
 }
 
 impl Model for LinkedManifest {
@@ -29,18 +29,20 @@ impl Model for LinkedManifest {
 
     ghost coded = { Prim.hlevel (codes, json_code, shape_code) };
 
-    ghost view = { λ linked. linked.manifest };
+    ghost view = { λ linked. linked.manifest.value };
 
-    ghost invariant = { λ linked. IsLinked linked.manifest };
+    ghost invariant = { λ linked. IsLinked linked.manifest.value };
 }
 
 impl LinkedManifest {
     /// A manifest that was linked and checked.
-    pub(crate) fn new(manifest: Manifest) -> LinkedManifest
+    pub(crate) fn new(alloc: Global, manifest: Manifest) -> Result<LinkedManifest, AllocError>
         requires { IsLinked manifest }
-        ensures { result ≡ manifest }
+        ensures { IfOk result (λ linked. linked ≡ manifest) }
     {
-        LinkedManifest { manifest }
+        Ok(LinkedManifest {
+            manifest: Box::new(alloc, manifest)?,
+        })
     }
 
     /// The manifest. It takes no memory.
@@ -58,6 +60,6 @@ impl LinkedManifest {
         ensures names { IfOk result (λ names. All (λ name. IsTrue (is_name name)) names) }
         ensures order { IfOk result Rise }
     {
-        coenrolling_features(alloc, &self.manifest)
+        coenrolling_features(alloc, self.manifest())
     }
 }

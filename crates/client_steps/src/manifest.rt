@@ -76,7 +76,7 @@ fn checked(alloc: Global, manifest: Manifest) -> Result<Result<LinkedManifest, R
 {
     manifest.features.as_slice();
     match check_defaults(alloc, &manifest) {
-        Ok(()) => Ok(Ok(LinkedManifest::new(manifest))),
+        Ok(()) => Ok(Ok(LinkedManifest::new(alloc, manifest)?)),
         Err(DefaultFault::BadDefault { owner, place }) => {
             Ok(Err(Refusal::BadDefault(owner, place)))
         }

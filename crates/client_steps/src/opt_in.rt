@@ -26,7 +26,7 @@ pub fn opting_in(
     ensures follows { IfOk result (λ asked. FollowsFrom state.old asked) }
 {
     match opt_in(alloc, &mut state.enrolment, slug, branch) {
-        Ok(next) => Ok(Asked::chosen(next)),
+        Ok(next) => Asked::chosen(alloc, next),
         Err(OptInFault::NoSuchExperiment) => Ok(Asked::Refused(Refusal::NoSuchExperiment)),
         Err(OptInFault::NotParticipating) => Ok(Asked::Refused(Refusal::NotParticipating)),
         Err(OptInFault::NoSuchBranch) => Ok(Asked::Refused(Refusal::NoSuchBranch)),

@@ -21,7 +21,7 @@ pub fn opting_out(alloc: Global, state: &mut ClientState, slug: &Slug) -> Result
     ensures follows { IfOk result (λ asked. FollowsFrom state.old asked) }
 {
     match opt_out(alloc, &mut state.enrolment, slug) {
-        Ok(next) => Ok(Asked::chosen(next)),
+        Ok(next) => Asked::chosen(alloc, next),
         Err(OptOutFault::OptedOutLimit) => Ok(Asked::Refused(Refusal::OptedOutLimit)),
         Err(OptOutFault::OutOfMemory) => Err(AllocError),
     }

@@ -31,11 +31,12 @@ pub fn participating(
     }
     let next = participate(alloc, &state.enrolment, kinds, on)?;
     let rows = row_part(&state.enrolment, &next, on);
-    Ok(Asked::chosen(NextState {
+    let next = NextState {
         state: next,
         opted_out: ListPart::none(),
         rows,
-    }))
+    };
+    Ok(Asked::chosen(alloc, next)?)
 }
 
 // Whether the client already takes part in all recipes of these kinds.

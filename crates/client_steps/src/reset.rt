@@ -26,8 +26,6 @@ pub fn resetting(alloc: Global, state: &ClientState, id: [u8; 16]) -> Result<Ask
     let events = Counts::new(alloc);
     events.keeps();
     let part = ListPart::whole(state.events.len(), events.len());
-    Ok(Asked::NewState {
-        change: StateChange::of_both(next, RecipeLists::AsBefore, events, part),
-        answer: Answer::Okay,
-    })
+    let change = StateChange::of_both(next, RecipeLists::AsBefore, events, part);
+    Ok(Asked::new_state(alloc, change, Answer::Okay)?)
 }

@@ -3,7 +3,7 @@ ghost use Rattle.std.specs.Prelude.{◌≡◌, option_map};
 ghost use Rattle.client_steps.specs.Sessions.{no_session, changed_by};
 
 use crate::linked_manifest::LinkedManifest;
-use app_context::Context;
+use crate::run_context::RunContext;
 use fml_types::Manifest;
 use pref_bindings::Bindings;
 
@@ -13,7 +13,7 @@ pub struct Session {
     /// The manifest that was set last.
     pub(crate) manifest: Option<LinkedManifest>,
     /// The context that was read last.
-    pub(crate) context: Option<Context>,
+    pub(crate) context: Option<RunContext>,
     /// The bindings of preferences that were read last.
     pub(crate) bindings: Option<Bindings>,
 }
@@ -26,7 +26,7 @@ pub enum SessionChange {
     /// This manifest is set.
     Manifest(LinkedManifest),
     /// This context is set.
-    Context(Context),
+    Context(RunContext),
     /// These bindings are set.
     Bindings(Bindings),
 }

@@ -116,10 +116,10 @@ fn state_in(alloc: Global, mut rows: RowStore) -> Result<FoundStore, PairFault>
     ensures no_other { (IsErrOf result PairFault.NoStore → ⊥) × (IsErrOf result PairFault.DiskFault → ⊥) }
 {
     match client_state_of(alloc, rows.rows()) {
-        Ok(state) => Ok(FoundStore {
-            rows,
-            state: SizedState::new(state),
-        }),
+        Ok(state) => match SizedState::new(alloc, state) {
+            Ok(state) => Ok(FoundStore { rows, state }),
+            Err(AllocError) => Err(PairFault::OutOfMemory),
+        },
         Err(CodecFault::NotAState) => Err(PairFault::BadStore),
         Err(CodecFault::OutOfMemory) => Err(PairFault::OutOfMemory),
     }

@@ -6,6 +6,7 @@ ghost use Rattle.pref_bindings.specs.Preferences.{IsValue, holder_of};
 ghost use Rattle.row_batches.specs.Batch.{applied, batch_text, whole_of};
 ghost use Rattle.client_state.specs.Changes.{state_after, with_users_value, HasHoldersOfBefore, IsChangeOf, IsWholeChangeOf};
 ghost use Rattle.client_state.specs.Following.{followed, spends};
+ghost use Rattle.client_state.specs.Sizes.{IsSizeOf};
 ghost use Rattle.client_state.specs.Sound.{IsSound};
 ghost use Rattle.client_state.specs.Encoding.{rows_of, encoding};
 ghost use Rattle.client_store.specs.Places.{row_changes};
@@ -24,12 +25,18 @@ use state_codec::MAX_STATE_BYTES;
 use std::alloc::{AllocError, Global};
 use std::marker::Model;
 
-/// A state that may be stored, and how many bytes its encoding has. Contracts see it as the state.
+/// A state that may be stored, and how many bytes its encoding has, in a box. Contracts see it as the state.
 ///
 /// The next state's sizes are made of these: only the parts that change are counted, and of recipes those that are gone, new
 /// or differ.
 #[derive(Drop)]
 pub struct SizedState {
+    counted: Box<CountedState>,
+}
+
+// A state, and how many bytes its encoding has.
+#[derive(Drop)]
+struct CountedState {
     state: ClientState,
     sizes: ClientSizes,
 }
@@ -45,21 +52,36 @@ impl Model for SizedState {
 
     ghost coded = { Prim.hlevel (codes, json_code) };
 
-    ghost view = { λ sized. sized.state };
+    ghost view = { λ sized. sized.counted.value.state };
 
-    ghost invariant = { λ sized. IsSound sized.state × IsSizeOf sized.state sized.sizes };
+    ghost invariant = { λ sized. IsSound sized.counted.value.state × IsSizeOf sized.counted.value.state sized.counted.value.sizes };
 }
 
 impl SizedState {
     ghost use Rattle.client_store.specs.Sized.{IsSized};
 
     /// A sound state, whose encoding is counted.
-    pub(crate) fn new(state: ClientState) -> SizedState
+    pub(crate) fn new(alloc: Global, state: ClientState) -> Result<SizedState, AllocError>
         requires { IsSound state }
-        ensures { result ≡ state }
+        ensures { IfOk result (λ sized. sized ≡ state) }
     {
         let sizes = sizes_of(&state);
-        SizedState { state, sizes }
+        SizedState::with_sizes(alloc, state, sizes)
+    }
+
+    // A sound state whose encoding has these sizes.
+    fn with_sizes(
+        alloc: Global,
+        state: ClientState,
+        sizes: ClientSizes,
+    ) -> Result<SizedState, AllocError>
+        requires sound { IsSound state }
+        requires sizes { IsSizeOf state sizes }
+        ensures { IfOk result (λ sized. sized ≡ state) }
+    {
+        Ok(SizedState {
+            counted: Box::new(alloc, CountedState { state, sizes })?,
+        })
     }
 
     /// The state. It takes no memory.
@@ -67,7 +89,7 @@ impl SizedState {
         ensures state { result.now ≡ self.now }
         ensures sound { IsSound self.now }
     {
-        &self.state
+        &self.counted.state
     }
 
     /// What a function makes of the state. The state is lent to it, and stays the same.
@@ -77,7 +99,7 @@ impl SizedState {
         ensures same { self.new ≡ self.old }
         ensures made { FnOnceReturnsAtMut F.FnOnce function self.old result self.old }
     {
-        function(&mut self.state)
+        function(&mut self.counted.state)
     }
 
     /// The change with what follows it. The state is lent to that, and stays the same.
@@ -96,7 +118,7 @@ impl SizedState {
         ensures not_spent { IfOk result (λ _. spends change self.old ≡ false) }
         ensures spent { IsErrOf result AppendChangesFault.ChangesSpent → IsTrue (spends change self.old) }
     {
-        follow(alloc, &mut self.state, change, manifest, bindings)
+        follow(alloc, &mut self.counted.state, change, manifest, bindings)
     }
 
     /// The change after which the user has set the value of a preference too, or taken it away. The state is lent to that, and stays
@@ -115,20 +137,24 @@ impl SizedState {
         ensures set { IfOk result (λ next. state_after next self.old ≡ with_users_value name.now (option_map (λ v. v.now) value.entry) (state_after change self.old)) }
         ensures change { IfOk result (IsWholeChangeOf self.old) }
     {
-        set_preference(&mut self.state, change, name, value)
+        set_preference(&mut self.counted.state, change, name, value)
     }
 
     /// The state after a change, or else how many bytes its encoding has, which are too many.
-    pub(crate) fn next(&self, change: &StateChange) -> Result<Result<SizedState, u128>, AllocError>
+    pub(crate) fn next(
+        &self,
+        alloc: Global,
+        change: &StateChange,
+    ) -> Result<Result<SizedState, u128>, AllocError>
         requires { IsWholeChangeOf self.now change.now }
         ensures { IfOk result (λ next. IsSized (state_after change.now self.now) next) }
     {
-        let sizes = sizes_after(self.sizes, &self.state, change);
+        let sizes = sizes_after(self.counted.sizes, &self.counted.state, change);
         if sizes.total > MAX_STATE_BYTES as u128 {
             return Ok(Err(sizes.total));
         }
-        let state = self.state.with(change)?;
-        Ok(Ok(SizedState { state, sizes }))
+        let state = self.counted.state.with(change)?;
+        Ok(Ok(SizedState::with_sizes(alloc, state, sizes)?))
     }
 
     /// The rows that change from this state to the next.
@@ -147,6 +173,6 @@ impl SizedState {
         ensures size { IfOk result (λ batch. length (batch_text batch) ≤ length (encoding self.now) + length (encoding next.now)) }
     {
         next.state();
-        changes_to(alloc, &self.state, change)
+        changes_to(alloc, &self.counted.state, change)
     }
 }

@@ -122,11 +122,15 @@ impl StateStore {
     }
 
     /// The state after a change, or else how many bytes its encoding has, which are too many.
-    pub fn sized(&self, change: &StateChange) -> Result<Result<SizedState, u128>, AllocError>
+    pub fn sized(
+        &self,
+        alloc: Global,
+        change: &StateChange,
+    ) -> Result<Result<SizedState, u128>, AllocError>
         requires { IsWholeChangeOf self.now.state change.now }
         ensures { IfOk result (λ next. IsSized (state_after change.now self.now.state) next) }
     {
-        self.state.next(change)
+        self.state.next(alloc, change)
     }
 
     /// Makes the change to a state ready to be committed, where it is another one, and reserves the room for it. Neither the
