@@ -48,7 +48,9 @@ fn commit<H: Host>(
     Ok(())
 }
 
-/// Does a command: it is prepared, written and then answered.
+/// Does a command: it is prepared, written and then answered. The hint keeps its room out of `run_line`, so that a line without
+/// a command costs none.
+#[inline(never)]
 fn run_command<F: Shelf, H: Host>(
     alloc: Global,
     host: &mut H,
