@@ -5,6 +5,7 @@ pub mod Soundness
 pub mod Parts
 pub mod Events
 pub mod Bytes
+pub mod Blocks
 pub mod SameRows
 pub mod Values
 pub mod RowsRead

@@ -9,6 +9,7 @@ mod fault;
 mod interval;
 mod laws;
 mod name_counts;
+mod number_bytes;
 mod reading;
 mod ring;
 mod row_changes;

@@ -41,18 +41,18 @@ impl Ring {
         Ok(Ring { counts })
     }
 
-    /// The counts, the newest first.
-    pub(crate) fn to_vec(&self, alloc: Global) -> Result<Vec<u32>, AllocError>
-        ensures { IfOk result (λ v. v.items ≡ self.now) }
+    /// The counts in two slices, the newest first.
+    pub(crate) fn as_slices(&self) -> (&[u32], &[u32])
+        ensures { result.0.now ++ result.1.now ≡ self.now }
     {
-        self.counts.to_vec(alloc)
+        self.counts.as_slices()
     }
 
     /// The same counts in a ring of their own.
     pub(crate) fn copy(&self, alloc: Global) -> Result<Ring, AllocError>
         ensures { IfOk result (λ r. r ≡ self.now) }
     {
-        let (front, back) = self.counts.as_slices();
+        let (front, back) = self.as_slices();
         let mut counts = HeapCircularBuffer::with_capacity(alloc, front.len() + back.len())?;
         counts.fill_from_slice(front);
         counts.fill_from_slice(back);
@@ -64,8 +64,8 @@ impl Ring {
     pub(crate) fn is_same(&self, other: &Ring) -> bool
         ensures { IsTrue result ↔ (self.now ≡ other.now) }
     {
-        let (front, back) = self.counts.as_slices();
-        let (other_front, other_back) = other.counts.as_slices();
+        let (front, back) = self.as_slices();
+        let (other_front, other_back) = other.as_slices();
         if front.len() == other_front.len() {
             are_same(front, back, other_front, other_back)
         } else {

@@ -6,6 +6,7 @@ ghost use Rattle.event_counts.specs.Sound.{AreInOrder, HaveCounts, IsSoundName};
 
 use crate::counts::Counts;
 use crate::name_counts::NameCounts;
+use crate::number_bytes::add_numbers;
 use crate::ring::Ring;
 use crate::shared_counts::SharedCounts;
 use row_batches::{RowForm, StoreRow, add_rows};
@@ -110,26 +111,17 @@ fn value_of(alloc: Global, counts: &NameCounts) -> Result<Vec<u8>, AllocError>
 {
     let mut value = Vec::with_capacity(alloc, VALUE_LEN)?;
     value.extend_from_slice(&counts.latest.to_be_bytes())?;
-    add_counts(alloc, &mut value, &counts.hours)?;
-    add_counts(alloc, &mut value, &counts.days)?;
-    add_counts(alloc, &mut value, &counts.weeks)?;
+    add_counts(&mut value, &counts.hours)?;
+    add_counts(&mut value, &counts.days)?;
+    add_counts(&mut value, &counts.weeks)?;
     Ok(value)
 }
 
 // Adds the bytes of the counts, the newest first.
-fn add_counts(alloc: Global, bytes: &mut Vec<u8>, ring: &Ring) -> Result<(), AllocError>
+fn add_counts(bytes: &mut Vec<u8>, ring: &Ring) -> Result<(), AllocError>
     ensures { OnOk result (bytes.new.items ≡ bytes.old.items ++ list_bytes ring.now) }
 {
-    let counts = ring.to_vec(alloc)?;
-    add_numbers(bytes, counts.as_slice())
-}
-
-#[tactic(auto, unfolding(crate::specs::Rows::count_bytes))]
-fn add_numbers(bytes: &mut Vec<u8>, numbers: &[u32]) -> Result<(), AllocError>
-    ensures { OnOk result (bytes.new.items ≡ bytes.old.items ++ list_bytes numbers.now) }
-{
-    for number in numbers {
-        bytes.extend_from_slice(&number.to_be_bytes())?;
-    }
-    Ok(())
+    let (front, back) = ring.as_slices();
+    add_numbers(bytes, front)?;
+    add_numbers(bytes, back)
 }

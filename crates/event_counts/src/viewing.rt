@@ -1,5 +1,5 @@
 // What a moment sees of the counts.
-ghost use Rattle.std.specs.Prelude.{◌≡◌, ◌++◌, map, IfOk, codes};
+ghost use Rattle.std.specs.Prelude.{◌≡◌, ◌++◌, map, IfOk, OnOk, codes};
 ghost use Rattle.json_tree.specs.Tree.{json_of};
 ghost use Rattle.event_counts.specs.Sound.{AreInOrder};
 ghost use Rattle.event_counts.specs.View.{number_json, list_json, counts_json, member_at, view_of};
@@ -55,16 +55,19 @@ fn counts_tree(alloc: Global, counts: &NameCounts) -> Result<Tree, AllocError>
 fn list_tree(alloc: Global, ring: &Ring) -> Result<Tree, AllocError>
     ensures { IfOk result (λ t. json_of t ≡ list_json ring.now) }
 {
-    let counts = ring.to_vec(alloc)?;
-    Ok(Tree::List(number_items(alloc, counts.as_slice())?))
+    let (front, back) = ring.as_slices();
+    let mut items = Items::new(alloc);
+    add_numbers(&mut items, front)?;
+    add_numbers(&mut items, back)?;
+    Ok(Tree::List(items))
 }
 
-fn number_items(alloc: Global, numbers: &[u32]) -> Result<Items, AllocError>
-    ensures { IfOk result (λ xs. xs ≡ map number_json numbers.now) }
+// Adds the numbers as items.
+fn add_numbers(items: &mut Items, numbers: &[u32]) -> Result<(), AllocError>
+    ensures { OnOk result (items.new ≡ items.old ++ map number_json numbers.now) }
 {
-    let mut items = Items::new(alloc);
     for number in numbers {
         items.push(Tree::Whole(i64::from(*number)))?;
     }
-    Ok(items)
+    Ok(())
 }

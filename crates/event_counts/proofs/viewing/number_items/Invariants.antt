@@ -1,6 +1,0 @@
-use Rattle.std.proofs.Common.{◌≡◌, map, take}
-use Rattle.event_counts.specs.View.{number_json}
-use Rattle.event_counts.proofs.viewing.number_items.Given as goal
-
-abbrev pub invariant-loop-number : goal.invariant-loop-number
-invariant-loop-number l = l.items ≡ map number_json (take l.number-index l.numbers)
