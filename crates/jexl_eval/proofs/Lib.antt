@@ -7,7 +7,6 @@ pub mod Lists
 pub mod Arms
 pub mod FirstValues
 pub mod Exits
-pub mod Steps
-pub mod Stepping
+pub mod Placing
 pub mod Parts
 pub mod Readable

@@ -1,18 +1,17 @@
 -- Lists and objects that are evaluated part by part, from the left.
 use Rattle.std.proofs.Common.{◌≡◌, ℕ, ◌+◌, ◌<◌, ◌≤◌, Bool, true, false, List, [], ◌∷◌, ◌++◌, length, map, get_or, drop, Result, Ok, Err, refl, sym, ap, ◌∙◌, subst, append_assoc, append-nil}
 use Rattle.std.proofs.lemmas.List.{drop_all}
-use Rattle.std.specs.Borrow.{Bor}
 use Rattle.std.specs.Prelude.{if◌then◌else◌}
 use Rattle.json_tree.specs.Json.{Json, Members, items_of}
+use Rattle.jexl_parser.specs.declared.node.Node.{Node}
+use Rattle.jexl_parser.specs.View.{view, views, view_pairs}
 use Rattle.jexl_value.specs.Meaning.{is_truthy}
 use Rattle.jexl_value.specs.Names.{with_member}
 use Rattle.jexl_value.specs.Value.{as_json}
 use Rattle.jexl_value.specs.declared.value.Value.{Value}
 use Rattle.jexl_eval.specs.declared.fault.EvalFault.{EvalFault}
 use Rattle.jexl_eval.specs.Faults.{Fault, ◌>>=◌}
-use Rattle.jexl_eval.specs.declared.step.Step.{Step}
 use Rattle.jexl_eval.specs.Gives.{Fails}
-use Rattle.jexl_eval.specs.Steps.{tree_of, list_trees, list_pairs}
 use Rattle.jexl_eval.specs.Meaning.{meaning, meanings, pair_meanings, kept, with_members}
 use Rattle.jexl_eval.proofs.Faulting.{fails_then}
 use Rattle.jexl_eval.proofs.Walking.{drop_next}
@@ -38,46 +37,46 @@ into_more so_far m (Ok ms) = refl
 into_more so_far m (Err f) = refl
 
 module _ (has : List ℕ → Bool) (attributes : Members) (current : Json) where
-  abbrev pub of_steps : List Step → Result (List Json) Fault
-  of_steps ns = meanings has attributes current (list_trees ns)
+  abbrev pub of_nodes : List Node → Result (List Json) Fault
+  of_nodes ns = meanings has attributes current (views ns)
 
-  abbrev pub of_pairs : List (Bor (List ℕ) × Step) → Result (List (List ℕ × Json)) Fault
-  of_pairs ps = pair_meanings has attributes current (list_pairs ps)
+  abbrev pub of_pairs : List (List ℕ × Node) → Result (List (List ℕ × Json)) Fault
+  of_pairs ps = pair_meanings has attributes current (view_pairs ps)
 
-  pub steps_begin : (ns : List Step) (xs : List Json) → xs ≡ [] → of_steps ns ≡ onto xs (of_steps ns)
-  steps_begin ns xs e = onto_none (of_steps ns) ∙ ap (λ ys. onto ys (of_steps ns)) (sym e)
+  pub nodes_begin : (ns : List Node) (xs : List Json) → xs ≡ [] → of_nodes ns ≡ onto xs (of_nodes ns)
+  nodes_begin ns xs e = onto_none (of_nodes ns) ∙ ap (λ ys. onto ys (of_nodes ns)) (sym e)
 
-  pub steps_turn : (ns : List Step) (i : ℕ) (n : Step) (xs new : List Json) (x : Json) → i < length ns → n ≡ get_or ns i n → meaning has attributes current (tree_of n) ≡ Ok x → new ≡ xs ++ x ∷ []
-      → onto xs (of_steps (drop i ns)) ≡ onto new (of_steps (drop (i + 1) ns))
-  steps_turn ns i n xs new x h is e pushed =
-      ap (λ l. onto xs (of_steps l)) (drop_next ns i n h is) ∙ ap (λ r. onto xs (r >>= λ y. of_steps (drop (i + 1) ns) >>= λ ys. Ok (y ∷ ys))) e ∙ onto_more xs x (of_steps (drop (i + 1) ns))
-      ∙ ap (λ ys. onto ys (of_steps (drop (i + 1) ns))) (sym pushed)
+  pub nodes_turn : (ns : List Node) (i : ℕ) (n : Node) (xs new : List Json) (x : Json) → i < length ns → n ≡ get_or ns i n → meaning has attributes current (view n) ≡ Ok x → new ≡ xs ++ x ∷ []
+      → onto xs (of_nodes (drop i ns)) ≡ onto new (of_nodes (drop (i + 1) ns))
+  nodes_turn ns i n xs new x h is e pushed =
+      ap (λ l. onto xs (of_nodes l)) (drop_next ns i n h is) ∙ ap (λ r. onto xs (r >>= λ y. of_nodes (drop (i + 1) ns) >>= λ ys. Ok (y ∷ ys))) e ∙ onto_more xs x (of_nodes (drop (i + 1) ns))
+      ∙ ap (λ ys. onto ys (of_nodes (drop (i + 1) ns))) (sym pushed)
 
-  pub steps_fail : (ns : List Step) (i : ℕ) (n : Step) (xs : List Json) (f : EvalFault) → i < length ns → n ≡ get_or ns i n → Fails f (meaning has attributes current (tree_of n))
-      → Fails f (onto xs (of_steps (drop i ns)))
-  steps_fail ns i n xs f h is e =
-      subst (λ l. Fails f (onto xs (of_steps l))) (sym (drop_next ns i n h is))
-      (fails_then f (of_steps (n ∷ drop (i + 1) ns)) (λ ys. Ok (xs ++ ys)) (fails_then f (meaning has attributes current (tree_of n)) (λ y. of_steps (drop (i + 1) ns) >>= λ ys. Ok (y ∷ ys)) e))
+  pub nodes_fail : (ns : List Node) (i : ℕ) (n : Node) (xs : List Json) (f : EvalFault) → i < length ns → n ≡ get_or ns i n → Fails f (meaning has attributes current (view n))
+      → Fails f (onto xs (of_nodes (drop i ns)))
+  nodes_fail ns i n xs f h is e =
+      subst (λ l. Fails f (onto xs (of_nodes l))) (sym (drop_next ns i n h is))
+      (fails_then f (of_nodes (n ∷ drop (i + 1) ns)) (λ ys. Ok (xs ++ ys)) (fails_then f (meaning has attributes current (view n)) (λ y. of_nodes (drop (i + 1) ns) >>= λ ys. Ok (y ∷ ys)) e))
 
-  pub steps_end : (ns : List Step) (i : ℕ) (xs : List Json) → length ns ≤ i → onto xs (of_steps (drop i ns)) ≡ Ok xs
-  steps_end ns i xs h = ap (λ l. onto xs (of_steps l)) (drop_all i ns h) ∙ ap Ok (append-nil xs)
+  pub nodes_end : (ns : List Node) (i : ℕ) (xs : List Json) → length ns ≤ i → onto xs (of_nodes (drop i ns)) ≡ Ok xs
+  nodes_end ns i xs h = ap (λ l. onto xs (of_nodes l)) (drop_all i ns h) ∙ ap Ok (append-nil xs)
 
-  pub pairs_begin : (ps : List (Bor (List ℕ) × Step)) (ms : List (List ℕ × Json)) → ms ≡ [] → into [] (of_pairs ps) ≡ into ms (of_pairs ps)
+  pub pairs_begin : (ps : List (List ℕ × Node)) (ms : List (List ℕ × Json)) → ms ≡ [] → into [] (of_pairs ps) ≡ into ms (of_pairs ps)
   pairs_begin ps ms e = ap (λ m. into m (of_pairs ps)) (sym e)
 
-  pub pairs_turn : (ps : List (Bor (List ℕ) × Step)) (i : ℕ) (p : Bor (List ℕ) × Step) (so_far new : List (List ℕ × Json)) (x : Json) → i < length ps → p ≡ get_or ps i p → meaning has attributes current (tree_of p.1) ≡ Ok x
-      → new ≡ with_member p.0.now x so_far → into so_far (of_pairs (drop i ps)) ≡ into new (of_pairs (drop (i + 1) ps))
+  pub pairs_turn : (ps : List (List ℕ × Node)) (i : ℕ) (p : List ℕ × Node) (so_far new : List (List ℕ × Json)) (x : Json) → i < length ps → p ≡ get_or ps i p → meaning has attributes current (view p.1) ≡ Ok x
+      → new ≡ with_member p.0 x so_far → into so_far (of_pairs (drop i ps)) ≡ into new (of_pairs (drop (i + 1) ps))
   pairs_turn ps i p so_far new x h is e put =
-      ap (λ l. into so_far (of_pairs l)) (drop_next ps i p h is) ∙ ap (λ r. into so_far (r >>= λ y. of_pairs (drop (i + 1) ps) >>= λ ms. Ok ((p.0.now, y) ∷ ms))) e ∙ into_more so_far (p.0.now, x) (of_pairs (drop (i + 1) ps))
+      ap (λ l. into so_far (of_pairs l)) (drop_next ps i p h is) ∙ ap (λ r. into so_far (r >>= λ y. of_pairs (drop (i + 1) ps) >>= λ ms. Ok ((p.0, y) ∷ ms))) e ∙ into_more so_far (p.0, x) (of_pairs (drop (i + 1) ps))
       ∙ ap (λ ms. into ms (of_pairs (drop (i + 1) ps))) (sym put)
 
-  pub pairs_fail : (ps : List (Bor (List ℕ) × Step)) (i : ℕ) (p : Bor (List ℕ) × Step) (so_far : List (List ℕ × Json)) (f : EvalFault) → i < length ps → p ≡ get_or ps i p → Fails f (meaning has attributes current (tree_of p.1))
+  pub pairs_fail : (ps : List (List ℕ × Node)) (i : ℕ) (p : List ℕ × Node) (so_far : List (List ℕ × Json)) (f : EvalFault) → i < length ps → p ≡ get_or ps i p → Fails f (meaning has attributes current (view p.1))
       → Fails f (into so_far (of_pairs (drop i ps)))
   pairs_fail ps i p so_far f h is e =
       subst (λ l. Fails f (into so_far (of_pairs l))) (sym (drop_next ps i p h is))
-      (fails_then f (of_pairs (p ∷ drop (i + 1) ps)) (λ ms. Ok (with_members so_far ms)) (fails_then f (meaning has attributes current (tree_of p.1)) (λ y. of_pairs (drop (i + 1) ps) >>= λ ms. Ok ((p.0.now, y) ∷ ms)) e))
+      (fails_then f (of_pairs (p ∷ drop (i + 1) ps)) (λ ms. Ok (with_members so_far ms)) (fails_then f (meaning has attributes current (view p.1)) (λ y. of_pairs (drop (i + 1) ps) >>= λ ms. Ok ((p.0, y) ∷ ms)) e))
 
-  pub pairs_end : (ps : List (Bor (List ℕ) × Step)) (i : ℕ) (so_far : List (List ℕ × Json)) → length ps ≤ i → into so_far (of_pairs (drop i ps)) ≡ Ok so_far
+  pub pairs_end : (ps : List (List ℕ × Node)) (i : ℕ) (so_far : List (List ℕ × Json)) → length ps ≤ i → into so_far (of_pairs (drop i ps)) ≡ Ok so_far
   pairs_end ps i so_far h = ap (λ l. into so_far (of_pairs l)) (drop_all i ps h)
 
 -- the items that a condition keeps

@@ -10,7 +10,7 @@ use Rattle.jexl_eval.specs.Faults.{Fault, ◌>>=◌}
 use Rattle.jexl_eval.specs.Elements.{member, index}
 use Rattle.jexl_eval.specs.Operations.{decided, operate, filter_items}
 use Rattle.jexl_eval.specs.Meaning.{meaning, meanings, pair_meanings, transformed, unless_decided, kept, with_members}
-use Rattle.jexl_eval.specs.Steps.{IsPart}
+use Rattle.jexl_eval.specs.Places.{IsPart}
 use Rattle.jexl_eval.specs.Parts.{AreUnknown, AreKnown}
 
 module _ (has : List ℕ → Bool) (attributes : Members) (x y : Json) where

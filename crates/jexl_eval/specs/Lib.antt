@@ -5,7 +5,7 @@ pub mod Operations
 pub mod Meaning
 pub mod Gives
 pub mod Seen
-pub mod Steps
+pub mod Places
 pub mod Parts
 pub mod FirstValues
 pub mod Expressions

@@ -6,14 +6,14 @@
 // subjects depend on the item.
 ghost use Rattle.std.specs.Prelude.{◌≡◌, [], ◌∷◌, ◌++◌, Some, Ok, OnOk, if◌then◌else◌};
 ghost use Rattle.json_tree.specs.Json.{null, members_of};
-ghost use Rattle.jexl_parser.specs.View.{view, constant as literal_of};
+ghost use Rattle.jexl_parser.specs.View.{view, views, view_pairs, constant as literal_of};
 ghost use Rattle.jexl_value.specs.Meaning.{is_truthy};
 ghost use Rattle.jexl_value.specs.Names.{with_member};
 ghost use Rattle.jexl_value.specs.Value.{as_json};
 ghost use Rattle.jexl_transforms.specs.Table.{has_transform};
 ghost use Rattle.jexl_eval.specs.Gives.{Gives};
 ghost use Rattle.jexl_eval.specs.Seen.{found_as_json};
-ghost use Rattle.jexl_eval.specs.Steps.{tree_of, trees_of, list_trees, list_pairs, Fits, AllFit, PairsFit, IsPart};
+ghost use Rattle.jexl_eval.specs.Places.{trees_of, Fits, FitsBelow, AllFit, PairsFit, IsPart};
 ghost use Rattle.jexl_eval.specs.Parts.{values_of, AreKnown};
 ghost use Rattle.jexl_eval.specs.FirstValues.{members_meant, index_meant, filter_meant, operation_meant};
 ghost use Rattle.jexl_eval.specs.Meaning.{meaning, meanings, pair_meanings, constant, truth_of, truth_meant};
@@ -23,11 +23,11 @@ use crate::fault::EvalFault;
 use crate::found::{Found, list, object, opposite, truth};
 use crate::known::Known;
 use crate::operations::{decided, filter_items, operate};
+use crate::places::Places;
 use crate::preparing::prepare;
 use crate::scene::Scene;
-use crate::step::Step;
 use crate::transforms::{TransformCalls, transformed};
-use jexl_parser::{BinarySign, Expr, Literal};
+use jexl_parser::{BinarySign, Expr, Literal, Node};
 use jexl_transforms::TransformTable;
 use jexl_value::{Attributes, NamedValues, Text, Value, Values, truthy};
 use std::alloc::{AllocError, Global};
@@ -98,7 +98,7 @@ fn found<'a>(
     ensures { Gives found_as_json result (meaning (has_transform table.now) (members_of attributes.now.pairs) (as_json nothing.now) (view expr.now.root)) }
 {
     let mut parts = Vec::new(alloc);
-    let step = prepare(alloc, &expr.root, false, &mut parts)?;
+    let places = prepare(alloc, &expr.root, &mut parts)?;
     let mut known = Known::new(alloc, parts.len())?;
     let scene = Scene {
         alloc,
@@ -107,72 +107,103 @@ fn found<'a>(
         parts: parts.as_slice(),
         current: nothing,
     };
-    evaluate(&step, &scene, &mut known)
+    evaluate(&expr.root, &places, &scene, &mut known)
 }
 
-// The value of a tree, borrowed where it lies in the attributes or in the current item.
+// The value of a tree, borrowed where it lies in the attributes or in the current item. It is kept where
+// the tree has a place.
 #[cycle(evaluate)]
 fn evaluate<'a, C: TransformCalls>(
-    step: &Step,
+    node: &Node,
+    places: &Places,
     scene: &Scene<'a, '_, C>,
     known: &mut Known,
 ) -> Result<Found<'a>, EvalFault>
-    requires fits { Fits (trees_of scene.now.parts.now) step.now }
+    requires fits { Fits (trees_of scene.now.parts.now) (view node.now) places.now }
     requires known { AreKnown (C.TransformCalls.has scene.now.table.now) (members_of scene.now.attributes.now.pairs) (trees_of scene.now.parts.now) (values_of known.old) }
-    ensures value { Gives found_as_json result (meaning (C.TransformCalls.has scene.now.table.now) (members_of scene.now.attributes.now.pairs) (as_json scene.now.current.now) (tree_of step.now)) }
+    ensures value { Gives found_as_json result (meaning (C.TransformCalls.has scene.now.table.now) (members_of scene.now.attributes.now.pairs) (as_json scene.now.current.now) (view node.now)) }
     ensures known { OnOk result (AreKnown (C.TransformCalls.has scene.now.table.now) (members_of scene.now.attributes.now.pairs) (trees_of scene.now.parts.now) (values_of known.new)) }
 {
-    match step {
-        Step::Literal(literal) => constant(literal),
-        Step::Name(name) => Ok(value_or_null(scene.attributes.get(name.as_str()))),
-        Step::Relative(name) => Ok(member_of(scene.current, name.as_str())),
-        Step::List(steps) => Ok(list(each(steps.as_slice(), scene, known)?)),
-        Step::Members(pairs) => Ok(object(each_member(pairs.as_slice(), scene, known)?)),
-        Step::Member(subject, name) => member(evaluate(subject, scene, known)?, name.as_str()),
-        Step::Index(subject, key) => indexed(evaluate(subject, scene, known)?, key, scene, known),
-        Step::Filter(subject, condition) => {
-            filtered(evaluate(subject, scene, known)?, condition, scene, known)
+    match places.place() {
+        Some(place) => kept_part(place, node, places.below(), scene, known),
+        None => unkept(node, places.below(), scene, known),
+    }
+}
+
+// The value of a tree, where parts below it may be kept.
+#[cycle(evaluate)]
+fn unkept<'a, C: TransformCalls>(
+    node: &Node,
+    places: &Places,
+    scene: &Scene<'a, '_, C>,
+    known: &mut Known,
+) -> Result<Found<'a>, EvalFault>
+    requires fits { FitsBelow (trees_of scene.now.parts.now) (view node.now) places.now }
+    requires known { AreKnown (C.TransformCalls.has scene.now.table.now) (members_of scene.now.attributes.now.pairs) (trees_of scene.now.parts.now) (values_of known.old) }
+    ensures value { Gives found_as_json result (meaning (C.TransformCalls.has scene.now.table.now) (members_of scene.now.attributes.now.pairs) (as_json scene.now.current.now) (view node.now)) }
+    ensures known { OnOk result (AreKnown (C.TransformCalls.has scene.now.table.now) (members_of scene.now.attributes.now.pairs) (trees_of scene.now.parts.now) (values_of known.new)) }
+{
+    match node {
+        Node::Literal(literal) => constant(literal),
+        Node::Name(name) => Ok(value_or_null(scene.attributes.get(name.as_str()))),
+        Node::Relative(name) => Ok(member_of(scene.current, name.as_str())),
+        Node::List(nodes) => Ok(list(each(nodes.as_slice(), places, scene, known)?)),
+        Node::Members(pairs) => Ok(object(each_member(pairs.as_slice(), places, scene, known)?)),
+        Node::Member(subject, name) => {
+            member(evaluate(subject, places, scene, known)?, name.as_str())
         }
-        Step::Transform(subject, name, arguments) => {
-            let subject = evaluate(subject, scene, known)?;
-            let arguments = each(arguments.as_slice(), scene, known)?;
+        Node::Index(subject, key) => {
+            let subject = evaluate(subject, places, scene, known)?;
+            indexed(subject, key, places.after(), scene, known)
+        }
+        Node::Filter(subject, condition) => {
+            let subject = evaluate(subject, places, scene, known)?;
+            filtered(subject, condition, places.after(), scene, known)
+        }
+        Node::Transform(subject, name, arguments) => {
+            let subject = evaluate(subject, places, scene, known)?;
+            let arguments = each(arguments.as_slice(), places.after(), scene, known)?;
             transformed(scene, name.as_str(), subject.value(), arguments.as_slice())
         }
-        Step::Not(inside) => Ok(opposite(evaluate(inside, scene, known)?)),
-        Step::Binary(sign, left, right) => {
-            operation(*sign, evaluate(left, scene, known)?, right, scene, known)
+        Node::Not(inside) => Ok(opposite(evaluate(inside, places, scene, known)?)),
+        Node::Binary(sign, left, right) => {
+            let left = evaluate(left, places, scene, known)?;
+            operation(*sign, left, right, places.after(), scene, known)
         }
-        Step::Choose(condition, first, second) => {
-            let condition = evaluate(condition, scene, known)?;
+        Node::Choose(condition, first, second) => {
+            let condition = evaluate(condition, places, scene, known)?;
             if truthy(condition.value()) {
-                evaluate(first, scene, known)
+                evaluate(first, places.after(), scene, known)
             } else {
-                evaluate(second, scene, known)
+                evaluate(second, places.after().after(), scene, known)
             }
         }
-        Step::OrElse(first, second) => {
-            or_else(evaluate(first, scene, known)?, second, scene, known)
+        Node::OrElse(first, second) => {
+            let first = evaluate(first, places, scene, known)?;
+            or_else(first, second, places.after(), scene, known)
         }
-        Step::Kept(place, part) => kept_part(*place, part, scene, known),
     }
 }
 
 // The values of trees, from the left.
 #[cycle(evaluate)]
 fn each<'a, C: TransformCalls>(
-    steps: &[Step],
+    nodes: &[Node],
+    places: &Places,
     scene: &Scene<'a, '_, C>,
     known: &mut Known,
 ) -> Result<Values, EvalFault>
-    requires fits { AllFit (trees_of scene.now.parts.now) steps.now }
+    requires fits { AllFit (trees_of scene.now.parts.now) (views nodes.now) places.now }
     requires known { AreKnown (C.TransformCalls.has scene.now.table.now) (members_of scene.now.attributes.now.pairs) (trees_of scene.now.parts.now) (values_of known.old) }
-    ensures value { Gives (λ xs. xs) result (meanings (C.TransformCalls.has scene.now.table.now) (members_of scene.now.attributes.now.pairs) (as_json scene.now.current.now) (list_trees steps.now)) }
+    ensures value { Gives (λ xs. xs) result (meanings (C.TransformCalls.has scene.now.table.now) (members_of scene.now.attributes.now.pairs) (as_json scene.now.current.now) (views nodes.now)) }
     ensures known { OnOk result (AreKnown (C.TransformCalls.has scene.now.table.now) (members_of scene.now.attributes.now.pairs) (trees_of scene.now.parts.now) (values_of known.new)) }
 {
     let mut values = Values::new(scene.alloc);
-    for step in steps {
-        let value = evaluate(step, scene, known)?;
+    let mut places = places;
+    for node in nodes {
+        let value = evaluate(node, places, scene, known)?;
         push(&mut values, value)?;
+        places = places.after();
     }
     Ok(values)
 }
@@ -180,19 +211,22 @@ fn each<'a, C: TransformCalls>(
 // The members that get the values of trees, one after another.
 #[cycle(evaluate)]
 fn each_member<'a, C: TransformCalls>(
-    pairs: &[(&Text, Step)],
+    pairs: &[(Text, Node)],
+    places: &Places,
     scene: &Scene<'a, '_, C>,
     known: &mut Known,
 ) -> Result<NamedValues, EvalFault>
-    requires fits { PairsFit (trees_of scene.now.parts.now) pairs.now }
+    requires fits { PairsFit (trees_of scene.now.parts.now) (view_pairs pairs.now) places.now }
     requires known { AreKnown (C.TransformCalls.has scene.now.table.now) (members_of scene.now.attributes.now.pairs) (trees_of scene.now.parts.now) (values_of known.old) }
-    ensures value { Gives (λ ms. ms) result (members_meant (pair_meanings (C.TransformCalls.has scene.now.table.now) (members_of scene.now.attributes.now.pairs) (as_json scene.now.current.now) (list_pairs pairs.now))) }
+    ensures value { Gives (λ ms. ms) result (members_meant (pair_meanings (C.TransformCalls.has scene.now.table.now) (members_of scene.now.attributes.now.pairs) (as_json scene.now.current.now) (view_pairs pairs.now))) }
     ensures known { OnOk result (AreKnown (C.TransformCalls.has scene.now.table.now) (members_of scene.now.attributes.now.pairs) (trees_of scene.now.parts.now) (values_of known.new)) }
 {
     let mut members = NamedValues::new(scene.alloc);
-    for (name, step) in pairs {
-        let member = evaluate(step, scene, known)?;
+    let mut places = places;
+    for (name, node) in pairs {
+        let member = evaluate(node, places, scene, known)?;
         put(&mut members, name, member)?;
+        places = places.after();
     }
     Ok(members)
 }
@@ -201,16 +235,17 @@ fn each_member<'a, C: TransformCalls>(
 #[cycle(evaluate)]
 fn indexed<'a, C: TransformCalls>(
     subject: Found<'a>,
-    key: &Step,
+    key: &Node,
+    places: &Places,
     scene: &Scene<'a, '_, C>,
     known: &mut Known,
 ) -> Result<Found<'a>, EvalFault>
-    requires fits { Fits (trees_of scene.now.parts.now) key.now }
+    requires fits { Fits (trees_of scene.now.parts.now) (view key.now) places.now }
     requires known { AreKnown (C.TransformCalls.has scene.now.table.now) (members_of scene.now.attributes.now.pairs) (trees_of scene.now.parts.now) (values_of known.old) }
-    ensures value { Gives found_as_json result (index_meant (found_as_json subject.entry) (meaning (C.TransformCalls.has scene.now.table.now) (members_of scene.now.attributes.now.pairs) (as_json scene.now.current.now) (tree_of key.now))) }
+    ensures value { Gives found_as_json result (index_meant (found_as_json subject.entry) (meaning (C.TransformCalls.has scene.now.table.now) (members_of scene.now.attributes.now.pairs) (as_json scene.now.current.now) (view key.now))) }
     ensures known { OnOk result (AreKnown (C.TransformCalls.has scene.now.table.now) (members_of scene.now.attributes.now.pairs) (trees_of scene.now.parts.now) (values_of known.new)) }
 {
-    let key = evaluate(key, scene, known)?;
+    let key = evaluate(key, places, scene, known)?;
     index(subject, key.value())
 }
 
@@ -218,13 +253,14 @@ fn indexed<'a, C: TransformCalls>(
 #[cycle(evaluate)]
 fn filtered<'a, C: TransformCalls>(
     subject: Found<'a>,
-    condition: &Step,
+    condition: &Node,
+    places: &Places,
     scene: &Scene<'a, '_, C>,
     known: &mut Known,
 ) -> Result<Found<'a>, EvalFault>
-    requires fits { Fits (trees_of scene.now.parts.now) condition.now }
+    requires fits { Fits (trees_of scene.now.parts.now) (view condition.now) places.now }
     requires known { AreKnown (C.TransformCalls.has scene.now.table.now) (members_of scene.now.attributes.now.pairs) (trees_of scene.now.parts.now) (values_of known.old) }
-    ensures value { Gives found_as_json result (filter_meant (λ x. meaning (C.TransformCalls.has scene.now.table.now) (members_of scene.now.attributes.now.pairs) x (tree_of condition.now)) (found_as_json subject.entry)) }
+    ensures value { Gives found_as_json result (filter_meant (λ x. meaning (C.TransformCalls.has scene.now.table.now) (members_of scene.now.attributes.now.pairs) x (view condition.now)) (found_as_json subject.entry)) }
     ensures known { OnOk result (AreKnown (C.TransformCalls.has scene.now.table.now) (members_of scene.now.attributes.now.pairs) (trees_of scene.now.parts.now) (values_of known.new)) }
 {
     let items = filter_items(subject.value())?;
@@ -237,7 +273,7 @@ fn filtered<'a, C: TransformCalls>(
             parts: scene.parts,
             current: item,
         };
-        let verdict = evaluate(condition, &around, known)?;
+        let verdict = evaluate(condition, places, &around, known)?;
         keep_if(&mut kept, verdict.value(), item)?;
     }
     Ok(list(kept))
@@ -249,19 +285,20 @@ fn filtered<'a, C: TransformCalls>(
 fn operation<'a, C: TransformCalls>(
     sign: BinarySign,
     left: Found<'a>,
-    right: &Step,
+    right: &Node,
+    places: &Places,
     scene: &Scene<'a, '_, C>,
     known: &mut Known,
 ) -> Result<Found<'a>, EvalFault>
-    requires fits { Fits (trees_of scene.now.parts.now) right.now }
+    requires fits { Fits (trees_of scene.now.parts.now) (view right.now) places.now }
     requires known { AreKnown (C.TransformCalls.has scene.now.table.now) (members_of scene.now.attributes.now.pairs) (trees_of scene.now.parts.now) (values_of known.old) }
-    ensures value { Gives found_as_json result (operation_meant sign (found_as_json left.entry) (meaning (C.TransformCalls.has scene.now.table.now) (members_of scene.now.attributes.now.pairs) (as_json scene.now.current.now) (tree_of right.now))) }
+    ensures value { Gives found_as_json result (operation_meant sign (found_as_json left.entry) (meaning (C.TransformCalls.has scene.now.table.now) (members_of scene.now.attributes.now.pairs) (as_json scene.now.current.now) (view right.now))) }
     ensures known { OnOk result (AreKnown (C.TransformCalls.has scene.now.table.now) (members_of scene.now.attributes.now.pairs) (trees_of scene.now.parts.now) (values_of known.new)) }
 {
     if let Some(decided) = decided(sign, left.value()) {
         return Ok(truth(decided));
     }
-    let right = evaluate(right, scene, known)?;
+    let right = evaluate(right, places, scene, known)?;
     operate(scene.alloc, sign, left, right.value())
 }
 
@@ -269,19 +306,20 @@ fn operation<'a, C: TransformCalls>(
 #[cycle(evaluate)]
 fn or_else<'a, C: TransformCalls>(
     first: Found<'a>,
-    second: &Step,
+    second: &Node,
+    places: &Places,
     scene: &Scene<'a, '_, C>,
     known: &mut Known,
 ) -> Result<Found<'a>, EvalFault>
-    requires fits { Fits (trees_of scene.now.parts.now) second.now }
+    requires fits { Fits (trees_of scene.now.parts.now) (view second.now) places.now }
     requires known { AreKnown (C.TransformCalls.has scene.now.table.now) (members_of scene.now.attributes.now.pairs) (trees_of scene.now.parts.now) (values_of known.old) }
-    ensures value { Gives found_as_json result (if is_truthy (found_as_json first.entry) then Ok (found_as_json first.entry) else meaning (C.TransformCalls.has scene.now.table.now) (members_of scene.now.attributes.now.pairs) (as_json scene.now.current.now) (tree_of second.now)) }
+    ensures value { Gives found_as_json result (if is_truthy (found_as_json first.entry) then Ok (found_as_json first.entry) else meaning (C.TransformCalls.has scene.now.table.now) (members_of scene.now.attributes.now.pairs) (as_json scene.now.current.now) (view second.now)) }
     ensures known { OnOk result (AreKnown (C.TransformCalls.has scene.now.table.now) (members_of scene.now.attributes.now.pairs) (trees_of scene.now.parts.now) (values_of known.new)) }
 {
     if truthy(first.value()) {
         Ok(first)
     } else {
-        evaluate(second, scene, known)
+        evaluate(second, places, scene, known)
     }
 }
 
@@ -289,20 +327,21 @@ fn or_else<'a, C: TransformCalls>(
 #[cycle(evaluate)]
 fn kept_part<'a, C: TransformCalls>(
     place: usize,
-    part: &Step,
+    part: &Node,
+    places: &Places,
     scene: &Scene<'a, '_, C>,
     known: &mut Known,
 ) -> Result<Found<'a>, EvalFault>
-    requires part { IsPart (trees_of scene.now.parts.now) (tree_of part.now) (Some place) }
-    requires fits { Fits (trees_of scene.now.parts.now) part.now }
+    requires part { IsPart (trees_of scene.now.parts.now) (view part.now) (Some place) }
+    requires fits { FitsBelow (trees_of scene.now.parts.now) (view part.now) places.now }
     requires known { AreKnown (C.TransformCalls.has scene.now.table.now) (members_of scene.now.attributes.now.pairs) (trees_of scene.now.parts.now) (values_of known.old) }
-    ensures value { Gives found_as_json result (meaning (C.TransformCalls.has scene.now.table.now) (members_of scene.now.attributes.now.pairs) (as_json scene.now.current.now) (tree_of part.now)) }
+    ensures value { Gives found_as_json result (meaning (C.TransformCalls.has scene.now.table.now) (members_of scene.now.attributes.now.pairs) (as_json scene.now.current.now) (view part.now)) }
     ensures known { OnOk result (AreKnown (C.TransformCalls.has scene.now.table.now) (members_of scene.now.attributes.now.pairs) (trees_of scene.now.parts.now) (values_of known.new)) }
 {
     if let Some(value) = known.at(place) {
         return Ok(Found::Shared(value.clone()?));
     }
-    let value = evaluate(part, scene, known)?;
+    let value = unkept(part, places, scene, known)?;
     Ok(known.keep(scene.alloc, place, value)?)
 }
 

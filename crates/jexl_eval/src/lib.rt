@@ -11,10 +11,10 @@ mod fault;
 mod found;
 mod known;
 mod operations;
+mod places;
 mod preparing;
 mod relative;
 mod scene;
-mod step;
 mod transforms;
 
 pub use evaluation::{eval, eval_truth};

@@ -1,138 +1,131 @@
-// From nodes to steps.
+// Which parts of a tree are kept.
 //
 // The condition of a filter is evaluated for each item. A part of it in which no relative name stands
 // outside the brackets of filters has one value for all of them, since a relative name speaks of the
 // item of the innermost filter around it. Such a part is kept. Constants, names and members of names
 // aren't: a look at them takes no longer than a look at what would be kept.
-ghost use Rattle.std.specs.Prelude.{IfOk, OnOk};
+ghost use Rattle.std.specs.Prelude.{◌≡◌, IfOk, OnOk};
 ghost use Rattle.jexl_parser.specs.View.{view};
-ghost use Rattle.jexl_eval.specs.Steps.{trees_of, Extends, IsPart, IsPlaced, IsPrepared, ArePrepared, MembersPrepared};
+ghost use Rattle.jexl_eval.specs.Places.{after, trees_of, Extends, IsPart, IsPlaced, HasPlaces, HasPlacesBelow, HaveAllPlaces, HavePairPlaces};
 
+use crate::places::Places;
 use crate::relative::has_relative;
-use crate::step::Step;
 use jexl_parser::Node;
 use jexl_value::Text;
 use std::alloc::{AllocError, Global};
 
-/// The steps of a tree. Where `keeps` says so, in the condition of a filter, a part that has one value
-/// for all items gets a place, and is put into `parts` there.
-#[cycle(prepare)]
+/// The places of a tree. In the conditions of its filters, a part that has one value for all items gets
+/// a place, and is put into `parts` there.
 pub(crate) fn prepare<'e>(
     alloc: Global,
     node: &'e Node,
-    keeps: bool,
     parts: &mut Vec<&'e Node>,
-) -> Result<Step<'e>, AllocError>
-    ensures grows { OnOk result (Extends (trees_of parts.old.items) (trees_of parts.new.items)) }
-    ensures prepared { IfOk result (λ s. IsPrepared (trees_of parts.new.items) (view node.now) s) }
+) -> Result<Places, AllocError>
+    ensures { IfOk result (λ p. HasPlaces (trees_of parts.new.items) (view node.now) p) }
 {
-    let place = place_for(node, keeps, parts)?;
-    let step = unplaced(alloc, node, keeps && place.is_none(), parts)?;
-    at_place(alloc, place, step)
+    before(alloc, node, false, Places::Nowhere, parts)
 }
 
-// The step of a tree that has no place itself.
-#[cycle(prepare)]
-fn unplaced<'e>(
+// The places of a tree and of those after it, whose places are `rest`. Where `keeps` says so, the tree
+// stands in the condition of a filter.
+#[cycle(before)]
+fn before<'e>(
+    alloc: Global,
+    node: &'e Node,
+    keeps: bool,
+    rest: Places,
+    parts: &mut Vec<&'e Node>,
+) -> Result<Places, AllocError>
+    ensures grows { OnOk result (Extends (trees_of parts.old.items) (trees_of parts.new.items)) }
+    ensures places { IfOk result (λ p. HasPlaces (trees_of parts.new.items) (view node.now) p) }
+    ensures rest { IfOk result (λ p. after p ≡ rest) }
+{
+    let place = place_for(node, keeps, parts)?;
+    let below = below(alloc, node, keeps && place.is_none(), parts)?;
+    joined(alloc, place, below, rest)
+}
+
+// The places of the trees below one.
+#[cycle(before)]
+fn below<'e>(
     alloc: Global,
     node: &'e Node,
     keeps: bool,
     parts: &mut Vec<&'e Node>,
-) -> Result<Step<'e>, AllocError>
+) -> Result<Places, AllocError>
     ensures grows { OnOk result (Extends (trees_of parts.old.items) (trees_of parts.new.items)) }
-    ensures prepared { IfOk result (λ s. IsPrepared (trees_of parts.new.items) (view node.now) s) }
+    ensures places { IfOk result (λ p. HasPlacesBelow (trees_of parts.new.items) (view node.now) p) }
 {
     match node {
-        Node::Literal(literal) => Ok(Step::Literal(literal)),
-        Node::Name(name) => Ok(Step::Name(name)),
-        Node::Relative(name) => Ok(Step::Relative(name)),
-        Node::List(nodes) => Ok(Step::List(each(alloc, nodes.as_slice(), keeps, parts)?)),
-        Node::Members(pairs) => {
-            Ok(Step::Members(each_member(alloc, pairs.as_slice(), keeps, parts)?))
+        Node::Literal(_) => Ok(Places::Nowhere),
+        Node::Name(_) => Ok(Places::Nowhere),
+        Node::Relative(_) => Ok(Places::Nowhere),
+        Node::List(nodes) => each(alloc, nodes.as_slice(), keeps, parts),
+        Node::Members(pairs) => each_member(alloc, pairs.as_slice(), keeps, parts),
+        Node::Member(subject, _) => before(alloc, subject, keeps, Places::Nowhere, parts),
+        Node::Index(subject, key) => {
+            let rest = before(alloc, key, keeps, Places::Nowhere, parts)?;
+            before(alloc, subject, keeps, rest, parts)
         }
-        Node::Member(subject, name) => Ok(Step::Member(boxed(alloc, subject, keeps, parts)?, name)),
-        Node::Index(subject, key) => Ok(Step::Index(
-            boxed(alloc, subject, keeps, parts)?,
-            boxed(alloc, key, keeps, parts)?,
-        )),
-        Node::Filter(subject, condition) => Ok(Step::Filter(
-            boxed(alloc, subject, keeps, parts)?,
-            boxed(alloc, condition, true, parts)?,
-        )),
-        Node::Transform(subject, name, arguments) => Ok(Step::Transform(
-            boxed(alloc, subject, keeps, parts)?,
-            name,
-            each(alloc, arguments.as_slice(), keeps, parts)?,
-        )),
-        Node::Not(inside) => Ok(Step::Not(boxed(alloc, inside, keeps, parts)?)),
-        Node::Binary(sign, left, right) => Ok(Step::Binary(
-            *sign,
-            boxed(alloc, left, keeps, parts)?,
-            boxed(alloc, right, keeps, parts)?,
-        )),
-        Node::Choose(condition, first, second) => Ok(Step::Choose(
-            boxed(alloc, condition, keeps, parts)?,
-            boxed(alloc, first, keeps, parts)?,
-            boxed(alloc, second, keeps, parts)?,
-        )),
-        Node::OrElse(first, second) => Ok(Step::OrElse(
-            boxed(alloc, first, keeps, parts)?,
-            boxed(alloc, second, keeps, parts)?,
-        )),
+        Node::Filter(subject, condition) => {
+            let rest = before(alloc, condition, true, Places::Nowhere, parts)?;
+            before(alloc, subject, keeps, rest, parts)
+        }
+        Node::Transform(subject, _, arguments) => {
+            let rest = each(alloc, arguments.as_slice(), keeps, parts)?;
+            before(alloc, subject, keeps, rest, parts)
+        }
+        Node::Not(inside) => before(alloc, inside, keeps, Places::Nowhere, parts),
+        Node::Binary(_, left, right) => {
+            let rest = before(alloc, right, keeps, Places::Nowhere, parts)?;
+            before(alloc, left, keeps, rest, parts)
+        }
+        Node::Choose(condition, first, second) => {
+            let last = before(alloc, second, keeps, Places::Nowhere, parts)?;
+            let rest = before(alloc, first, keeps, last, parts)?;
+            before(alloc, condition, keeps, rest, parts)
+        }
+        Node::OrElse(first, second) => {
+            let rest = before(alloc, second, keeps, Places::Nowhere, parts)?;
+            before(alloc, first, keeps, rest, parts)
+        }
     }
 }
 
-// The steps of a tree below another one.
-#[cycle(prepare)]
-fn boxed<'e>(
-    alloc: Global,
-    node: &'e Node,
-    keeps: bool,
-    parts: &mut Vec<&'e Node>,
-) -> Result<Box<Step<'e>>, AllocError>
-    ensures grows { OnOk result (Extends (trees_of parts.old.items) (trees_of parts.new.items)) }
-    ensures prepared { IfOk result (λ b. IsPrepared (trees_of parts.new.items) (view node.now) b.value) }
-{
-    let step = prepare(alloc, node, keeps, parts)?;
-    Ok(Box::new(alloc, step)?)
-}
-
-// The steps of trees, in their order.
-#[cycle(prepare)]
+// The places of trees, which are made from the last one on.
+#[cycle(before)]
 fn each<'e>(
     alloc: Global,
     nodes: &'e [Node],
     keeps: bool,
     parts: &mut Vec<&'e Node>,
-) -> Result<Vec<Step<'e>>, AllocError>
+) -> Result<Places, AllocError>
     ensures grows { OnOk result (Extends (trees_of parts.old.items) (trees_of parts.new.items)) }
-    ensures prepared { IfOk result (λ ss. ArePrepared (trees_of parts.new.items) nodes.now ss.items) }
+    ensures places { IfOk result (λ p. HaveAllPlaces (trees_of parts.new.items) nodes.now p) }
 {
-    let mut steps = Vec::new(alloc);
-    for node in nodes {
-        let step = prepare(alloc, node, keeps, parts)?;
-        steps.push(step)?;
+    let mut places = Places::Nowhere;
+    for index in (0..nodes.len()).rev() {
+        places = before(alloc, &nodes[index], keeps, places, parts)?;
     }
-    Ok(steps)
+    Ok(places)
 }
 
-// The names of members and the steps of their trees, in their order.
-#[cycle(prepare)]
+// The places of the trees of members, which are made from the last one on.
+#[cycle(before)]
 fn each_member<'e>(
     alloc: Global,
     pairs: &'e [(Text, Node)],
     keeps: bool,
     parts: &mut Vec<&'e Node>,
-) -> Result<Vec<(&'e Text, Step<'e>)>, AllocError>
+) -> Result<Places, AllocError>
     ensures grows { OnOk result (Extends (trees_of parts.old.items) (trees_of parts.new.items)) }
-    ensures prepared { IfOk result (λ ss. MembersPrepared (trees_of parts.new.items) pairs.now ss.items) }
+    ensures places { IfOk result (λ p. HavePairPlaces (trees_of parts.new.items) pairs.now p) }
 {
-    let mut steps = Vec::new(alloc);
-    for (name, node) in pairs {
-        let step = prepare(alloc, node, keeps, parts)?;
-        steps.push((name, step))?;
+    let mut places = Places::Nowhere;
+    for index in (0..pairs.len()).rev() {
+        places = before(alloc, &pairs[index].1, keeps, places, parts)?;
     }
-    Ok(steps)
+    Ok(places)
 }
 
 // The next place, for a tree that is a part to be kept.
@@ -162,15 +155,21 @@ fn is_look(node: &Node) -> bool {
     }
 }
 
-// The step itself, or as the part that is kept at this place.
-fn at_place<'e>(alloc: Global, place: Option<usize>, step: Step<'e>) -> Result<Step<'e>, AllocError>
-    ensures { IfOk result (λ s. IsPlaced place step.entry s) }
+// The places of a list of trees, by those of the first one.
+fn joined(
+    alloc: Global,
+    place: Option<usize>,
+    below: Places,
+    rest: Places,
+) -> Result<Places, AllocError>
+    ensures { IfOk result (λ p. IsPlaced place below rest p) }
 {
-    match place {
-        None => Ok(step),
-        Some(place) => {
-            let step = Box::new(alloc, step)?;
-            Ok(Step::Kept(place, step))
+    match (place, below, rest) {
+        (None, Places::Nowhere, Places::Nowhere) => Ok(Places::Nowhere),
+        (place, below, rest) => {
+            let below = Box::new(alloc, below)?;
+            let rest = Box::new(alloc, rest)?;
+            Ok(Places::From(place, below, rest))
         }
     }
 }

@@ -1,5 +1,5 @@
 use Rattle.std.proofs.Common.{rules, ◌≡◌, length, vec_len, sym, ◌∙◌}
-use Rattle.jexl_eval.proofs.Stepping.{nodes_more, last_node}
+use Rattle.jexl_eval.proofs.Placing.{nodes_more, last_node}
 use Rattle.jexl_eval.proofs.preparing.place_for.Goals as goal
 
 pub returns-clause-grows : goal.returns-clause-grows
