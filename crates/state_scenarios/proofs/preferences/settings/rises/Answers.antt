@@ -4,7 +4,7 @@ use Rattle.std.proofs.lemmas.Fn.{always_returns_same}
 use Rattle.recipe_reader.specs.Payloads.{slug_cmp}
 use Rattle.pref_bindings.specs.Changes.{Setting}
 use Rattle.sequences.proofs.Rising.{rise_answer}
-use Rattle.preference_scenarios.proofs.inputs.rises.Goals as goal
+use Rattle.state_scenarios.proofs.preferences.settings.rises.Goals as goal
 
 pub returns : goal.returns
 returns c =

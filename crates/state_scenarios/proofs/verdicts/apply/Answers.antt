@@ -1,7 +1,7 @@
 use Rattle.std.proofs.Common.{sym, subst}
 use Rattle.std.specs.List.Sorted.{IsStrictlySortedBy}
 use Rattle.enrol_states.specs.Order.{Rise}
-use Rattle.enrolment_scenarios.proofs.verdicts.after_line.Goals as goal
+use Rattle.state_scenarios.proofs.verdicts.apply.Goals as goal
 
 pub evolve-requires-clause-order : goal.evolve-requires-clause-order
 unfolding IsStrictlySortedBy
