@@ -10,7 +10,7 @@ use app_context::{Context, attributes, read_context, set_already_enrolled, share
 use enrol_states::State;
 use jexl_value::{Attributes, Value, tree_of};
 use plain_text::{LAST_MOMENT, Slug};
-use row_tables::{Fault, parts};
+use row_tables::{Fault, Found, parts};
 use std::alloc::{AllocError, Global};
 use uuid::Uuid;
 
@@ -26,7 +26,7 @@ pub(crate) fn find_attributes(
     state: &mut State,
     given: &str,
     input: &str,
-    found: &mut String,
+    found: &mut Found,
 ) -> Result<(), Fault> {
     let context = context(alloc, given)?;
     find_attributes_in(alloc, &context, state, input, found)
@@ -43,13 +43,13 @@ fn find_attributes_in(
     context: &Context,
     state: &mut State,
     input: &str,
-    found: &mut String,
+    found: &mut Found,
 ) -> Result<(), Fault> {
     let (client, asked) = parts(input)?;
     state.id = id()?;
     if client == "old" {
         state.updated = NOW - 86_400;
-        add_rows(alloc, ROWS, &mut state.rows)?;
+        add_rows(alloc, ROWS, &mut state.rows);
     }
     find_attributes_for(alloc, context, state, asked, found)
 }
@@ -66,7 +66,7 @@ fn find_attributes_for(
     context: &Context,
     state: &State,
     asked: &str,
-    found: &mut String,
+    found: &mut Found,
 ) -> Result<(), Fault> {
     let (about, later) = parts(asked)?;
     let now = moment(later)?;
@@ -91,7 +91,7 @@ fn find_both(
     state: &State,
     recipe: &Slug,
     now: u64,
-    found: &mut String,
+    found: &mut Found,
 ) -> Result<(), Fault>
     requires rows { Rise (slugs_of state.now.rows) }
     requires moment { now ≤ last_moment }
@@ -101,10 +101,10 @@ fn find_both(
         attributes(alloc, context, state, recipe, now)?,
         found,
     )?;
-    let mut shared = String::new(alloc);
+    let mut shared = Found::new(alloc);
     find_shared(alloc, context, state, recipe, now, &mut shared)?;
     if shared.as_str() != found.as_str() {
-        found.push_str(", others are shared")?;
+        found.text(", others are shared");
     }
     Ok(())
 }
@@ -116,7 +116,7 @@ fn find_shared(
     state: &State,
     recipe: &Slug,
     now: u64,
-    found: &mut String,
+    found: &mut Found,
 ) -> Result<(), Fault>
     requires rows { Rise (slugs_of state.now.rows) }
     requires moment { now ≤ last_moment }
@@ -145,9 +145,10 @@ fn set_after_another(
 fn add_attributes(
     alloc: Global,
     attributes: Attributes,
-    found: &mut String,
+    found: &mut Found,
 ) -> Result<(), AllocError> {
     let value = Value::Object(attributes.pairs);
     let tree = tree_of(alloc, &value)?;
-    add_tree(alloc, &tree, found)
+    add_tree(alloc, &tree, found);
+    Ok(())
 }

@@ -14,7 +14,7 @@ use enrol_states::{
 };
 use plain_text::Slug;
 use recipe_reader::Recipes;
-use row_tables::{Fault, add_all_displayed, add_displayed, add_texts, cut};
+use row_tables::{Fault, Found, cut};
 use std::alloc::{AllocError, Global};
 use uuid::Uuid;
 
@@ -26,7 +26,7 @@ pub(crate) fn find(
     state: &mut State,
     kind: &str,
     input: &str,
-    found: &mut String,
+    found: &mut Found,
 ) -> Result<(), Fault>
     requires { IsConsistent state.old }
 {
@@ -148,12 +148,12 @@ fn find_choices(
     alloc: Global,
     state: &mut State,
     lines: &str,
-    found: &mut String,
+    found: &mut Found,
 ) -> Result<(), Fault>
     requires { IsConsistent state.old }
 {
     do_lines(alloc, state, lines)?;
-    Ok(add_state(state, found)?)
+    Ok(add_state(state, found))
 }
 
 // What is found after lines over four recipes, of which aroll is a rollout. Row: the lines, and behind ` | ` what is asked. Of
@@ -164,14 +164,14 @@ fn find_after_lines(
     state: &mut State,
     kind: &str,
     input: &str,
-    found: &mut String,
+    found: &mut Found,
 ) -> Result<(), Fault>
     requires { IsConsistent state.old }
 {
     let (lines, asked) = input.split_once(" | ").unwrap_or((input, ""));
     do_lines(alloc, state, lines)?;
     match kind {
-        "parts" => Ok(add_parts(state, found)?),
+        "parts" => Ok(add_parts(state, found)),
         "changed" => find_changed(alloc, state, asked, found),
         "opt-in" => find_opt_in(alloc, state, asked, found),
         "status" => find_status(state, asked, found),
@@ -185,14 +185,14 @@ fn find_changed(
     alloc: Global,
     state: &mut State,
     line: &str,
-    found: &mut String,
+    found: &mut Found,
 ) -> Result<(), Fault>
     requires { IsConsistent state.old }
 {
     let next = after_slug(alloc, state, line)?;
     let (opted_out, rows) = (next.opted_out, next.rows);
     drop(next);
-    Ok(add_list_parts(opted_out, rows, found)?)
+    Ok(add_list_parts(opted_out, rows, found))
 }
 
 // Adds the answer to an opt-in to a slug and a branch.
@@ -200,7 +200,7 @@ fn find_opt_in(
     alloc: Global,
     state: &mut State,
     asked: &str,
-    found: &mut String,
+    found: &mut Found,
 ) -> Result<(), Fault>
     requires { IsConsistent state.old }
 {
@@ -214,55 +214,53 @@ fn find_opt_in_to(
     state: &mut State,
     name: &Slug,
     branch: &str,
-    found: &mut String,
+    found: &mut Found,
 ) -> Result<(), Fault>
     requires { IsConsistent state.old }
 {
     let branch = slug(alloc, branch)?;
     match opt_in(alloc, state, name, &branch).err() {
-        Some(fault) => Ok(add_fault(&fault, found)?),
-        None => Ok(found.push_str("ok")?),
+        Some(fault) => Ok(add_fault(&fault, found)),
+        None => Ok(found.text("ok")),
     }
 }
 
-fn add_fault(fault: &OptInFault, found: &mut String) -> Result<(), AllocError> {
+fn add_fault(fault: &OptInFault, found: &mut Found) {
     match fault {
-        OptInFault::NotParticipating => found.push_str("NotParticipating"),
-        OptInFault::NoSuchExperiment => found.push_str("NoSuchExperiment"),
-        OptInFault::NoSuchBranch => found.push_str("NoSuchBranch"),
+        OptInFault::NotParticipating => found.text("NotParticipating"),
+        OptInFault::NoSuchExperiment => found.text("NoSuchExperiment"),
+        OptInFault::NoSuchBranch => found.text("NoSuchBranch"),
         OptInFault::FeatureTaken(holder, feature) => {
-            add_texts(
-                found,
-                &["FeatureTaken ", holder.text(), " ", feature.as_str()],
-            )
+            found.texts(&["FeatureTaken ", holder.text(), " ", feature.as_str()])
         }
-        OptInFault::OutOfMemory => found.push_str("OutOfMemory"),
+        OptInFault::OutOfMemory => found.text("OutOfMemory"),
     }
 }
 
 // Adds what a state says of a slug.
-fn find_status(state: &State, name: &str, found: &mut String) -> Result<(), Fault>
+fn find_status(state: &State, name: &str, found: &mut Found) -> Result<(), Fault>
     requires { IsConsistent state.now }
 {
     match state.status_of(name) {
-        Some(status) => Ok(add_status(status, found)?),
-        None => Ok(found.push_str("nothing")?),
+        Some(status) => Ok(add_status(status, found)),
+        None => Ok(found.text("nothing")),
     }
 }
 
 // Adds whether a client has the other id, the moments of install and update, whether it takes part in experiments and in
 // rollouts, the number of live recipes, whether any are pending, and whether its copy is the same.
-fn add_client(state: &State, found: &mut String) -> Result<(), AllocError> {
+fn add_client(state: &State, found: &mut Found) -> Result<(), AllocError> {
     let is_same = is_copied(state)?;
-    add_displayed(found, &(state.id == OTHER_ID))?;
-    found.push_str(" ")?;
-    add_all_displayed(found, &[state.installed, state.updated])?;
-    found.push_str(" ")?;
-    add_all_displayed(found, &[state.experiments, state.rollouts])?;
-    found.push_str(" ")?;
-    add_displayed(found, &state.live.as_slice().len())?;
-    found.push_str(" ")?;
-    add_all_displayed(found, &[state.pending.is_some(), is_same])
+    found.displayed(&(state.id == OTHER_ID));
+    found.text(" ");
+    found.all_displayed(&[state.installed, state.updated]);
+    found.text(" ");
+    found.all_displayed(&[state.experiments, state.rollouts]);
+    found.text(" ");
+    found.displayed(&state.live.as_slice().len());
+    found.text(" ");
+    found.all_displayed(&[state.pending.is_some(), is_same]);
+    Ok(())
 }
 
 fn is_copied(state: &State) -> Result<bool, AllocError> {
@@ -278,7 +276,7 @@ fn find_opt_outs(
     alloc: Global,
     state: &mut State,
     input: &str,
-    found: &mut String,
+    found: &mut Found,
 ) -> Result<(), Fault>
     requires { IsConsistent state.old }
 {
@@ -309,14 +307,14 @@ fn add_opt_outs(
     alloc: Global,
     state: &mut State,
     again: &str,
-    found: &mut String,
+    found: &mut Found,
 ) -> Result<(), Fault>
     requires { IsConsistent state.old }
 {
     let is_limit = is_at_limit(alloc, state)?;
     let is_in = state.is_opted_out("one-more");
     let stays = stays_opted_out(alloc, state, again)?;
-    Ok(add_all_displayed(found, &[is_limit, is_in, stays])?)
+    Ok(found.all_displayed(&[is_limit, is_in, stays]))
 }
 
 fn is_at_limit(alloc: Global, state: &mut State) -> Result<bool, Fault>
@@ -339,19 +337,14 @@ fn stays_opted_out(alloc: Global, state: &mut State, name: &str) -> Result<bool,
 
 // Whether features are left to one recipe of a kind where the client is enrolled in the experiment delta, which has the
 // home screen, and in beta. Row: whether beta is a rollout, and its feature.
-fn find_alone(
-    alloc: Global,
-    state: &mut State,
-    input: &str,
-    found: &mut String,
-) -> Result<(), Fault>
+fn find_alone(alloc: Global, state: &mut State, input: &str, found: &mut Found) -> Result<(), Fault>
     requires { IsConsistent state.old }
 {
     do_lines(alloc, state, "beta control,delta control")?;
     let recipes = beta_and_delta(alloc, input)?;
     drop(std::mem::replace(&mut state.live, recipes));
     let is_alone = is_exclusive(alloc, state)?;
-    Ok(add_displayed(found, &is_alone)?)
+    Ok(found.displayed(&is_alone))
 }
 
 fn beta_and_delta(alloc: Global, text: &str) -> Result<Recipes, Fault> {

@@ -5,7 +5,7 @@ ghost use Rattle.enrol_states.specs.Consistent.{IsConsistent};
 use crate::records::{EVERY_BUCKET, ROLLOUT, Record, add_record, recipes};
 use crate::{attributes, choices, drills, verdicts};
 use enrol_states::{MAX_RECIPES, State};
-use row_tables::Fault;
+use row_tables::{Fault, Found};
 use std::alloc::{AllocError, Global};
 use uuid::Uuid;
 
@@ -27,7 +27,7 @@ pub(crate) fn find(
     kind: &str,
     given: &str,
     input: &str,
-    found: &mut String,
+    found: &mut Found,
 ) -> Result<(), Fault> {
     let mut state = client_for(alloc, kind, given)?;
     let outcome = find_in(alloc, &mut state, kind, given, input, found);
@@ -41,7 +41,7 @@ fn find_in(
     kind: &str,
     given: &str,
     input: &str,
-    found: &mut String,
+    found: &mut Found,
 ) -> Result<(), Fault>
     requires { IsConsistent state.old }
 {

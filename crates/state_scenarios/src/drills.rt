@@ -4,13 +4,13 @@ ghost use Rattle.std.specs.Prelude.{◌≤◌};
 use crate::enrolment_rows::add_row;
 use enrol_states::{Row, State};
 use recipe_drill::{Drill, MAX_RECIPES, summary};
-use row_tables::{Fault, add_between, add_displayed, count, cut, number};
+use row_tables::{Fault, Found, count, cut, number};
 use sequences::SharedList;
-use std::alloc::{AllocError, Global};
+use std::alloc::Global;
 use std::str::from_utf8;
 
 /// The length of the recipes of the drill from 7 on, and their last bytes. Row: the number of recipes and of bytes.
-pub(crate) fn find_recipes(alloc: Global, input: &str, found: &mut String) -> Result<(), Fault> {
+pub(crate) fn find_recipes(alloc: Global, input: &str, found: &mut Found) -> Result<(), Fault> {
     let (number, length) = cut(input);
     let length = count(length).ok_or(Fault::NoRow)?;
     let drill = drill(alloc, number)?;
@@ -26,23 +26,23 @@ fn drill(alloc: Global, recipes: &str) -> Result<Drill, Fault> {
 }
 
 // Adds the number of bytes, and so many of the last ones.
-fn add_end(bytes: &[u8], length: usize, found: &mut String) -> Result<(), Fault> {
-    add_displayed(found, &bytes.len())?;
-    found.push_str(" ")?;
+fn add_end(bytes: &[u8], length: usize, found: &mut Found) -> Result<(), Fault> {
+    found.displayed(&bytes.len());
+    found.text(" ");
     match from_utf8(last(bytes, length)) {
-        Ok(end) => Ok(found.push_str(end)?),
+        Ok(end) => Ok(found.text(end)),
         Err(_) => Err(Fault::NoRow),
     }
 }
 
 /// A part of the drill from 7 on with one recipe: of the manifest its length, its first bytes or its last ones. Row: the
 /// name of the part, and of these the number of bytes.
-pub(crate) fn find_part(alloc: Global, input: &str, found: &mut String) -> Result<(), Fault> {
+pub(crate) fn find_part(alloc: Global, input: &str, found: &mut Found) -> Result<(), Fault> {
     let drill = drill(alloc, "1")?;
     add_part(&drill, input, found)
 }
 
-fn add_part(drill: &Drill, input: &str, found: &mut String) -> Result<(), Fault> {
+fn add_part(drill: &Drill, input: &str, found: &mut Found) -> Result<(), Fault> {
     let (part, length) = cut(input);
     match part {
         "id" => add_text(drill.id.as_str().as_bytes(), found),
@@ -56,10 +56,10 @@ fn add_part_of_manifest(
     manifest: &[u8],
     part: &str,
     length: &str,
-    found: &mut String,
+    found: &mut Found,
 ) -> Result<(), Fault> {
     match (part, count(length)) {
-        ("length", _) => Ok(add_displayed(found, &manifest.len())?),
+        ("length", _) => Ok(found.displayed(&manifest.len())),
         ("first", Some(length)) => add_text(first(manifest, length), found),
         ("last", Some(length)) => add_text(last(manifest, length), found),
         _ => Err(Fault::NoRow),
@@ -67,9 +67,9 @@ fn add_part_of_manifest(
 }
 
 // Adds the lines of these bytes in one.
-fn add_text(bytes: &[u8], found: &mut String) -> Result<(), Fault> {
+fn add_text(bytes: &[u8], found: &mut Found) -> Result<(), Fault> {
     match from_utf8(bytes) {
-        Ok(text) => Ok(add_lines(text, found)?),
+        Ok(text) => Ok(add_lines(text, found)),
         Err(_) => Err(Fault::NoRow),
     }
 }
@@ -87,11 +87,11 @@ pub(crate) fn find_summary(
     alloc: Global,
     state: &mut State,
     letters: &str,
-    found: &mut String,
+    found: &mut Found,
 ) -> Result<(), Fault> {
     add_rows(alloc, letters, &mut state.rows)?;
     let summary = summary(alloc, u64::MAX, 20, state)?;
-    Ok(add_lines(summary.as_str(), found)?)
+    Ok(add_lines(summary.as_str(), found))
 }
 
 // Adds a row for each letter.
@@ -113,14 +113,13 @@ fn status_text(letter: u8) -> &'static str {
 }
 
 // Adds the lines of a text in one, with a bar between them.
-fn add_lines(text: &str, found: &mut String) -> Result<(), AllocError> {
+fn add_lines(text: &str, found: &mut Found) {
     for line in text.lines() {
-        add_line(line, found)?;
+        add_line(line, found);
     }
-    Ok(())
 }
 
-fn add_line(line: &str, found: &mut String) -> Result<(), AllocError> {
-    add_between(found, " | ")?;
-    found.push_str(line)
+fn add_line(line: &str, found: &mut Found) {
+    found.between(" | ");
+    found.text(line)
 }

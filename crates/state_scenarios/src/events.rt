@@ -6,7 +6,7 @@ mod seen;
 
 use event_counts::Counts;
 use histories::count_given;
-use row_tables::Fault;
+use row_tables::{Fault, Found};
 use std::alloc::Global;
 
 /// What is found of a row.
@@ -15,7 +15,7 @@ pub(crate) fn find(
     kind: &str,
     given: &str,
     input: &str,
-    found: &mut String,
+    found: &mut Found,
 ) -> Result<(), Fault> {
     let mut counts = Counts::new(alloc);
     let outcome = find_over(alloc, &mut counts, kind, given, input, found);
@@ -30,7 +30,7 @@ fn find_over(
     kind: &str,
     given: &str,
     input: &str,
-    found: &mut String,
+    found: &mut Found,
 ) -> Result<(), Fault> {
     count_given(alloc, counts, given)?;
     match kind {

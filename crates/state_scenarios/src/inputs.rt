@@ -1,8 +1,8 @@
 //! Slugs, numbers and trees of a row's text.
 use json_tree::{Tree, read, write};
 use plain_text::{Slug, slug_of};
-use row_tables::Fault;
-use std::alloc::{AllocError, Global};
+use row_tables::{Fault, Found};
+use std::alloc::Global;
 
 pub(crate) fn slug(alloc: Global, text: &str) -> Result<Slug, Fault> {
     match slug_of(alloc, text.as_bytes()) {
@@ -24,7 +24,9 @@ pub(crate) fn tree(alloc: Global, text: &str) -> Result<Tree, Fault> {
 }
 
 /// Adds the text of a tree.
-pub(crate) fn add_tree(alloc: Global, tree: &Tree, found: &mut String) -> Result<(), AllocError> {
-    let text = write(alloc, tree)?;
-    found.push_str(text.as_str())
+pub(crate) fn add_tree(alloc: Global, tree: &Tree, found: &mut Found) {
+    match write(alloc, tree) {
+        Ok(text) => found.text(text.as_str()),
+        Err(_) => found.lack_memory(),
+    }
 }

@@ -22,14 +22,14 @@ mod transitions;
 mod verdicts;
 mod wishes;
 
-use row_tables::{Fault, Kinds, Question, report_on};
+use row_tables::{Fault, Found, Kinds, Question, report_on};
 use std::alloc::Global;
 use std::io;
 
 struct StateKinds;
 
 impl Kinds for StateKinds {
-    fn find(&self, alloc: Global, row: Question<'_>, found: &mut String) -> Result<(), Fault> {
+    fn find(&self, alloc: Global, row: Question<'_>, found: &mut Found) -> Result<(), Fault> {
         let (part, kind) = row.kind.split_once('/').ok_or(Fault::NoRow)?;
         let input = row.text()?;
         match part {
@@ -48,7 +48,7 @@ fn find_of_enrolments(
     kind: &str,
     given: &str,
     input: &str,
-    found: &mut String,
+    found: &mut Found,
 ) -> Result<(), Fault> {
     match kind {
         "point" => sampled::find_point(input, found),

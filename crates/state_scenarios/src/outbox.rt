@@ -6,7 +6,7 @@ mod slug_changes;
 mod stored;
 
 use change_outbox::Outbox;
-use row_tables::Fault;
+use row_tables::{Fault, Found};
 use std::alloc::Global;
 use stored::take_given;
 
@@ -16,7 +16,7 @@ pub(crate) fn find(
     kind: &str,
     given: &str,
     input: &str,
-    found: &mut String,
+    found: &mut Found,
 ) -> Result<(), Fault> {
     let mut outbox = Outbox::new(alloc);
     let outcome = find_over(alloc, &mut outbox, kind, given, input, found);
@@ -31,7 +31,7 @@ fn find_over(
     kind: &str,
     given: &str,
     input: &str,
-    found: &mut String,
+    found: &mut Found,
 ) -> Result<(), Fault> {
     take_given(alloc, outbox, given)?;
     match kind {

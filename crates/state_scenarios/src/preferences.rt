@@ -7,16 +7,11 @@ mod settings;
 mod steps;
 
 use pref_bindings::Prefs;
-use row_tables::Fault;
+use row_tables::{Fault, Found};
 use std::alloc::Global;
 
 /// What is found of a row.
-pub(crate) fn find(
-    alloc: Global,
-    kind: &str,
-    input: &str,
-    found: &mut String,
-) -> Result<(), Fault> {
+pub(crate) fn find(alloc: Global, kind: &str, input: &str, found: &mut Found) -> Result<(), Fault> {
     match kind {
         "read" => kept::find_reading(alloc, input, found),
         "bindings" => bound::find_bindings(alloc, input, found),
@@ -25,7 +20,7 @@ pub(crate) fn find(
     }
 }
 
-fn find_after(alloc: Global, kind: &str, input: &str, found: &mut String) -> Result<(), Fault> {
+fn find_after(alloc: Global, kind: &str, input: &str, found: &mut Found) -> Result<(), Fault> {
     let mut prefs = Prefs::new(alloc);
     let outcome = find_over(alloc, &mut prefs, kind, input, found);
     drop(prefs);
@@ -38,7 +33,7 @@ fn find_over(
     prefs: &mut Prefs,
     kind: &str,
     input: &str,
-    found: &mut String,
+    found: &mut Found,
 ) -> Result<(), Fault> {
     match kind {
         "steps" => steps::find_preferences(alloc, prefs, input, found),

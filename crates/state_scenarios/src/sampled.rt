@@ -1,20 +1,20 @@
 //! Rows on points, buckets and branches.
 ghost use Rattle.std.specs.Prelude.{◌<◌, ◌^◌, IfOk};
 
-use row_tables::{Fault, add_displayed, cut, number};
+use row_tables::{Fault, Found, cut, number};
 use sampling::{choose_branch, in_bucket, point};
 
 // The end of the points.
 const END: u64 = 1 << 48;
 
 /// A text's point. Row: the text.
-pub(crate) fn find_point(input: &str, found: &mut String) -> Result<(), Fault> {
-    Ok(add_displayed(found, &point(input.as_bytes()))?)
+pub(crate) fn find_point(input: &str, found: &mut Found) -> Result<(), Fault> {
+    Ok(found.displayed(&point(input.as_bytes())))
 }
 
 /// Whether a point is in a range of buckets. Row: the point, the first bucket, how many there are in the range and in
 /// all.
-pub(crate) fn find_bucket(input: &str, found: &mut String) -> Result<(), Fault> {
+pub(crate) fn find_bucket(input: &str, found: &mut Found) -> Result<(), Fault> {
     let (at, numbers) = cut(input);
     let point = point_at(at)?;
     let [start, count, total] = three_numbers(numbers)?;
@@ -22,11 +22,11 @@ pub(crate) fn find_bucket(input: &str, found: &mut String) -> Result<(), Fault> 
         return Err(Fault::NoRow);
     }
     let is_in = in_bucket(point, start, count, total);
-    Ok(add_displayed(found, &is_in)?)
+    Ok(found.displayed(&is_in))
 }
 
 /// The number of a point's branch. Row: the point, and two or three ratios.
-pub(crate) fn find_branch(input: &str, found: &mut String) -> Result<(), Fault> {
+pub(crate) fn find_branch(input: &str, found: &mut Found) -> Result<(), Fault> {
     let (at, ratios) = cut(input);
     let point = point_at(at)?;
     let ratios = three_numbers(ratios)?;
@@ -34,7 +34,7 @@ pub(crate) fn find_branch(input: &str, found: &mut String) -> Result<(), Fault> 
         return Err(Fault::NoRow);
     }
     let place = choose_branch(point, &ratios);
-    Ok(add_displayed(found, &place)?)
+    Ok(found.displayed(&place))
 }
 
 fn point_at(text: &str) -> Result<u64, Fault>

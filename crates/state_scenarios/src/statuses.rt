@@ -2,8 +2,8 @@
 //! where a status is read.
 use crate::inputs::slug;
 use enrol_states::{DisqualifiedReason, EnrolledReason, ErrorCause, NotEnrolledReason, Status};
-use row_tables::{Fault, add_debugged, add_displayed, add_texts, cut};
-use std::alloc::{AllocError, Global};
+use row_tables::{Fault, Found, cut};
+use std::alloc::Global;
 use std::fmt::Debug;
 
 /// The status of a text: a word, of a disqualification the reason, and the branch where it has one.
@@ -53,27 +53,27 @@ fn was_enrolled(alloc: Global, branch: &str) -> Result<Status, Fault> {
 }
 
 /// Adds a status, with why it is so.
-pub(crate) fn add_status(status: &Status, found: &mut String) -> Result<(), AllocError> {
+pub(crate) fn add_status(status: &Status, found: &mut Found) {
     match status {
         Status::Enrolled { reason, branch } => {
-            add_named(found, "Enrolled ", reason)?;
-            add_texts(found, &[" ", branch.text()])
+            add_named(found, "Enrolled ", reason);
+            found.texts(&[" ", branch.text()])
         }
         Status::NotEnrolled { reason } => add_named(found, "NotEnrolled ", reason),
         Status::Disqualified { reason, branch } => {
-            add_named(found, "Disqualified ", reason)?;
-            add_texts(found, &[" ", branch.text()])
+            add_named(found, "Disqualified ", reason);
+            found.texts(&[" ", branch.text()])
         }
         Status::WasEnrolled { branch, ended } => {
-            add_texts(found, &["WasEnrolled ", branch.text(), " "])?;
-            add_displayed(found, ended)
+            found.texts(&["WasEnrolled ", branch.text(), " "]);
+            found.displayed(ended)
         }
         Status::Error { cause } => add_named(found, "Error ", cause),
     }
 }
 
 // Adds a name, and why it is so.
-fn add_named<T: Debug>(found: &mut String, name: &str, reason: &T) -> Result<(), AllocError> {
-    found.push_str(name)?;
-    add_debugged(found, reason)
+fn add_named<T: Debug>(found: &mut Found, name: &str, reason: &T) {
+    found.text(name);
+    found.debugged(reason)
 }

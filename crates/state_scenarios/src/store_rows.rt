@@ -1,7 +1,7 @@
 //! Rows of a store and their changes in words. A row is `KEY=VALUE`, in which `\x` and two hexadecimal digits are one byte; or, for
 //! a long value, `KEY LENGTH` and those of its bytes that aren't 0, each with its place before it. A comma stands between two.
 use row_batches::{RowChange, StoreRow};
-use row_tables::{Fault, add_between, add_bytes, add_none, byte, count, cut};
+use row_tables::{Fault, Found, byte, count, cut};
 use sequences::Sequence;
 use std::alloc::{AllocError, Global};
 
@@ -121,13 +121,10 @@ fn digit(byte: u8) -> u8 {
 }
 
 /// Adds how many rows there are where they are the same as those before, and else the rows.
-pub(crate) fn add_rows_again(
-    rows: &[StoreRow],
-    before: &[StoreRow],
-    found: &mut String,
-) -> Result<(), AllocError> {
+pub(crate) fn add_rows_again(rows: &[StoreRow], before: &[StoreRow], found: &mut Found) {
     if are_same(rows, before) {
-        return write!(found, "{} kept", rows.len());
+        found.displayed(&rows.len());
+        return found.text(" kept");
     }
     add_rows(rows, found)
 }
@@ -139,58 +136,65 @@ fn are_same(first: &[StoreRow], second: &[StoreRow]) -> bool {
 }
 
 /// Adds the rows.
-pub(crate) fn add_rows(rows: &[StoreRow], found: &mut String) -> Result<(), AllocError> {
+pub(crate) fn add_rows(rows: &[StoreRow], found: &mut Found) {
     for row in rows {
-        add_between(found, ", ")?;
-        add_row(row, found)?;
+        found.between(", ");
+        add_row(row, found);
     }
-    Ok(())
 }
 
-fn add_row(row: &StoreRow, found: &mut String) -> Result<(), AllocError> {
+fn add_row(row: &StoreRow, found: &mut Found) {
     let value = row.value.as_slice();
-    add_bytes(found, row.key.as_slice())?;
+    found.bytes(row.key.as_slice());
     if value.len() > MAX_TOLD {
         return add_long(value, found);
     }
-    found.push_str("=")?;
-    add_bytes(found, value)
+    found.text("=");
+    found.bytes(value)
 }
 
-fn add_long(value: &[u8], found: &mut String) -> Result<(), AllocError> {
-    write!(found, " {}", value.len())?;
+fn add_long(value: &[u8], found: &mut Found) {
+    found.text(" ");
+    found.displayed(&value.len());
     for (place, byte) in value.iter().enumerate() {
         if *byte > 0 {
-            write!(found, " {place}:{byte}")?;
+            add_byte(place, *byte, found);
         }
     }
-    Ok(())
+}
+
+fn add_byte(place: usize, byte: u8, found: &mut Found) {
+    found.text(" ");
+    found.displayed(&place);
+    found.text(":");
+    found.displayed(&byte);
 }
 
 /// Adds the changes as `put` and the row, or `delete` and the key.
-pub(crate) fn add_changes(changes: &[RowChange], found: &mut String) -> Result<(), AllocError> {
+pub(crate) fn add_changes(changes: &[RowChange], found: &mut Found) {
     for change in changes {
-        add_between(found, ", ")?;
-        add_change(change, found)?;
+        found.between(", ");
+        add_change(change, found);
     }
-    Ok(())
 }
 
-fn add_change(change: &RowChange, found: &mut String) -> Result<(), AllocError> {
+fn add_change(change: &RowChange, found: &mut Found) {
     match change {
         RowChange::Put(row) => {
-            found.push_str("put ")?;
+            found.text("put ");
             add_row(row, found)
         }
         RowChange::Delete(key) => {
-            found.push_str("delete ")?;
-            add_bytes(found, key.as_slice())
+            found.text("delete ");
+            found.bytes(key.as_slice())
         }
     }
 }
 
 /// Adds `none` where there are no changes, and how many bytes the puts of the new rows have.
-pub(crate) fn add_size(size: u128, found: &mut String) -> Result<(), AllocError> {
-    add_none(found)?;
-    write!(found, "; {size} bytes")
+pub(crate) fn add_size(size: u128, found: &mut Found) {
+    found.none();
+    found.text("; ");
+    found.displayed(&size);
+    found.text(" bytes");
 }

@@ -5,7 +5,7 @@ use crate::records::{EVERY_BUCKET, ROLLOUT, recipe};
 use crate::statuses::{add_status, status};
 use enrol_states::{ErrorCause, Outcome, Status, Verdict, candidate, ended};
 use recipe_reader::Recipe;
-use row_tables::{Fault, cut, parts};
+use row_tables::{Fault, Found, cut, parts};
 use std::alloc::{AllocError, Global};
 
 /// What follows from a verdict on an experiment, or on a rollout where `rollout` is given. Row: the
@@ -14,7 +14,7 @@ pub(crate) fn find_outcome(
     alloc: Global,
     given: &str,
     input: &str,
-    found: &mut String,
+    found: &mut Found,
 ) -> Result<(), Fault> {
     let members = if given == "rollout" { ROLLOUT } else { "" };
     let recipe = recipe(alloc, alpha(EVERY_BUCKET, members))?;
@@ -27,7 +27,7 @@ fn find_outcome_of(
     alloc: Global,
     recipe: &Recipe,
     input: &str,
-    found: &mut String,
+    found: &mut Found,
 ) -> Result<(), Fault> {
     let (old, verdict) = parts(input)?;
     let verdict = verdict_of(alloc, verdict)?;
@@ -39,7 +39,7 @@ fn find_next(
     old: &str,
     verdict: &Verdict,
     recipe: &Recipe,
-    found: &mut String,
+    found: &mut Found,
 ) -> Result<(), Fault> {
     if old == "none" {
         return Ok(add_next(alloc, None, verdict, recipe, found)?);
@@ -54,37 +54,37 @@ fn add_next(
     old: Option<&Status>,
     verdict: &Verdict,
     recipe: &Recipe,
-    found: &mut String,
+    found: &mut Found,
 ) -> Result<(), AllocError> {
     match (old, verdict) {
-        (Some(Status::Enrolled { .. }), Verdict::EnrollmentsPaused) => found.push_str("never"),
-        _ => add_outcome(&candidate(alloc, old, verdict, recipe)?, found),
+        (Some(Status::Enrolled { .. }), Verdict::EnrollmentsPaused) => Ok(found.text("never")),
+        _ => Ok(add_outcome(&candidate(alloc, old, verdict, recipe)?, found)),
     }
 }
 
-fn add_outcome(outcome: &Outcome, found: &mut String) -> Result<(), AllocError> {
+fn add_outcome(outcome: &Outcome, found: &mut Found) {
     match outcome {
         Outcome::Keep(status) => add_status(status, found),
         Outcome::Wish { won, lost } => {
-            add_status(won, found)?;
-            found.push_str(", or ")?;
+            add_status(won, found);
+            found.text(", or ");
             add_status(lost, found)
         }
     }
 }
 
 /// What stays of a status without a live recipe. Row: a moment, and the status.
-pub(crate) fn find_end(alloc: Global, input: &str, found: &mut String) -> Result<(), Fault> {
+pub(crate) fn find_end(alloc: Global, input: &str, found: &mut Found) -> Result<(), Fault> {
     let (now, text) = cut(input);
     let now = number(now)?;
     let old = status(alloc, text)?;
     Ok(add_end(alloc, &old, now, found)?)
 }
 
-fn add_end(alloc: Global, old: &Status, now: u64, found: &mut String) -> Result<(), AllocError> {
+fn add_end(alloc: Global, old: &Status, now: u64, found: &mut Found) -> Result<(), AllocError> {
     match ended(alloc, old, now)? {
-        Some(status) => add_status(&status, found),
-        None => found.push_str("dropped"),
+        Some(status) => Ok(add_status(&status, found)),
+        None => Ok(found.text("dropped")),
     }
 }
 

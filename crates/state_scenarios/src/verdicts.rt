@@ -19,9 +19,9 @@ use jexl_transforms::{
 };
 use jexl_value::{Attributes, Value};
 use recipe_reader::Recipe;
-use row_tables::{Fault, add_debugged, parts};
+use row_tables::{Fault, Found, parts};
 use sequences::Sequence;
-use std::alloc::{AllocError, Global};
+use std::alloc::Global;
 
 // An application with a unit beside the client's id.
 const CONTEXT: &str =
@@ -35,7 +35,7 @@ pub(crate) fn find_verdict(
     state: &mut State,
     given: &str,
     input: &str,
-    found: &mut String,
+    found: &mut Found,
 ) -> Result<(), Fault>
     requires { IsConsistent state.old }
 {
@@ -117,7 +117,7 @@ fn find_verdict_in(
     state: &mut State,
     given: &str,
     input: &str,
-    found: &mut String,
+    found: &mut Found,
 ) -> Result<(), Fault>
     requires table { HasStandardNames table.now }
     requires consistent { IsConsistent state.old }
@@ -133,7 +133,7 @@ fn find_verdict_after(
     state: &mut State,
     given: &str,
     input: &str,
-    found: &mut String,
+    found: &mut Found,
 ) -> Result<(), Fault>
     requires table { HasStandardNames table.now }
     requires consistent { IsConsistent state.old }
@@ -201,25 +201,25 @@ fn add_verdict_on(
     context: &Context,
     state: &State,
     recipe: &Recipe,
-    found: &mut String,
+    found: &mut Found,
 ) -> Result<(), Fault>
     requires table { HasStandardNames table.now }
     requires consistent { IsConsistent state.now }
     requires valid { IsValid recipe.now }
 {
     let verdict = verdict(alloc, recipe, state, context, table, NOW)?;
-    Ok(add_verdict(&verdict, found)?)
+    Ok(add_verdict(&verdict, found))
 }
 
-fn add_verdict(verdict: &Verdict, found: &mut String) -> Result<(), AllocError> {
+fn add_verdict(verdict: &Verdict, found: &mut Found) {
     match verdict {
-        Verdict::DifferentAppName => found.push_str("DifferentAppName"),
-        Verdict::DifferentChannel => found.push_str("DifferentChannel"),
-        Verdict::OptOut => found.push_str("OptOut"),
-        Verdict::EnrollmentsPaused => found.push_str("EnrollmentsPaused"),
-        Verdict::NotTargeted => found.push_str("NotTargeted"),
-        Verdict::NotSelected => found.push_str("NotSelected"),
-        Verdict::Failed(cause) => add_debugged(found, cause),
-        Verdict::Qualified(branch) => found.push_str(branch.text()),
+        Verdict::DifferentAppName => found.text("DifferentAppName"),
+        Verdict::DifferentChannel => found.text("DifferentChannel"),
+        Verdict::OptOut => found.text("OptOut"),
+        Verdict::EnrollmentsPaused => found.text("EnrollmentsPaused"),
+        Verdict::NotTargeted => found.text("NotTargeted"),
+        Verdict::NotSelected => found.text("NotSelected"),
+        Verdict::Failed(cause) => found.debugged(cause),
+        Verdict::Qualified(branch) => found.text(branch.text()),
     }
 }

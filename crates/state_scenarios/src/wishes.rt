@@ -4,7 +4,7 @@ ghost use Rattle.enrol_conflicts.specs.Settlement.{HaveOwnSlugs};
 use crate::inputs::slug;
 use enrol_conflicts::{Candidate, settle, slugs_rise};
 use recipe_reader::Kind;
-use row_tables::{Fault, add_texts, cut};
+use row_tables::{Fault, Found, cut};
 use sequences::{Sequence, Text};
 use std::alloc::{AllocError, Global};
 
@@ -15,7 +15,7 @@ pub(crate) fn find_granted(
     alloc: Global,
     coenrolling: &str,
     input: &str,
-    found: &mut String,
+    found: &mut Found,
 ) -> Result<(), Fault> {
     let mut wishes = Vec::new(alloc);
     add_wishes(alloc, input, &mut wishes)?;
@@ -26,7 +26,7 @@ fn find_granted_of(
     alloc: Global,
     wishes: &[Candidate],
     coenrolling: &str,
-    found: &mut String,
+    found: &mut Found,
 ) -> Result<(), Fault> {
     if !slugs_rise(wishes) {
         return Err(Fault::NoRow);
@@ -39,22 +39,22 @@ fn add_granted(
     alloc: Global,
     wishes: &[Candidate],
     coenrolling: &[Text],
-    found: &mut String,
+    found: &mut Found,
 ) -> Result<(), AllocError>
     requires { HaveOwnSlugs wishes.now }
 {
     let granted = settle(alloc, wishes, coenrolling)?;
-    add_slugs(wishes, granted.as_slice(), found)
+    add_slugs(wishes, granted.as_slice(), found);
+    Ok(())
 }
 
 // Adds the slugs of the wishes that are granted, each with a comma before it.
-fn add_slugs(wishes: &[Candidate], granted: &[bool], found: &mut String) -> Result<(), AllocError> {
+fn add_slugs(wishes: &[Candidate], granted: &[bool], found: &mut Found) {
     for (wish, is_granted) in wishes.iter().zip(granted) {
         if *is_granted {
-            add_texts(found, &[", ", wish.slug.text()])?;
+            found.texts(&[", ", wish.slug.text()]);
         }
     }
-    Ok(())
 }
 
 fn add_wishes(alloc: Global, input: &str, wishes: &mut Vec<Candidate>) -> Result<(), Fault> {

@@ -1,7 +1,7 @@
 //! Rows on contexts of JSON texts.
 use crate::trees::tree;
 use app_context::{Context, ContextFault, ContextKey, NamedTexts, read_context};
-use row_tables::{Fault, add_displayed, add_texts, cut, parts};
+use row_tables::{Fault, Found, cut, parts};
 use sequences::Text;
 use std::alloc::{AllocError, Global};
 
@@ -11,7 +11,7 @@ pub(crate) fn find(
     kind: &str,
     given: &str,
     input: &str,
-    found: &mut String,
+    found: &mut Found,
 ) -> Result<(), Fault> {
     match kind {
         "refused" => find_refused_key(alloc, input, found),
@@ -27,30 +27,32 @@ fn context(alloc: Global, text: &str) -> Result<Context, Fault> {
 }
 
 // The first key that keeps a tree from being a context, or `none`. Row: a JSON text.
-fn find_refused_key(alloc: Global, input: &str, found: &mut String) -> Result<(), Fault> {
+fn find_refused_key(alloc: Global, input: &str, found: &mut Found) -> Result<(), Fault> {
     let tree = tree(alloc, input)?;
     match read_context(alloc, &tree).err() {
-        None => Ok(found.push_str("none")?),
-        Some(ContextFault::BadContext(key)) => Ok(found.push_str(key.name())?),
+        None => Ok(found.text("none")),
+        Some(ContextFault::BadContext(key)) => Ok(found.text(key.name())),
         Some(ContextFault::OutOfMemory) => Err(Fault::OutOfMemory),
     }
 }
 
 // The text that a context's copy has under a key, or the unit of this name, in quotes, or `none`; and the numbers of its
 // texts, units and custom attributes at `texts`, `units` and `custom`. Row: the key.
-fn find_text(alloc: Global, given: &str, input: &str, found: &mut String) -> Result<(), Fault> {
+fn find_text(alloc: Global, given: &str, input: &str, found: &mut Found) -> Result<(), Fault> {
     let context = context(alloc, given)?;
-    Ok(add_text_of_copy(&context, input, found)?)
+    Ok(add_text_of_copy(&context, input, found))
 }
 
-fn add_text_of_copy(context: &Context, key: &str, found: &mut String) -> Result<(), AllocError> {
-    let copy = context.clone()?;
+fn add_text_of_copy(context: &Context, key: &str, found: &mut Found) {
+    let Ok(copy) = context.clone() else {
+        return found.lack_memory();
+    };
     add_text_at(&copy, key, found)
 }
 
-fn add_text_at(context: &Context, key: &str, found: &mut String) -> Result<(), AllocError> {
+fn add_text_at(context: &Context, key: &str, found: &mut Found) {
     match count_of(context, key) {
-        Some(count) => add_displayed(found, &count),
+        Some(count) => found.displayed(&count),
         None => add_quoted(text_at(context, key), found),
     }
 }
@@ -80,20 +82,20 @@ fn text_at<'a>(context: &'a Context, key: &str) -> Option<&'a Text> {
 }
 
 // Adds a text in quotes, or `none`.
-fn add_quoted(text: Option<&Text>, found: &mut String) -> Result<(), AllocError> {
+fn add_quoted(text: Option<&Text>, found: &mut Found) {
     match text {
-        Some(text) => add_texts(found, &["'", text.as_str(), "'"]),
-        None => found.push_str("none"),
+        Some(text) => found.texts(&["'", text.as_str(), "'"]),
+        None => found.text("none"),
     }
 }
 
 // The text of a name in a copy of one name and its text, in quotes, or `none`. Row: the name and the text, and the name
 // that is looked for.
-fn find_named(alloc: Global, input: &str, found: &mut String) -> Result<(), Fault> {
+fn find_named(alloc: Global, input: &str, found: &mut Found) -> Result<(), Fault> {
     let (pair, wanted) = parts(input)?;
     let (name, text) = cut(pair);
     let copy = copy_of_one(alloc, name, text)?;
-    Ok(add_quoted(copy.get(wanted), found)?)
+    Ok(add_quoted(copy.get(wanted), found))
 }
 
 fn copy_of_one(alloc: Global, name: &str, text: &str) -> Result<NamedTexts, AllocError> {

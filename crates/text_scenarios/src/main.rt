@@ -18,61 +18,73 @@ mod trees;
 mod values;
 mod versions;
 
-use row_tables::{Fault, Kinds, Question, report_on};
+use row_tables::{Fault, Found, Kinds, Question, report_on};
 use std::alloc::Global;
 use std::io;
 
 struct TextKinds;
 
 impl Kinds for TextKinds {
-    fn find(&self, alloc: Global, row: Question<'_>, found: &mut String) -> Result<(), Fault> {
+    fn find(&self, alloc: Global, row: Question<'_>, found: &mut Found) -> Result<(), Fault> {
         let (part, kind) = row.kind.split_once('/').ok_or(Fault::NoRow)?;
-        match part {
-            "plain" => find_of_plain(alloc, kind, row, found),
-            "json" => find_of_json(alloc, kind, row, found),
-            "versions" => versions::find(alloc, kind, row.text()?, found),
-            "recipes" => find_of_recipes(alloc, kind, row.given, row.text()?, found),
-            "jexl" => find_of_jexl(alloc, kind, row.given, row.text()?, found),
-            "values" => values::find(alloc, kind, row.text()?, found),
-            "contexts" => contexts::find(alloc, kind, row.given, row.text()?, found),
-            _ => Err(Fault::NoRow),
+        if part == "bytes" {
+            return find_of_bytes(alloc, kind, row.input, found);
         }
+        let input = row.text()?;
+        find_of_text(alloc, part, kind, row.given, input, found)
     }
 }
 
-fn find_of_plain(
-    alloc: Global,
-    kind: &str,
-    row: Question<'_>,
-    found: &mut String,
-) -> Result<(), Fault> {
+fn find_of_bytes(alloc: Global, kind: &str, input: &[u8], found: &mut Found) -> Result<(), Fault> {
     match kind {
-        "lines" => plain::find_lines(alloc, row.input, found),
-        "words" => plain::find_words(alloc, row.input, found),
-        "slug" => plain::find_slug(alloc, row.input, found),
-        "slugs" => plain::find_order(alloc, row.text()?, found),
-        "name" => plain::find_name(row.input, found),
-        "number" => plain::find_number(row.input, found),
-        "moment" => plain::find_moment(row.input, found),
+        "lines" => plain::find_lines(alloc, input, found),
+        "words" => plain::find_words(alloc, input, found),
+        "slug" => plain::find_slug(alloc, input, found),
+        "name" => plain::find_name(input, found),
+        "number" => plain::find_number(input, found),
+        "moment" => plain::find_moment(input, found),
+        "json" => trees::find_rewritten(alloc, input, found),
+        "readable" => trees::find_fault(alloc, input, found),
         _ => Err(Fault::NoRow),
     }
 }
 
-fn find_of_json(
+fn find_of_text(
     alloc: Global,
+    part: &str,
     kind: &str,
-    row: Question<'_>,
-    found: &mut String,
+    given: &str,
+    input: &str,
+    found: &mut Found,
 ) -> Result<(), Fault> {
+    match part {
+        "order" => find_of_order(alloc, kind, input, found),
+        "json" => find_of_json(alloc, kind, input, found),
+        "recipes" => find_of_recipes(alloc, kind, given, input, found),
+        "jexl" => find_of_jexl(alloc, kind, given, input, found),
+        "values" => values::find(alloc, kind, input, found),
+        "contexts" => contexts::find(alloc, kind, given, input, found),
+        _ => Err(Fault::NoRow),
+    }
+}
+
+fn find_of_order(alloc: Global, kind: &str, input: &str, found: &mut Found) -> Result<(), Fault> {
     match kind {
-        "rewritten" => trees::find_rewritten(alloc, row.input, found),
-        "readable" => trees::find_fault(alloc, row.input, found),
-        "member" => trees::find_member(alloc, row.text()?, found),
-        "same" => trees::find_same(alloc, row.text()?, found),
-        "length" => lengths::find_length(alloc, row.text()?, found),
-        "text-length" => lengths::find_text_length(row.text()?, found),
-        "whole-length" => lengths::find_whole_length(row.text()?, found),
-        "within" => lengths::find_length_within(alloc, row.text()?, found),
+        "slugs" => plain::find_order(alloc, input, found),
+        "versions" => versions::find_order(input, found),
+        "chain" => versions::find_chain(alloc, input, found),
+        _ => Err(Fault::NoRow),
+    }
+}
+
+fn find_of_json(alloc: Global, kind: &str, input: &str, found: &mut Found) -> Result<(), Fault> {
+    match kind {
+        "member" => trees::find_member(alloc, input, found),
+        "same" => trees::find_same(alloc, input, found),
+        "length" => lengths::find_length(alloc, input, found),
+        "text-length" => lengths::find_text_length(input, found),
+        "whole-length" => lengths::find_whole_length(input, found),
+        "within" => lengths::find_length_within(alloc, input, found),
         _ => Err(Fault::NoRow),
     }
 }
@@ -82,7 +94,7 @@ fn find_of_recipes(
     kind: &str,
     given: &str,
     input: &str,
-    found: &mut String,
+    found: &mut Found,
 ) -> Result<(), Fault> {
     match kind {
         "record" => records::find_record(alloc, input, found),
@@ -102,7 +114,7 @@ fn find_of_jexl(
     kind: &str,
     given: &str,
     input: &str,
-    found: &mut String,
+    found: &mut Found,
 ) -> Result<(), Fault> {
     match kind {
         "tokens" => tokens::find_tokens(alloc, input, found),

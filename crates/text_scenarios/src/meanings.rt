@@ -13,8 +13,8 @@ use jexl_transforms::{
     event_nonzero_transform, event_seen_transform, event_sum_transform, version_transform,
 };
 use jexl_value::{Attributes, NamedValues, Value};
-use row_tables::{Fault, add_debugged, add_displayed};
-use std::alloc::{AllocError, Global};
+use row_tables::{Fault, Found};
+use std::alloc::Global;
 
 /// Puts a transform at the end of a table.
 pub(crate) fn put(
@@ -39,7 +39,7 @@ pub(crate) fn find_with_standard(
     kind: &str,
     given: &str,
     input: &str,
-    found: &mut String,
+    found: &mut Found,
 ) -> Result<(), Fault> {
     let (Ok(version), Ok(date), Ok(bucket), Ok(sum), Ok(nonzero), Ok(seen)) = (
         Box::new(
@@ -104,7 +104,7 @@ pub(crate) fn find_with_wanting(
     kind: &str,
     given: &str,
     input: &str,
-    found: &mut String,
+    found: &mut Found,
 ) -> Result<(), Fault> {
     let (Ok(version), Ok(date), Ok(bucket)) = (
         Box::new(alloc, |_: &Attributes, _: &Value, _: &[Value]| {
@@ -136,7 +136,7 @@ fn find_by(
     kind: &str,
     given: &str,
     input: &str,
-    found: &mut String,
+    found: &mut Found,
 ) -> Result<(), Fault> {
     match kind {
         "value" | "truth" | "wanting-value" => {
@@ -154,7 +154,7 @@ fn find_meaning(
     kind: &str,
     given: &str,
     input: &str,
-    found: &mut String,
+    found: &mut Found,
 ) -> Result<(), Fault> {
     let attributes = attributes(alloc, given)?;
     find_meaning_over(alloc, table, &attributes, kind, input, found)
@@ -166,12 +166,12 @@ fn find_meaning_over(
     attributes: &Attributes,
     kind: &str,
     input: &str,
-    found: &mut String,
+    found: &mut Found,
 ) -> Result<(), Fault> {
     let expression = expression(alloc, input)?;
     match kind {
-        "truth" => Ok(add_truth(alloc, &expression, attributes, table, found)?),
-        _ => Ok(add_meaning(alloc, &expression, attributes, table, found)?),
+        "truth" => Ok(add_truth(alloc, &expression, attributes, table, found)),
+        _ => Ok(add_meaning(alloc, &expression, attributes, table, found)),
     }
 }
 
@@ -180,11 +180,11 @@ fn add_meaning(
     expression: &Expr,
     attributes: &Attributes,
     table: &TransformTable,
-    found: &mut String,
-) -> Result<(), AllocError> {
+    found: &mut Found,
+) {
     match eval(alloc, expression, attributes, table) {
         Ok(value) => add_value(alloc, &value, found),
-        Err(fault) => add_debugged(found, &fault),
+        Err(fault) => found.debugged(&fault),
     }
 }
 
@@ -193,12 +193,12 @@ fn add_truth(
     expression: &Expr,
     attributes: &Attributes,
     table: &TransformTable,
-    found: &mut String,
-) -> Result<(), AllocError> {
+    found: &mut Found,
+) {
     match eval_truth(alloc, expression, attributes, table) {
-        Ok(Some(truth)) => add_displayed(found, &truth),
-        Ok(None) => found.push_str("none"),
-        Err(fault) => add_debugged(found, &fault),
+        Ok(Some(truth)) => found.displayed(&truth),
+        Ok(None) => found.text("none"),
+        Err(fault) => found.debugged(&fault),
     }
 }
 

@@ -2,7 +2,7 @@
 use crate::records::{add_record_named, recipe};
 use crate::trees::tree;
 use recipe_reader::{Payload, Recipe, Recipes, read_payload};
-use row_tables::{Fault, add_all_displayed, add_debugged, add_displayed, parts};
+use row_tables::{Fault, Found, parts};
 use std::alloc::{AllocError, Global};
 
 fn payload(alloc: Global, text: &str) -> Result<Payload, Fault> {
@@ -14,34 +14,33 @@ fn payload(alloc: Global, text: &str) -> Result<Payload, Fault> {
 }
 
 /// The slugs of a payload's recipes, and the records that are skipped. Row: the payload.
-pub(crate) fn find_payload(alloc: Global, input: &str, found: &mut String) -> Result<(), Fault> {
+pub(crate) fn find_payload(alloc: Global, input: &str, found: &mut Found) -> Result<(), Fault> {
     let payload = payload(alloc, input)?;
-    let outcome = add_payload(&payload, found);
+    add_payload(&payload, found);
     drop(payload);
-    Ok(outcome?)
-}
-
-fn add_payload(payload: &Payload, found: &mut String) -> Result<(), AllocError> {
-    add_slugs(payload.recipes.as_slice(), found)?;
-    found.push_str("; ")?;
-    add_debugged(found, &payload.skipped.as_slice())
-}
-
-// Adds the slugs of recipes, each with a space behind the one before it.
-fn add_slugs(recipes: &[Recipe], found: &mut String) -> Result<(), AllocError> {
-    for (place, recipe) in recipes.iter().enumerate() {
-        found.push_str(if place > 0 { " " } else { "" })?;
-        found.push_str(recipe.slug.text())?;
-    }
     Ok(())
 }
 
+fn add_payload(payload: &Payload, found: &mut Found) {
+    add_slugs(payload.recipes.as_slice(), found);
+    found.text("; ");
+    found.debugged(&payload.skipped.as_slice());
+}
+
+// Adds the slugs of recipes, each with a space behind the one before it.
+fn add_slugs(recipes: &[Recipe], found: &mut Found) {
+    for (place, recipe) in recipes.iter().enumerate() {
+        found.text(if place > 0 { " " } else { "" });
+        found.text(recipe.slug.text());
+    }
+}
+
 /// The fault of a payload, or `none`. Row: the payload.
-pub(crate) fn find_fault(alloc: Global, input: &str, found: &mut String) -> Result<(), Fault> {
+pub(crate) fn find_fault(alloc: Global, input: &str, found: &mut Found) -> Result<(), Fault> {
     let tree = tree(alloc, input)?;
     match read_payload(alloc, &tree).err() {
-        Some(fault) => Ok(add_debugged(found, &fault)?),
-        None => Ok(found.push_str("none")?),
+        Some(fault) => Ok(found.debugged(&fault)),
+        None => Ok(found.text("none")),
     }
 }
 
@@ -68,7 +67,7 @@ fn recipes_of(alloc: Global, text: &str) -> Result<Recipes, Fault> {
 
 /// Whether a recipe is put into a copy of recipes, the slugs of the copy, those of the recipes, and whether each then has
 /// it. Row: the slugs of a payload's records, and the recipe's with ` | ` before it.
-pub(crate) fn find_inserted(alloc: Global, input: &str, found: &mut String) -> Result<(), Fault> {
+pub(crate) fn find_inserted(alloc: Global, input: &str, found: &mut Found) -> Result<(), Fault> {
     let (slugs, slug) = parts(input)?;
     let recipes = recipes_named(alloc, slugs)?;
     let outcome = find_inserted_into(alloc, &recipes, slug, found);
@@ -80,7 +79,7 @@ fn find_inserted_into(
     alloc: Global,
     recipes: &Recipes,
     slug: &str,
-    found: &mut String,
+    found: &mut Found,
 ) -> Result<(), Fault> {
     let mut copy = recipes.clone()?;
     let outcome = insert_into(alloc, recipes, &mut copy, slug, found);
@@ -93,15 +92,15 @@ fn insert_into(
     recipes: &Recipes,
     copy: &mut Recipes,
     slug: &str,
-    found: &mut String,
+    found: &mut Found,
 ) -> Result<(), Fault> {
     if *copy != *recipes || recipes.as_slice().is_empty() {
-        return Ok(found.push_str("a copy differs")?);
+        return Ok(found.text("a copy differs"));
     }
     let is_new = copy.insert(recipe_named(alloc, slug)?)?;
-    add_displayed(found, &is_new)?;
-    found.push_str("; ")?;
-    Ok(add_both(copy, recipes, slug, found)?)
+    found.displayed(&is_new);
+    found.text("; ");
+    Ok(add_both(copy, recipes, slug, found))
 }
 
 fn recipe_named(alloc: Global, slug: &str) -> Result<Recipe, Fault> {
@@ -111,38 +110,34 @@ fn recipe_named(alloc: Global, slug: &str) -> Result<Recipe, Fault> {
 }
 
 // Adds the slugs of both, and whether each has the slug.
-fn add_both(
-    first: &Recipes,
-    second: &Recipes,
-    slug: &str,
-    found: &mut String,
-) -> Result<(), AllocError> {
-    add_slugs(first.as_slice(), found)?;
-    found.push_str("; ")?;
-    add_slugs(second.as_slice(), found)?;
+fn add_both(first: &Recipes, second: &Recipes, slug: &str, found: &mut Found) {
+    add_slugs(first.as_slice(), found);
+    found.text("; ");
+    add_slugs(second.as_slice(), found);
     let (is_in, was_in) = (first.get(slug).is_some(), second.get(slug).is_some());
-    found.push_str("; ")?;
-    add_all_displayed(found, &[is_in, was_in])
+    found.text("; ");
+    found.all_displayed(&[is_in, was_in]);
 }
 
 /// The slug of the last of a payload's recipes, which is put at the end of none. Row: the slugs of its records.
-pub(crate) fn find_last(alloc: Global, input: &str, found: &mut String) -> Result<(), Fault> {
+pub(crate) fn find_last(alloc: Global, input: &str, found: &mut Found) -> Result<(), Fault> {
     let recipes = recipes_named(alloc, input)?;
     let outcome = find_last_of(alloc, recipes.as_slice(), found);
     drop(recipes);
     outcome
 }
 
-fn find_last_of(alloc: Global, recipes: &[Recipe], found: &mut String) -> Result<(), Fault> {
+fn find_last_of(alloc: Global, recipes: &[Recipe], found: &mut Found) -> Result<(), Fault> {
     match recipes.last() {
         Some(last) => Ok(add_alone(alloc, last, found)?),
         None => Err(Fault::NoRow),
     }
 }
 
-fn add_alone(alloc: Global, recipe: &Recipe, found: &mut String) -> Result<(), AllocError> {
+fn add_alone(alloc: Global, recipe: &Recipe, found: &mut Found) -> Result<(), AllocError> {
     let copy = recipe.clone()?;
     let mut others = Recipes::new(alloc);
     others.push(copy)?;
-    add_slugs(others.as_slice(), found)
+    add_slugs(others.as_slice(), found);
+    Ok(())
 }

@@ -7,7 +7,7 @@ use json_tree::Tree;
 use recipe_reader::{
     Recipe, RecordFault, read_record, record_length, record_of, reread, write_record,
 };
-use row_tables::{Fault, add_all_displayed, add_debugged, add_displayed, add_texts, parts};
+use row_tables::{Fault, Found, add_texts, parts};
 use std::alloc::{AllocError, Global};
 
 /// The recipe of a record.
@@ -18,12 +18,12 @@ pub(crate) fn recipe(alloc: Global, record: &str) -> Result<Recipe, Fault> {
 
 /// The text of a record's recipe, which is written and read again as the same, or the reason to skip it. Row: the
 /// record.
-pub(crate) fn find_record(alloc: Global, input: &str, found: &mut String) -> Result<(), Fault> {
+pub(crate) fn find_record(alloc: Global, input: &str, found: &mut Found) -> Result<(), Fault> {
     let tree = tree(alloc, input)?;
     find_recipe_of(alloc, &tree, found)
 }
 
-fn find_recipe_of(alloc: Global, tree: &Tree, found: &mut String) -> Result<(), Fault> {
+fn find_recipe_of(alloc: Global, tree: &Tree, found: &mut Found) -> Result<(), Fault> {
     match read_record(alloc, tree) {
         Ok(recipe) => find_written(alloc, &recipe, found),
         Err(fault) => add_reason(&fault, found),
@@ -31,33 +31,35 @@ fn find_recipe_of(alloc: Global, tree: &Tree, found: &mut String) -> Result<(), 
 }
 
 // Adds the reason to skip a record.
-fn add_reason(fault: &RecordFault, found: &mut String) -> Result<(), Fault> {
+fn add_reason(fault: &RecordFault, found: &mut Found) -> Result<(), Fault> {
     match fault {
-        RecordFault::Skip(reason) => Ok(add_debugged(found, reason)?),
+        RecordFault::Skip(reason) => Ok(found.debugged(reason)),
         RecordFault::OutOfMemory => Err(Fault::OutOfMemory),
     }
 }
 
 // Adds the text of a recipe's tree, unless it is written or read again otherwise.
-fn find_written(alloc: Global, recipe: &Recipe, found: &mut String) -> Result<(), Fault>
+fn find_written(alloc: Global, recipe: &Recipe, found: &mut Found) -> Result<(), Fault>
     requires { IsValid recipe.now }
 {
-    add_record_of(alloc, recipe, found)?;
-    if found.len() as u128 != record_length(recipe) {
-        return Ok(found.push_str(", another length")?);
+    add_record_of(alloc, recipe, found);
+    if found.as_str().len() as u128 != record_length(recipe) {
+        return Ok(found.text(", another length"));
     }
     if !is_streamed_as(alloc, recipe, found.as_str())? {
-        return Ok(found.push_str(", another text")?);
+        return Ok(found.text(", another text"));
     }
     if !is_reread(alloc, recipe)? {
-        return Ok(found.push_str(", another recipe")?);
+        return Ok(found.text(", another recipe"));
     }
     Ok(())
 }
 
 // Adds the text of a recipe's tree.
-fn add_record_of(alloc: Global, recipe: &Recipe, found: &mut String) -> Result<(), AllocError> {
-    let tree = record_of(alloc, recipe)?;
+fn add_record_of(alloc: Global, recipe: &Recipe, found: &mut Found) {
+    let Ok(tree) = record_of(alloc, recipe) else {
+        return found.lack_memory();
+    };
     add_tree(alloc, &tree, found)
 }
 
@@ -153,42 +155,42 @@ pub(crate) fn find_reason_with(
     alloc: Global,
     given: &str,
     input: &str,
-    found: &mut String,
+    found: &mut Found,
 ) -> Result<(), Fault> {
     let record = record_with(alloc, given, input)?;
     find_reason_of(alloc, record.as_str(), found)
 }
 
-fn find_reason_of(alloc: Global, record: &str, found: &mut String) -> Result<(), Fault> {
+fn find_reason_of(alloc: Global, record: &str, found: &mut Found) -> Result<(), Fault> {
     let tree = tree(alloc, record)?;
     match read_record(alloc, &tree).err() {
         Some(fault) => add_reason(&fault, found),
-        None => Ok(found.push_str("recipe")?),
+        None => Ok(found.text("recipe")),
     }
 }
 
 /// Whether a recipe with members has an application, a channel, a targeting and a moment of publishing. Row: the
 /// members.
-pub(crate) fn find_texts_with(alloc: Global, input: &str, found: &mut String) -> Result<(), Fault> {
+pub(crate) fn find_texts_with(alloc: Global, input: &str, found: &mut Found) -> Result<(), Fault> {
     let record = record_with(alloc, "record", input)?;
     find_presence_in(alloc, record.as_str(), found)
 }
 
-fn find_presence_in(alloc: Global, record: &str, found: &mut String) -> Result<(), Fault> {
+fn find_presence_in(alloc: Global, record: &str, found: &mut Found) -> Result<(), Fault> {
     let recipe = recipe(alloc, record)?;
-    let outcome = add_presence(&recipe, found);
+    add_presence(&recipe, found);
     drop(recipe);
-    Ok(outcome?)
+    Ok(())
 }
 
-fn add_presence(recipe: &Recipe, found: &mut String) -> Result<(), AllocError> {
+fn add_presence(recipe: &Recipe, found: &mut Found) {
     let (name, channel) = (recipe.app_name.is_some(), recipe.channel.is_some());
     let (targeting, published) = (recipe.targeting.is_some(), recipe.published.is_some());
-    add_all_displayed(found, &[name, channel, targeting, published])
+    found.all_displayed(&[name, channel, targeting, published]);
 }
 
 /// Whether the recipes of two records are equal. Row: the records with ` | ` between them.
-pub(crate) fn find_equal(alloc: Global, input: &str, found: &mut String) -> Result<(), Fault> {
+pub(crate) fn find_equal(alloc: Global, input: &str, found: &mut Found) -> Result<(), Fault> {
     let (first, second) = parts(input)?;
     let first = recipe(alloc, first)?;
     let outcome = find_equal_to(alloc, &first, second, found);
@@ -200,10 +202,10 @@ fn find_equal_to(
     alloc: Global,
     first: &Recipe,
     second: &str,
-    found: &mut String,
+    found: &mut Found,
 ) -> Result<(), Fault> {
     let second = recipe(alloc, second)?;
     let are_equal = *first == second;
     drop(second);
-    Ok(add_displayed(found, &are_equal)?)
+    Ok(found.displayed(&are_equal))
 }

@@ -6,8 +6,8 @@ use jexl_transforms::{
     version_transform,
 };
 use jexl_value::{Attributes, NamedValues, Value};
-use row_tables::{Fault, add_debugged, add_displayed, parts};
-use std::alloc::{AllocError, Global};
+use row_tables::{Fault, Found, parts};
+use std::alloc::Global;
 
 // A subject and its arguments.
 #[derive(Drop)]
@@ -40,15 +40,11 @@ fn no_attributes(alloc: Global) -> Attributes {
 }
 
 // Adds the value of an answer as a JSON text, or why there is none.
-fn add_answer(
-    alloc: Global,
-    answer: &TransformAnswer,
-    found: &mut String,
-) -> Result<(), AllocError> {
+fn add_answer(alloc: Global, answer: &TransformAnswer, found: &mut Found) {
     match answer {
         TransformAnswer::Gives(value) => add_value(alloc, value, found),
-        TransformAnswer::Refused => found.push_str("refused"),
-        TransformAnswer::OutOfMemory => found.push_str("out of memory"),
+        TransformAnswer::Refused => found.text("refused"),
+        TransformAnswer::OutOfMemory => found.text("out of memory"),
     }
 }
 
@@ -58,10 +54,10 @@ pub(crate) fn find_answer(
     alloc: Global,
     kind: &str,
     input: &str,
-    found: &mut String,
+    found: &mut Found,
 ) -> Result<(), Fault> {
     let call = call_of(alloc, input)?;
-    Ok(add_answer(alloc, &answer_to(alloc, kind, &call), found)?)
+    Ok(add_answer(alloc, &answer_to(alloc, kind, &call), found))
 }
 
 fn answer_to(alloc: Global, kind: &str, call: &Call) -> TransformAnswer {
@@ -79,7 +75,7 @@ pub(crate) fn find_called(
     alloc: Global,
     table: &TransformTable,
     input: &str,
-    found: &mut String,
+    found: &mut Found,
 ) -> Result<(), Fault> {
     let (name, rest) = parts(input)?;
     find_called_by(alloc, table, name, rest, found)
@@ -90,23 +86,17 @@ fn find_called_by(
     table: &TransformTable,
     name: &str,
     input: &str,
-    found: &mut String,
+    found: &mut Found,
 ) -> Result<(), Fault> {
     let call = call_of(alloc, input)?;
-    Ok(add_called(alloc, table, name, &call, found)?)
+    Ok(add_called(alloc, table, name, &call, found))
 }
 
-fn add_called(
-    alloc: Global,
-    table: &TransformTable,
-    name: &str,
-    call: &Call,
-    found: &mut String,
-) -> Result<(), AllocError> {
+fn add_called(alloc: Global, table: &TransformTable, name: &str, call: &Call, found: &mut Found) {
     let attributes = no_attributes(alloc);
     match table.call(name, &attributes, &call.subject, &call.arguments) {
         Ok(value) => add_value(alloc, &value, found),
-        Err(fault) => add_debugged(found, &fault),
+        Err(fault) => found.debugged(&fault),
     }
 }
 
@@ -115,7 +105,7 @@ fn add_called(
 pub(crate) fn find_pushed_again(
     alloc: Global,
     input: &str,
-    found: &mut String,
+    found: &mut Found,
 ) -> Result<(), Fault> {
     let (Ok(wanting), Ok(again)) = (
         Box::new(alloc, |_: &Attributes, _: &Value, _: &[Value]| {
@@ -145,14 +135,14 @@ fn find_both(
     table: &TransformTable,
     given_back: &Transform,
     input: &str,
-    found: &mut String,
+    found: &mut Found,
 ) -> Result<(), Fault>
     requires { Transform.IsAlwaysCallable given_back.now }
 {
-    add_displayed(found, &table.names())?;
-    found.push_str(" ")?;
+    found.displayed(&table.names());
+    found.text(" ");
     find_called_by(alloc, table, "date", input, found)?;
-    found.push_str(" ")?;
+    found.text(" ");
     find_answer_of(alloc, given_back, input, found)
 }
 
@@ -160,11 +150,11 @@ fn find_answer_of(
     alloc: Global,
     transform: &Transform,
     input: &str,
-    found: &mut String,
+    found: &mut Found,
 ) -> Result<(), Fault>
     requires { Transform.IsAlwaysCallable transform.now }
 {
     let call = call_of(alloc, input)?;
     let answer = transform(&no_attributes(alloc), &call.subject, &call.arguments);
-    Ok(add_answer(alloc, &answer, found)?)
+    Ok(add_answer(alloc, &answer, found))
 }

@@ -5,7 +5,7 @@ ghost use Rattle.json_tree.specs.Json.{depth};
 ghost use Rattle.json_tree.specs.Tree.{json_of};
 
 use json_tree::{Items, Members, Text, Tree, read, reread, write};
-use row_tables::{Fault, add_debugged, add_displayed, parts};
+use row_tables::{Fault, Found, parts};
 use std::alloc::{AllocError, Global};
 
 /// The tree of a JSON text.
@@ -17,70 +17,67 @@ pub(crate) fn tree(alloc: Global, text: &str) -> Result<Tree, Fault> {
 }
 
 /// Adds the text of a tree.
-pub(crate) fn add_tree(alloc: Global, tree: &Tree, found: &mut String) -> Result<(), AllocError> {
-    let text = write(alloc, tree)?;
-    found.push_str(text.as_str())
+pub(crate) fn add_tree(alloc: Global, tree: &Tree, found: &mut Found) {
+    match write(alloc, tree) {
+        Ok(text) => found.text(text.as_str()),
+        Err(_) => found.lack_memory(),
+    }
 }
 
 /// The text that a text is read and written as, or the name of its fault. Row: the bytes.
-pub(crate) fn find_rewritten(alloc: Global, input: &[u8], found: &mut String) -> Result<(), Fault> {
+pub(crate) fn find_rewritten(alloc: Global, input: &[u8], found: &mut Found) -> Result<(), Fault> {
     match read(alloc, input) {
-        Ok(tree) => Ok(add_tree(alloc, &tree, found)?),
-        Err(fault) => Ok(add_debugged(found, &fault)?),
+        Ok(tree) => Ok(add_tree(alloc, &tree, found)),
+        Err(fault) => Ok(found.debugged(&fault)),
     }
 }
 
 /// The name of a text's fault, or `none`. Row: the bytes.
-pub(crate) fn find_fault(alloc: Global, input: &[u8], found: &mut String) -> Result<(), Fault> {
+pub(crate) fn find_fault(alloc: Global, input: &[u8], found: &mut Found) -> Result<(), Fault> {
     match read(alloc, input) {
-        Ok(_) => Ok(found.push_str("none")?),
-        Err(fault) => Ok(add_debugged(found, &fault)?),
+        Ok(_) => Ok(found.text("none")),
+        Err(fault) => Ok(found.debugged(&fault)),
     }
 }
 
 /// Whether two texts have the same tree. Row: the texts with ` | ` between them.
-pub(crate) fn find_same(alloc: Global, input: &str, found: &mut String) -> Result<(), Fault> {
+pub(crate) fn find_same(alloc: Global, input: &str, found: &mut Found) -> Result<(), Fault> {
     let (first, second) = parts(input)?;
     let first = tree(alloc, first)?;
     find_same_as(alloc, &first, second, found)
 }
 
-fn find_same_as(
-    alloc: Global,
-    first: &Tree,
-    second: &str,
-    found: &mut String,
-) -> Result<(), Fault> {
+fn find_same_as(alloc: Global, first: &Tree, second: &str, found: &mut Found) -> Result<(), Fault> {
     let second = tree(alloc, second)?;
-    Ok(add_displayed(found, &(*first == second))?)
+    Ok(found.displayed(&(*first == second)))
 }
 
 /// The text of a member of an object with a list and a truth value that is built, copied and read again, or `none`; at
 /// `all` its own text. Row: the key.
-pub(crate) fn find_member(alloc: Global, input: &str, found: &mut String) -> Result<(), Fault> {
+pub(crate) fn find_member(alloc: Global, input: &str, found: &mut Found) -> Result<(), Fault> {
     let tree = built(alloc)?;
     find_member_of(alloc, &tree, input, found)
 }
 
-fn find_member_of(alloc: Global, tree: &Tree, key: &str, found: &mut String) -> Result<(), Fault>
+fn find_member_of(alloc: Global, tree: &Tree, key: &str, found: &mut Found) -> Result<(), Fault>
     requires { depth (json_of tree.now) ≤ max_depth }
 {
     if !is_copied(tree)? {
-        return Ok(found.push_str("a copy differs")?);
+        return Ok(found.text("a copy differs"));
     }
     if !is_reread(alloc, tree)? {
-        return Ok(found.push_str("it reads back as another")?);
+        return Ok(found.text("it reads back as another"));
     }
-    Ok(add_member(alloc, tree, key, found)?)
+    Ok(add_member(alloc, tree, key, found))
 }
 
-fn add_member(alloc: Global, tree: &Tree, key: &str, found: &mut String) -> Result<(), AllocError> {
+fn add_member(alloc: Global, tree: &Tree, key: &str, found: &mut Found) {
     if key == "all" {
         return add_tree(alloc, tree, found);
     }
     match tree.get(key) {
         Some(member) => add_tree(alloc, member, found),
-        None => found.push_str("none"),
+        None => found.text("none"),
     }
 }
 

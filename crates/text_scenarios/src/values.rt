@@ -1,16 +1,11 @@
 //! Rows on the values that JSON texts become, how they compare, and the attributes that names give.
 use crate::json_texts::{add_value, value};
 use jexl_value::{Attributes, NamedValues, Text, Value, order, same, truthy};
-use row_tables::{Fault, add_debugged, add_displayed, parts};
-use std::alloc::{AllocError, Global};
+use row_tables::{Fault, Found, parts};
+use std::alloc::Global;
 
 /// What is found of a row.
-pub(crate) fn find(
-    alloc: Global,
-    kind: &str,
-    input: &str,
-    found: &mut String,
-) -> Result<(), Fault> {
+pub(crate) fn find(alloc: Global, kind: &str, input: &str, found: &mut Found) -> Result<(), Fault> {
     match kind {
         "truthy" => find_truthy(alloc, input, found),
         "order" => find_order(alloc, input, found),
@@ -22,81 +17,73 @@ pub(crate) fn find(
 }
 
 // Whether a value counts as true. Row: its JSON text.
-fn find_truthy(alloc: Global, input: &str, found: &mut String) -> Result<(), Fault> {
+fn find_truthy(alloc: Global, input: &str, found: &mut Found) -> Result<(), Fault> {
     let value = value(alloc, input)?;
-    Ok(add_displayed(found, &truthy(&value))?)
+    Ok(found.displayed(&truthy(&value)))
 }
 
 // How two values compare, in both orders. Row: their JSON texts.
-fn find_order(alloc: Global, input: &str, found: &mut String) -> Result<(), Fault> {
+fn find_order(alloc: Global, input: &str, found: &mut Found) -> Result<(), Fault> {
     let (left, right) = parts(input)?;
     let left = value(alloc, left)?;
     find_order_to(alloc, &left, right, found)
 }
 
-fn find_order_to(
-    alloc: Global,
-    left: &Value,
-    right: &str,
-    found: &mut String,
-) -> Result<(), Fault> {
+fn find_order_to(alloc: Global, left: &Value, right: &str, found: &mut Found) -> Result<(), Fault> {
     let right = value(alloc, right)?;
-    Ok(add_order(left, &right, found)?)
+    Ok(add_order(left, &right, found))
 }
 
-fn add_order(left: &Value, right: &Value, found: &mut String) -> Result<(), AllocError> {
-    add_debugged(found, &order(left, right))?;
-    found.push_str(" ")?;
-    add_debugged(found, &order(right, left))
+fn add_order(left: &Value, right: &Value, found: &mut Found) {
+    found.debugged(&order(left, right));
+    found.text(" ");
+    found.debugged(&order(right, left));
 }
 
 // Whether two values are the same. Row: their JSON texts.
-fn find_same(alloc: Global, input: &str, found: &mut String) -> Result<(), Fault> {
+fn find_same(alloc: Global, input: &str, found: &mut Found) -> Result<(), Fault> {
     let (left, right) = parts(input)?;
     let left = value(alloc, left)?;
     find_same_as(alloc, &left, right, found)
 }
 
-fn find_same_as(alloc: Global, left: &Value, right: &str, found: &mut String) -> Result<(), Fault> {
+fn find_same_as(alloc: Global, left: &Value, right: &str, found: &mut Found) -> Result<(), Fault> {
     let right = value(alloc, right)?;
-    Ok(add_displayed(found, &same(left, &right))?)
+    Ok(found.displayed(&same(left, &right)))
 }
 
 // The JSON text of a value, and of its copy. Row: a JSON text.
-fn find_rewritten(alloc: Global, input: &str, found: &mut String) -> Result<(), Fault> {
+fn find_rewritten(alloc: Global, input: &str, found: &mut Found) -> Result<(), Fault> {
     let value = value(alloc, input)?;
-    Ok(add_copy(alloc, &value, found)?)
+    Ok(add_copy(alloc, &value, found))
 }
 
 // Adds the JSON text of a copy of a value.
-fn add_copy(alloc: Global, value: &Value, found: &mut String) -> Result<(), AllocError> {
-    let copy = value.clone()?;
+fn add_copy(alloc: Global, value: &Value, found: &mut Found) {
+    let Ok(copy) = value.clone() else {
+        return found.lack_memory();
+    };
     if copy != *value {
-        found.push_str("a copy differs: ")?;
+        found.text("a copy differs: ");
     }
     add_value(alloc, &copy, found)
 }
 
 // The number of attributes where one name is set twice, and the value of a name among them, or `none`. Row: the name.
-fn find_attribute(alloc: Global, input: &str, found: &mut String) -> Result<(), Fault> {
+fn find_attribute(alloc: Global, input: &str, found: &mut Found) -> Result<(), Fault> {
     let mut attributes = Attributes {
         pairs: NamedValues::new(alloc),
     };
     set_twice(alloc, &mut attributes.pairs)?;
-    Ok(add_attribute(alloc, &attributes, input, found)?)
+    Ok(add_attribute(alloc, &attributes, input, found))
 }
 
-fn add_attribute(
-    alloc: Global,
-    attributes: &Attributes,
-    name: &str,
-    found: &mut String,
-) -> Result<(), AllocError> {
-    add_displayed(found, &attributes.pairs.as_slice().len())?;
-    found.push_str(" ")?;
+fn add_attribute(alloc: Global, attributes: &Attributes, name: &str, found: &mut Found) {
+    found.displayed(&attributes.pairs.as_slice().len());
+    found.text(" ");
     match attributes.get(name) {
         Some(value) => add_value(alloc, value, found),
-        None => found.push_str("none"),
+        None => found.text("none"),
     }
 }
 

@@ -2,7 +2,7 @@
 use super::histories::{count_all, count_given};
 use crate::store_rows::{add_changes, add_size};
 use event_counts::Counts;
-use row_tables::{Fault, parts};
+use row_tables::{Fault, Found, parts};
 use sequences::ListPart;
 use std::alloc::{AllocError, Global};
 
@@ -13,7 +13,7 @@ pub(crate) fn find_changes(
     counts: &mut Counts,
     given: &str,
     input: &str,
-    found: &mut String,
+    found: &mut Found,
 ) -> Result<(), Fault> {
     let (old, new) = parts(input)?;
     count_all(alloc, counts, old)?;
@@ -25,7 +25,7 @@ fn find_changes_from(
     old: &Counts,
     given: &str,
     events: &str,
-    found: &mut String,
+    found: &mut Found,
 ) -> Result<(), Fault> {
     let mut new = Counts::new(alloc);
     let outcome = find_changes_to(alloc, old, &mut new, given, events, found);
@@ -39,7 +39,7 @@ fn find_changes_to(
     new: &mut Counts,
     given: &str,
     events: &str,
-    found: &mut String,
+    found: &mut Found,
 ) -> Result<(), Fault> {
     count_given(alloc, new, given)?;
     count_all(alloc, new, events)?;
@@ -50,10 +50,11 @@ fn add_changes_between(
     alloc: Global,
     old: &Counts,
     new: &Counts,
-    found: &mut String,
+    found: &mut Found,
 ) -> Result<(), AllocError> {
     let part = ListPart::whole(old.len(), new.len());
     let changes = old.changes_in(alloc, new, part)?;
-    add_changes(changes.as_slice(), found)?;
-    add_size(new.size(), found)
+    add_changes(changes.as_slice(), found);
+    add_size(new.size(), found);
+    Ok(())
 }

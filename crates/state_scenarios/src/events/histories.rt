@@ -4,7 +4,7 @@
 use crate::inputs::number;
 use event_counts::{CountFault, Counts};
 use plain_text::{LAST_MOMENT, is_name};
-use row_tables::{Fault, cut};
+use row_tables::{Fault, Found, cut};
 use std::alloc::Global;
 
 /// How many names there are after an event, or why it isn't counted. Row: the event.
@@ -12,17 +12,17 @@ pub(crate) fn find_answer(
     alloc: Global,
     counts: &mut Counts,
     event: &str,
-    found: &mut String,
+    found: &mut Found,
 ) -> Result<(), Fault> {
     match count_event(alloc, counts, event)? {
-        None => add_size(alloc, counts, found),
-        Some(fault) => Ok(write!(found, "{fault:?}")?),
+        None => Ok(add_size(counts, found)),
+        Some(fault) => Ok(found.debugged(&fault)),
     }
 }
 
-fn add_size(alloc: Global, counts: &Counts, found: &mut String) -> Result<(), Fault> {
-    let rows = counts.rows(alloc)?;
-    Ok(write!(found, "{} names", rows.len())?)
+fn add_size(counts: &Counts, found: &mut Found) {
+    found.displayed(&counts.len());
+    found.text(" names");
 }
 
 /// Counts the names that are given, which may be no text.

@@ -3,7 +3,7 @@ use super::histories::count_all;
 use crate::inputs::number;
 use crate::store_rows::{add_rows, add_rows_again, read_rows};
 use event_counts::{Counts, CountsFault, StoreRow, counts_of};
-use row_tables::{Fault, add_between};
+use row_tables::{Fault, Found, add_between};
 use std::alloc::{AllocError, Global};
 
 /// How many rows keep the counts after events, and the rows. Row: the events.
@@ -11,24 +11,22 @@ pub(crate) fn find_rows(
     alloc: Global,
     counts: &mut Counts,
     events: &str,
-    found: &mut String,
+    found: &mut Found,
 ) -> Result<(), Fault> {
     count_all(alloc, counts, events)?;
     Ok(add_count_and_rows(alloc, counts, found)?)
 }
 
-fn add_count_and_rows(
-    alloc: Global,
-    counts: &Counts,
-    found: &mut String,
-) -> Result<(), AllocError> {
+fn add_count_and_rows(alloc: Global, counts: &Counts, found: &mut Found) -> Result<(), AllocError> {
     let rows = counts.rows(alloc)?;
-    write!(found, "{} rows", rows.len())?;
-    add_rows(rows.as_slice(), found)
+    found.displayed(&rows.len());
+    found.text(" rows");
+    add_rows(rows.as_slice(), found);
+    Ok(())
 }
 
 /// Whether rows keep counts, and are written again as they were. Row: the rows.
-pub(crate) fn find_reading(alloc: Global, input: &str, found: &mut String) -> Result<(), Fault> {
+pub(crate) fn find_reading(alloc: Global, input: &str, found: &mut Found) -> Result<(), Fault> {
     let mut rows = Vec::new(alloc);
     read_rows(alloc, input, &mut rows)?;
     add_reading(alloc, &rows, found)
@@ -38,7 +36,7 @@ pub(crate) fn find_reading(alloc: Global, input: &str, found: &mut String) -> Re
 pub(crate) fn find_reading_of_many(
     alloc: Global,
     input: &str,
-    found: &mut String,
+    found: &mut Found,
 ) -> Result<(), Fault> {
     let mut text = String::new(alloc);
     add_named_rows(number(input)?, &mut text)?;
@@ -60,10 +58,10 @@ fn add_named_row(place: u64, text: &mut String) -> Result<(), AllocError> {
     write!(text, "en{place} 728")
 }
 
-fn add_reading(alloc: Global, rows: &[StoreRow], found: &mut String) -> Result<(), Fault> {
+fn add_reading(alloc: Global, rows: &[StoreRow], found: &mut Found) -> Result<(), Fault> {
     match counts_of(alloc, rows) {
         Ok(counts) => Ok(add_again(alloc, &counts, rows, found)?),
-        Err(CountsFault::NotCounts) => Ok(found.push_str("NotCounts")?),
+        Err(CountsFault::NotCounts) => Ok(found.text("NotCounts")),
         Err(CountsFault::OutOfMemory) => Err(Fault::OutOfMemory),
     }
 }
@@ -72,8 +70,9 @@ fn add_again(
     alloc: Global,
     counts: &Counts,
     rows: &[StoreRow],
-    found: &mut String,
+    found: &mut Found,
 ) -> Result<(), AllocError> {
     let again = counts.rows(alloc)?;
-    add_rows_again(again.as_slice(), rows, found)
+    add_rows_again(again.as_slice(), rows, found);
+    Ok(())
 }

@@ -3,9 +3,9 @@ use super::shown::add_outbox;
 use crate::inputs::{number, slug};
 use change_outbox::{AppendChangesFault, Change, ChangeKind, ConfirmFault, Outbox};
 use plain_text::Slug;
-use row_tables::{Fault, add_between, cut, parts};
+use row_tables::{Fault, Found, cut, parts};
 use sequences::Sequence;
-use std::alloc::{AllocError, Global};
+use std::alloc::Global;
 
 /// The answers, and what the outbox then has. Row: actions with semicolons between them. An action is `append` and changes with
 /// commas between them, `prepare` and changes, which are appended without taking the outbox that this makes, or `confirm` and a
@@ -14,11 +14,11 @@ pub(crate) fn find_left(
     alloc: Global,
     outbox: &mut Outbox,
     input: &str,
-    found: &mut String,
+    found: &mut Found,
 ) -> Result<(), Fault> {
     act_all(alloc, outbox, input, found)?;
-    found.push_str("; ")?;
-    Ok(add_outbox(outbox, found)?)
+    found.text("; ");
+    Ok(add_outbox(outbox, found))
 }
 
 /// What an outbox has after an append to it, and what the outbox that this makes has. Row: actions with semicolons between them,
@@ -27,7 +27,7 @@ pub(crate) fn find_both(
     alloc: Global,
     outbox: &mut Outbox,
     input: &str,
-    found: &mut String,
+    found: &mut Found,
 ) -> Result<(), Fault> {
     let (actions, changes) = parts(input)?;
     act_all(alloc, outbox, actions, found)?;
@@ -39,22 +39,22 @@ fn find_next(
     alloc: Global,
     outbox: &mut Outbox,
     changes: &str,
-    found: &mut String,
+    found: &mut Found,
 ) -> Result<(), Fault> {
     let changes = changes_of(alloc, changes)?;
     match outbox.append(changes) {
         Ok(next) => {
-            let outcome = add_both(outbox, &next, found);
+            add_both(outbox, &next, found);
             drop(next);
-            Ok(outcome?)
+            Ok(())
         }
         Err(_) => Err(Fault::NoRow),
     }
 }
 
-fn add_both(first: &Outbox, second: &Outbox, found: &mut String) -> Result<(), AllocError> {
-    add_outbox(first, found)?;
-    found.push_str("; ")?;
+fn add_both(first: &Outbox, second: &Outbox, found: &mut Found) {
+    add_outbox(first, found);
+    found.text("; ");
     add_outbox(second, found)
 }
 
@@ -63,16 +63,16 @@ pub(crate) fn act_all(
     alloc: Global,
     outbox: &mut Outbox,
     input: &str,
-    found: &mut String,
+    found: &mut Found,
 ) -> Result<(), Fault> {
     for action in input.split("; ") {
-        add_between(found, ", ")?;
+        found.between(", ");
         act(alloc, outbox, action, found)?;
     }
     Ok(())
 }
 
-fn act(alloc: Global, outbox: &mut Outbox, action: &str, found: &mut String) -> Result<(), Fault> {
+fn act(alloc: Global, outbox: &mut Outbox, action: &str, found: &mut Found) -> Result<(), Fault> {
     let (verb, rest) = cut(action);
     match verb {
         "append" => append(alloc, outbox, rest, found),
@@ -86,13 +86,13 @@ fn append(
     alloc: Global,
     outbox: &mut Outbox,
     changes: &str,
-    found: &mut String,
+    found: &mut Found,
 ) -> Result<(), Fault> {
     let changes = changes_of(alloc, changes)?;
     match outbox.append(changes) {
         Ok(next) => {
             *outbox = next;
-            Ok(found.push_str("ok")?)
+            Ok(found.text("ok"))
         }
         Err(fault) => add_spent(fault, found),
     }
@@ -102,34 +102,39 @@ fn prepare(
     alloc: Global,
     outbox: &mut Outbox,
     changes: &str,
-    found: &mut String,
+    found: &mut Found,
 ) -> Result<(), Fault> {
     let changes = changes_of(alloc, changes)?;
     match outbox.append(changes) {
         Ok(next) => {
             drop(next);
-            Ok(found.push_str("ok")?)
+            Ok(found.text("ok"))
         }
         Err(fault) => add_spent(fault, found),
     }
 }
 
-fn add_spent(fault: AppendChangesFault, found: &mut String) -> Result<(), Fault> {
+fn add_spent(fault: AppendChangesFault, found: &mut Found) -> Result<(), Fault> {
     match fault {
-        AppendChangesFault::ChangesSpent => Ok(found.push_str("ChangesSpent")?),
+        AppendChangesFault::ChangesSpent => Ok(found.text("ChangesSpent")),
         AppendChangesFault::OutOfMemory => Err(Fault::OutOfMemory),
     }
 }
 
-fn confirm(outbox: &mut Outbox, number: u64, found: &mut String) -> Result<(), Fault> {
+fn confirm(outbox: &mut Outbox, number: u64, found: &mut Found) -> Result<(), Fault> {
     match outbox.confirm(number) {
         Ok(left) => {
             *outbox = left;
-            Ok(found.push_str("ok")?)
+            Ok(found.text("ok"))
         }
-        Err(ConfirmFault::NoSuchChange(next)) => Ok(write!(found, "NoSuchChange {next}")?),
+        Err(ConfirmFault::NoSuchChange(next)) => Ok(add_refusal(next, found)),
         Err(ConfirmFault::OutOfMemory) => Err(Fault::OutOfMemory),
     }
+}
+
+fn add_refusal(next: u64, found: &mut Found) {
+    found.text("NoSuchChange ");
+    found.displayed(&next);
 }
 
 /// The changes that a text names with commas between them, or none.

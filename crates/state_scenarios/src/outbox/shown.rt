@@ -1,22 +1,20 @@
 //! Changes and outboxes in words.
 use change_outbox::{Change, ChangeKind, Outbox};
-use row_tables::{add_between, add_none};
-use std::alloc::AllocError;
+use row_tables::Found;
 
 /// Adds the changes behind their numbers, with commas between them, or `none`.
-pub(crate) fn add_changes(changes: &[Change], found: &mut String) -> Result<(), AllocError> {
+pub(crate) fn add_changes(changes: &[Change], found: &mut Found) {
     for change in changes {
-        add_between(found, ", ")?;
-        add_change(change, found)?;
+        found.between(", ");
+        add_change(change, found);
     }
-    add_none(found)
+    found.none()
 }
 
-fn add_change(change: &Change, found: &mut String) -> Result<(), AllocError> {
-    write!(found, "{} ", change.number)?;
-    found.push_str(kind_text(change.kind))?;
-    write!(found, " {}", change.slug.text())?;
-    write!(found, " {}", change.branch.text())
+fn add_change(change: &Change, found: &mut Found) {
+    let (slug, branch) = (change.slug.text(), change.branch.text());
+    found.displayed(&change.number);
+    found.texts(&[" ", kind_text(change.kind), " ", slug, " ", branch]);
 }
 
 fn kind_text(kind: ChangeKind) -> &'static str {
@@ -27,14 +25,16 @@ fn kind_text(kind: ChangeKind) -> &'static str {
 }
 
 /// Adds the next number and the entries.
-pub(crate) fn add_outbox(outbox: &Outbox, found: &mut String) -> Result<(), AllocError> {
-    write!(found, "next {}", outbox.next())?;
+pub(crate) fn add_outbox(outbox: &Outbox, found: &mut Found) {
+    found.text("next ");
+    found.displayed(&outbox.next());
     add_entries(outbox.entries(), found)
 }
 
-fn add_entries(entries: &[Change], found: &mut String) -> Result<(), AllocError> {
+fn add_entries(entries: &[Change], found: &mut Found) {
     if entries.is_empty() {
-        return found.push_str(", none");
+        found.text(", none");
+        return;
     }
     add_changes(entries, found)
 }

@@ -7,7 +7,7 @@ use crate::inputs::number;
 use crate::store_rows::{add_changes, add_rows, add_size, read_rows};
 use change_outbox::{Outbox, OutboxFault, outbox_of};
 use row_batches::StoreRow;
-use row_tables::{Fault, add_none, parts};
+use row_tables::{Fault, Found, parts};
 use std::alloc::{AllocError, Global};
 
 /// The outbox of a store's rows, or `NotAnOutbox`. Row: the store's rows.
@@ -15,12 +15,12 @@ pub(crate) fn find_outbox(
     alloc: Global,
     outbox: &mut Outbox,
     input: &str,
-    found: &mut String,
+    found: &mut Found,
 ) -> Result<(), Fault> {
     if reopen(alloc, outbox, input)? {
-        return Ok(add_outbox(outbox, found)?);
+        return Ok(add_outbox(outbox, found));
     }
-    Ok(found.push_str("NotAnOutbox")?)
+    Ok(found.text("NotAnOutbox"))
 }
 
 /// The rows of an outbox after actions. Row: the actions, with semicolons between them.
@@ -28,17 +28,18 @@ pub(crate) fn find_rows(
     alloc: Global,
     outbox: &mut Outbox,
     input: &str,
-    found: &mut String,
+    found: &mut Found,
 ) -> Result<(), Fault> {
     act_all(alloc, outbox, input, found)?;
     found.clear();
     Ok(add_rows_of(alloc, outbox, found)?)
 }
 
-fn add_rows_of(alloc: Global, outbox: &Outbox, found: &mut String) -> Result<(), AllocError> {
+fn add_rows_of(alloc: Global, outbox: &Outbox, found: &mut Found) -> Result<(), AllocError> {
     let rows = outbox.rows(alloc)?;
-    add_rows(rows.as_slice(), found)?;
-    add_none(found)
+    add_rows(rows.as_slice(), found);
+    found.none();
+    Ok(())
 }
 
 /// The changes of rows from the outbox after actions to that after a confirmation and an append more, and how many bytes the puts of
@@ -48,7 +49,7 @@ pub(crate) fn find_row_changes(
     alloc: Global,
     outbox: &mut Outbox,
     input: &str,
-    found: &mut String,
+    found: &mut Found,
 ) -> Result<(), Fault> {
     let (actions, further) = parts(input)?;
     let (confirmed, changes) = further.split_once("; ").ok_or(Fault::NoRow)?;
@@ -63,7 +64,7 @@ fn find_from(
     outbox: &Outbox,
     number: u64,
     changes: &str,
-    found: &mut String,
+    found: &mut Found,
 ) -> Result<(), Fault> {
     match outbox.confirm(number) {
         Ok(left) => find_after(alloc, outbox, left, changes, found),
@@ -77,7 +78,7 @@ fn find_after(
     outbox: &Outbox,
     left: Outbox,
     changes: &str,
-    found: &mut String,
+    found: &mut Found,
 ) -> Result<(), Fault>
     requires { IsMadeOf outbox.now left }
 {
@@ -93,13 +94,14 @@ fn add_changes_to(
     alloc: Global,
     outbox: &Outbox,
     next: &Outbox,
-    found: &mut String,
+    found: &mut Found,
 ) -> Result<(), AllocError>
     requires { IsMadeOf outbox.now next.now }
 {
     let changes = outbox.changes_to(alloc, next)?;
-    add_changes(changes.as_slice(), found)?;
-    add_size(next.size(), found)
+    add_changes(changes.as_slice(), found);
+    add_size(next.size(), found);
+    Ok(())
 }
 
 /// Takes the outbox of the rows that are given, if any are.

@@ -7,48 +7,46 @@ use json_tree::Tree;
 use plain_text::Slug;
 use pref_bindings::{Binding, BindingFault, Bindings, bound_values, read_bindings};
 use recipe_reader::Recipe;
-use row_tables::{Fault, add_between, add_none, parts};
+use row_tables::{Fault, Found, parts};
 use sequences::Text;
 use std::alloc::{AllocError, Global};
 
 /// The bindings of a tree, each as its feature, its variable and its preference, or why there are none; `none` where they are
 /// empty. Row: the tree.
-pub(crate) fn find_bindings(alloc: Global, input: &str, found: &mut String) -> Result<(), Fault> {
+pub(crate) fn find_bindings(alloc: Global, input: &str, found: &mut Found) -> Result<(), Fault> {
     let tree = tree(alloc, input)?;
     add_bindings_of(alloc, &tree, found)
 }
 
-fn add_bindings_of(alloc: Global, tree: &Tree, found: &mut String) -> Result<(), Fault> {
+fn add_bindings_of(alloc: Global, tree: &Tree, found: &mut Found) -> Result<(), Fault> {
     match read_bindings(alloc, tree) {
-        Ok(bindings) => Ok(add_bindings(bindings.as_slice(), found)?),
-        Err(BindingFault::BadBinding(feature)) => {
-            Ok(write!(found, "BadBinding {:?}", feature.as_str())?)
-        }
+        Ok(bindings) => Ok(add_bindings(bindings.as_slice(), found)),
+        Err(BindingFault::BadBinding(feature)) => Ok(add_bad(feature.as_str(), found)),
         Err(BindingFault::OutOfMemory) => Err(Fault::OutOfMemory),
     }
 }
 
-fn add_bindings(bindings: &[Binding], found: &mut String) -> Result<(), AllocError> {
-    for binding in bindings {
-        add_binding(binding, found)?;
-    }
-    add_none(found)
+fn add_bad(feature: &str, found: &mut Found) {
+    found.text("BadBinding ");
+    found.debugged(&feature);
 }
 
-fn add_binding(binding: &Binding, found: &mut String) -> Result<(), AllocError> {
-    add_between(found, ", ")?;
-    found.push_str(binding.feature.as_str())?;
-    write!(
-        found,
-        " {} {}",
-        binding.variable.as_str(),
-        binding.preference.as_str()
-    )
+fn add_bindings(bindings: &[Binding], found: &mut Found) {
+    for binding in bindings {
+        add_binding(binding, found);
+    }
+    found.none();
+}
+
+fn add_binding(binding: &Binding, found: &mut Found) {
+    let (variable, preference) = (binding.variable.as_str(), binding.preference.as_str());
+    found.between(", ");
+    found.texts(&[binding.feature.as_str(), " ", variable, " ", preference]);
 }
 
 /// What a branch sets of the preferences that variables are bound to; `none` where that is nothing. Row: the branch, the variables
 /// of a manifest, the features of the branch `treatment`, and the bindings, with ` | ` between two.
-pub(crate) fn find_bound(alloc: Global, input: &str, found: &mut String) -> Result<(), Fault> {
+pub(crate) fn find_bound(alloc: Global, input: &str, found: &mut Found) -> Result<(), Fault> {
     let mut manifest = no_features(alloc);
     let outcome = find_bound_over(alloc, &mut manifest, input, found);
     drop(manifest);
@@ -59,7 +57,7 @@ fn find_bound_over(
     alloc: Global,
     manifest: &mut Manifest,
     input: &str,
-    found: &mut String,
+    found: &mut Found,
 ) -> Result<(), Fault> {
     let (branch, rest) = parts(input)?;
     let (features, rest) = parts(rest)?;
@@ -72,7 +70,7 @@ fn find_bound_in(
     manifest: &Manifest,
     branch: &str,
     rest: &str,
-    found: &mut String,
+    found: &mut Found,
 ) -> Result<(), Fault> {
     let (features, spelled) = parts(rest)?;
     let recipe = recipe_with(alloc, features)?;
@@ -99,7 +97,7 @@ fn find_bound_by(
     recipe: &Recipe,
     branch: &str,
     spelled: &str,
-    found: &mut String,
+    found: &mut Found,
 ) -> Result<(), Fault> {
     let bindings = bindings(alloc, spelled)?;
     find_set(alloc, manifest, recipe, &bindings, branch, found)
@@ -111,7 +109,7 @@ fn find_set(
     recipe: &Recipe,
     bindings: &Bindings,
     branch: &str,
-    found: &mut String,
+    found: &mut Found,
 ) -> Result<(), Fault> {
     let branch = slug(alloc, branch)?;
     Ok(add_set(alloc, manifest, recipe, bindings, &branch, found)?)
@@ -123,24 +121,20 @@ fn add_set(
     recipe: &Recipe,
     bindings: &Bindings,
     branch: &Slug,
-    found: &mut String,
+    found: &mut Found,
 ) -> Result<(), AllocError> {
     let values = bound_values(alloc, manifest, recipe, branch, bindings)?;
-    add_values(alloc, values.as_slice(), found)
+    add_values(alloc, values.as_slice(), found);
+    Ok(())
 }
 
-fn add_values(
-    alloc: Global,
-    values: &[(Text, Tree)],
-    found: &mut String,
-) -> Result<(), AllocError> {
+fn add_values(alloc: Global, values: &[(Text, Tree)], found: &mut Found) {
     for (name, value) in values {
-        add_between(found, ", ")?;
-        found.push_str(name.as_str())?;
-        found.push_str(" ")?;
-        add_tree(alloc, value, found)?;
+        found.between(", ");
+        found.texts(&[name.as_str(), " "]);
+        add_tree(alloc, value, found);
     }
-    add_none(found)
+    found.none();
 }
 
 fn bindings(alloc: Global, text: &str) -> Result<Bindings, Fault> {

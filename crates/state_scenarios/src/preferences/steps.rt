@@ -8,9 +8,9 @@ use crate::inputs::{add_tree, slug};
 use json_tree::Tree;
 use plain_text::Slug;
 use pref_bindings::{Hold, Preference, Prefs};
-use row_tables::{Fault, add_between, add_none, cut, parts};
+use row_tables::{Fault, Found, cut, parts};
 use sequences::Text;
-use std::alloc::{AllocError, Global};
+use std::alloc::Global;
 
 /// The preferences after steps, each with its value, and where it is held with the holder and the value of before; `none` where
 /// there are none. Row: the steps.
@@ -18,43 +18,33 @@ pub(crate) fn find_preferences(
     alloc: Global,
     prefs: &mut Prefs,
     steps: &str,
-    found: &mut String,
+    found: &mut Found,
 ) -> Result<(), Fault> {
     do_all(alloc, prefs, steps)?;
-    Ok(add_preferences(alloc, prefs.as_slice(), found)?)
+    Ok(add_preferences(alloc, prefs.as_slice(), found))
 }
 
-fn add_preferences(
-    alloc: Global,
-    preferences: &[Preference],
-    found: &mut String,
-) -> Result<(), AllocError> {
+fn add_preferences(alloc: Global, preferences: &[Preference], found: &mut Found) {
     for preference in preferences {
-        add_between(found, ", ")?;
-        add_preference(alloc, preference, found)?;
+        found.between(", ");
+        add_preference(alloc, preference, found);
     }
-    add_none(found)
+    found.none();
 }
 
-fn add_preference(
-    alloc: Global,
-    preference: &Preference,
-    found: &mut String,
-) -> Result<(), AllocError> {
-    found.push_str(preference.name.as_str())?;
-    found.push_str(" ")?;
-    add_tree(alloc, &preference.value, found)?;
-    match &preference.hold {
-        Some(hold) => add_hold(alloc, hold, found),
-        None => Ok(()),
+fn add_preference(alloc: Global, preference: &Preference, found: &mut Found) {
+    found.texts(&[preference.name.as_str(), " "]);
+    add_tree(alloc, &preference.value, found);
+    if let Some(hold) = &preference.hold {
+        add_hold(alloc, hold, found);
     }
 }
 
-fn add_hold(alloc: Global, hold: &Hold, found: &mut String) -> Result<(), AllocError> {
-    write!(found, " {} over ", hold.holder.text())?;
+fn add_hold(alloc: Global, hold: &Hold, found: &mut Found) {
+    found.texts(&[" ", hold.holder.text(), " over "]);
     match &hold.before {
         Some(before) => add_tree(alloc, before, found),
-        None => found.push_str("none"),
+        None => found.text("none"),
     }
 }
 
@@ -63,28 +53,23 @@ pub(crate) fn find_known(
     alloc: Global,
     prefs: &mut Prefs,
     input: &str,
-    found: &mut String,
+    found: &mut Found,
 ) -> Result<(), Fault> {
     let (steps, name) = parts(input)?;
     do_all(alloc, prefs, steps)?;
-    Ok(add_known(alloc, prefs, name, found)?)
+    Ok(add_known(alloc, prefs, name, found))
 }
 
-fn add_known(
-    alloc: Global,
-    prefs: &Prefs,
-    name: &str,
-    found: &mut String,
-) -> Result<(), AllocError> {
+fn add_known(alloc: Global, prefs: &Prefs, name: &str, found: &mut Found) {
     match prefs.get(name) {
-        Some(value) => add_tree(alloc, value, found)?,
-        None => found.push_str("no value")?,
+        Some(value) => add_tree(alloc, value, found),
+        None => found.text("no value"),
     }
     let holder = match prefs.holder(name) {
         Some(slug) => slug.text(),
         None => "nobody",
     };
-    write!(found, ", {holder}")
+    found.texts(&[", ", holder]);
 }
 
 /// Does steps one after the other.
