@@ -49,7 +49,7 @@ fn find_attributes_in(
     state.id = id()?;
     if client == "old" {
         state.updated = NOW - 86_400;
-        add_rows(alloc, ROWS, &mut state.rows);
+        add_rows(alloc, ROWS, &mut state.rows)?;
     }
     find_attributes_for(alloc, context, state, asked, found)
 }

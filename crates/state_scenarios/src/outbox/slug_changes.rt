@@ -11,7 +11,7 @@ use std::alloc::Global;
 pub(crate) fn find_changes(alloc: Global, input: &str, found: &mut Found) -> Result<(), Fault> {
     let (old, new) = parts(input)?;
     let mut rows = SharedList::new(alloc);
-    add_rows(alloc, old, &mut rows);
+    add_rows(alloc, old, &mut rows)?;
     find_changes_from(alloc, rows.as_slice(), new, found)
 }
 
@@ -22,7 +22,7 @@ fn find_changes_from(
     found: &mut Found,
 ) -> Result<(), Fault> {
     let mut rows = SharedList::new(alloc);
-    add_rows(alloc, new, &mut rows);
+    add_rows(alloc, new, &mut rows)?;
     find_changes_between(alloc, old, rows.as_slice(), found)
 }
 
