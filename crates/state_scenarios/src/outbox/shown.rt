@@ -12,15 +12,15 @@ pub(crate) fn add_changes(changes: &[Change], found: &mut Found) {
 }
 
 fn add_change(change: &Change, found: &mut Found) {
-    let (slug, branch) = (change.slug.text(), change.branch.text());
     found.displayed(&change.number);
-    found.texts(&[" ", kind_text(change.kind), " ", slug, " ", branch]);
+    found.text(kind_text(change.kind));
+    found.texts(&[change.slug.text(), " ", change.branch.text()]);
 }
 
 fn kind_text(kind: ChangeKind) -> &'static str {
     match kind {
-        ChangeKind::Join => "join",
-        ChangeKind::Leave => "leave",
+        ChangeKind::Join => " join ",
+        ChangeKind::Leave => " leave ",
     }
 }
 
