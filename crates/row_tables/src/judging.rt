@@ -1,5 +1,6 @@
 // The rows of a text, each judged by what is found of it.
 use crate::fault::Fault;
+use crate::found::Found;
 use crate::line::Line;
 use std::alloc::{AllocError, Global};
 use std::str::from_utf8;
@@ -24,8 +25,8 @@ impl<'a> Question<'a> {
 
 /// The kinds of rows that a program of tests has.
 pub trait Kinds {
-    /// Writes what is found of a row into a text, which is empty.
-    fn find(&self, alloc: Global, row: Question<'_>, found: &mut String) -> Result<(), Fault>;
+    /// Adds what is found of a row to nothing.
+    fn find(&self, alloc: Global, row: Question<'_>, found: &mut Found) -> Result<(), Fault>;
 }
 
 /// Judges the rows of a text, and reports on them: a line for each table, one for each row that differs, and how many rows have
@@ -49,7 +50,7 @@ fn judge_lines<K: Kinds>(
     report: &mut String,
 ) -> Result<(), AllocError> {
     let mut input = Vec::new(alloc);
-    let mut found = String::new(alloc);
+    let mut found = Found::new(alloc);
     for line in text.lines() {
         judge_line(alloc, kinds, line, table, &mut input, &mut found, report)?;
     }
@@ -87,7 +88,7 @@ fn judge_line<K: Kinds>(
     line: &str,
     table: &mut Table,
     input: &mut Vec<u8>,
-    found: &mut String,
+    found: &mut Found,
     report: &mut String,
 ) -> Result<(), AllocError> {
     match Line::of(line) {
@@ -151,7 +152,7 @@ fn judge<'a, K: Kinds>(
     table: &'a Table,
     input: &'a [u8],
     wanted: &str,
-    found: &mut String,
+    found: &mut Found,
     report: &mut String,
 ) -> Result<bool, AllocError> {
     found.clear();
@@ -161,6 +162,7 @@ fn judge<'a, K: Kinds>(
         input,
     };
     match kinds.find(alloc, row, found) {
+        Ok(()) if !found.is_whole() => differs(table, input, wanted, "no memory", report),
         Ok(()) if found.as_str() == wanted => Ok(true),
         Ok(()) => differs(table, input, wanted, found.as_str(), report),
         Err(Fault::NoRow) => differs(table, input, wanted, "no row of its kind", report),

@@ -16,6 +16,7 @@
 
 mod cutting;
 mod fault;
+mod found;
 mod judging;
 mod line;
 mod pieces;
@@ -25,5 +26,6 @@ pub use cutting::{
     byte, count, cut, number, parts,
 };
 pub use fault::Fault;
+pub use found::Found;
 pub use judging::{Kinds, Question, report_on};
 pub use pieces::Piece;
