@@ -18,6 +18,7 @@ impl Client {
             ≡ enrolling (state_of self.old) (session_of self.old) (opting_out (state_of self.old).enrolment (session_of self.old) slug.now)) }
         ensures follows { IfOk result (λ asked. FollowsFrom (state_of self.old) asked) }
     {
+        // Its contract says that the state is sound.
         self.state();
         self.store.lend(|state| opting_out(alloc, state, slug))
     }
@@ -34,6 +35,7 @@ impl Client {
             ≡ enrolling (state_of self.old) (session_of self.old) (opting_in (state_of self.old).enrolment (session_of self.old) slug.now branch.now)) }
         ensures follows { IfOk result (λ asked. FollowsFrom (state_of self.old) asked) }
     {
+        // Its contract says that the state is sound.
         self.state();
         self.store
             .lend(|state| opting_in(alloc, state, slug, branch))

@@ -118,6 +118,7 @@ impl Client {
         ensures disk_quiet { OnOk result (H.disk_faults host.new ≡ H.disk_faults host.old) }
         ensures say_faults { H.say_faults host.new ≡ H.say_faults host.old }
     {
+        // Its contract says that the state is sound.
         self.store.state();
         let Prepared {
             change,

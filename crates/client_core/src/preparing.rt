@@ -206,6 +206,7 @@ impl Client {
         ensures not_spent { IfOk result (λ _. spends change (state_of self.old) ≡ false) }
         ensures spent { IsErrOf result AppendChangesFault.ChangesSpent → IsTrue (spends change (state_of self.old)) }
     {
+        // Its contract says that the state is sound.
         self.store.state();
         let manifest = self.session.manifest();
         let bindings = self.session.bindings();
@@ -263,6 +264,7 @@ impl Client {
         ensures made { IsMadeOn self.now result }
         ensures step { Leads self.now result (record { state = state_of self.now; session = changed_by (session_of self.now) session; answer = answer }) }
     {
+        // Its contract says that the state is sound.
         self.store.state();
         Prepared {
             change: None,

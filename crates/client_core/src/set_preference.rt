@@ -78,6 +78,7 @@ impl Client {
         ensures parts { IfOk result (HasParts (state_of self.old).enrolment) }
         ensures consistent { IfOk result (λ next. states.IsConsistent next.state) }
     {
+        // Its contract says that the state is sound.
         self.state();
         self.store
             .lend(|state| end_enrolment(&mut state.enrolment, slug))

@@ -18,6 +18,7 @@ pub fn confirming(alloc: Global, state: &ClientState, number: u64) -> Result<Ask
 {
     match state.outbox.confirm(number) {
         Ok(outbox) => {
+            // Its contract says that the outbox is sound.
             outbox.next();
             let change = StateChange::of_outbox(outbox);
             Asked::new_state(alloc, change, Answer::Okay)

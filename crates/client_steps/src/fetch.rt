@@ -90,6 +90,7 @@ fn payload_in(alloc: Global, tree: &Tree) -> Result<Result<Payload, Refusal>, Al
 {
     match read_payload(alloc, tree) {
         Ok(payload) => {
+            // Its contract says that the recipes are in order.
             payload.recipes.as_slice();
             Ok(Ok(payload))
         }

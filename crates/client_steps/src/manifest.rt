@@ -74,6 +74,7 @@ fn checked(alloc: Global, manifest: Manifest) -> Result<Result<LinkedManifest, R
     requires back { LinksBack manifest }
     ensures { IfOk result (λ found. found ≡ where_fits manifest (bad_default manifest)) }
 {
+    // Its contract says that the features' names rise.
     manifest.features.as_slice();
     match check_defaults(alloc, &manifest) {
         Ok(()) => Ok(Ok(LinkedManifest::new(alloc, manifest)?)),

@@ -172,6 +172,7 @@ impl SizedState {
         ensures whole { IfOk result (λ batch. batch_text (whole_of (applied batch (rows_of self.now))) ≡ encoding next.now) }
         ensures size { IfOk result (λ batch. length (batch_text batch) ≤ length (encoding self.now) + length (encoding next.now)) }
     {
+        // Its contract says that the next state is sound.
         next.state();
         changes_to(alloc, &self.counted.state, change)
     }

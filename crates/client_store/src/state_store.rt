@@ -61,6 +61,7 @@ impl StateStore {
         ensures state { result.state ≡ state }
         ensures stored { IsStored result }
     {
+        // Its contract says that the state is sound.
         state.state();
         StateStore { rows, state }
     }
