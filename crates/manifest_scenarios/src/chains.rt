@@ -1,5 +1,5 @@
 //! Chains of objects.
-use row_tables::{cut, number};
+use row_tables::{Found, cut, number};
 use std::alloc::{AllocError, Global};
 
 /// Adds the objects that `START END FIELD` says, if the first two are numbers, and tells whether they are.
@@ -10,53 +10,36 @@ pub(crate) fn add_chain(
 ) -> Result<bool, AllocError> {
     let (start, rest) = cut(words);
     let (end, field) = cut(rest);
+    let mut chain = Found::new(alloc);
     match (number(start), number(end)) {
-        (Some(start), Some(end)) => {
-            add_objects(alloc, text, start, end, field)?;
-            Ok(true)
-        }
-        _ => Ok(false),
+        (Some(start), Some(end)) => add_objects(&mut chain, start, end, field),
+        _ => return Ok(false),
     }
+    text.extend_from_slice(chain.as_str().as_bytes())?;
+    Ok(chain.is_whole())
 }
 
-fn add_objects(
-    alloc: Global,
-    text: &mut Vec<u8>,
-    start: u64,
-    end: u64,
-    field: &str,
-) -> Result<(), AllocError> {
+// Adds objects of rising numbers, of which the field of each names the next one.
+fn add_objects(chain: &mut Found, start: u64, end: u64, field: &str) {
     for place in start..end {
-        add_object(alloc, text, place, field)?;
+        add_name(chain, place);
+        chain.text("/f/");
+        add_field(chain, place.saturating_add(1), field);
+        chain.text("\n");
     }
-    Ok(())
-}
-
-// Adds the object of this number, whose field names the next one.
-fn add_object(
-    alloc: Global,
-    text: &mut Vec<u8>,
-    place: u64,
-    field: &str,
-) -> Result<(), AllocError> {
-    add_name(alloc, text, place)?;
-    text.extend_from_slice(b"/f/")?;
-    add_field(alloc, text, place.saturating_add(1), field)?;
-    text.extend_from_slice(b"\n")
 }
 
 // Adds a text in which each `*` stands for the name of the object of this number.
-fn add_field(alloc: Global, text: &mut Vec<u8>, place: u64, field: &str) -> Result<(), AllocError> {
+fn add_field(chain: &mut Found, place: u64, field: &str) {
     for (number, part) in field.split('*').enumerate() {
         if number > 0 {
-            add_name(alloc, text, place)?;
+            add_name(chain, place);
         }
-        text.extend_from_slice(part.as_bytes())?;
+        chain.text(part);
     }
-    Ok(())
 }
 
-fn add_name(alloc: Global, text: &mut Vec<u8>, place: u64) -> Result<(), AllocError> {
-    let name = format!(in alloc; "o{place}")?;
-    text.extend_from_slice(name.as_bytes())
+fn add_name(chain: &mut Found, place: u64) {
+    chain.text("o");
+    chain.displayed(&place);
 }

@@ -1,6 +1,6 @@
 //! Scenarios one after the other, and what is told of them.
 use crate::scenario::{Scenario, find, prepare};
-use row_tables::{Fault, add_texts, cut};
+use row_tables::{Fault, Found, cut};
 use std::alloc::{AllocError, Global};
 
 // The name of the scenario, and whether all was so far as it is wanted.
@@ -11,30 +11,23 @@ struct Verdict {
 }
 
 /// Does what each line says, and tells of each scenario that it passes, or what differs from what is wanted.
-pub(crate) fn judge_lines(
-    alloc: Global,
-    text: &str,
-    report: &mut String,
-) -> Result<(), AllocError> {
+pub(crate) fn judge_lines(alloc: Global, text: &str, report: &mut Found) -> Result<(), AllocError> {
     let mut verdict = Verdict {
         name: String::new(alloc),
         passes: true,
     };
     judge_all(alloc, text, &mut verdict, report)?;
-    tell(&verdict, report)
+    Ok(tell(&verdict, report))
 }
 
 fn judge_all(
     alloc: Global,
     text: &str,
     verdict: &mut Verdict,
-    report: &mut String,
+    report: &mut Found,
 ) -> Result<(), AllocError> {
     let mut scenario = Scenario::new(alloc)?;
-    let mut found = String::new(alloc);
-    let outcome = judge_each(alloc, text, &mut scenario, verdict, &mut found, report);
-    drop(scenario);
-    outcome
+    judge_each(alloc, text, &mut scenario, verdict, report)
 }
 
 fn judge_each(
@@ -42,11 +35,11 @@ fn judge_each(
     text: &str,
     scenario: &mut Scenario,
     verdict: &mut Verdict,
-    found: &mut String,
-    report: &mut String,
+    report: &mut Found,
 ) -> Result<(), AllocError> {
+    let mut found = Found::new(alloc);
     for line in text.lines() {
-        judge_line(alloc, line, scenario, verdict, found, report)?;
+        judge_line(alloc, line, scenario, verdict, &mut found, report)?;
     }
     Ok(())
 }
@@ -56,15 +49,15 @@ fn judge_line(
     line: &str,
     scenario: &mut Scenario,
     verdict: &mut Verdict,
-    found: &mut String,
-    report: &mut String,
+    found: &mut Found,
+    report: &mut Found,
 ) -> Result<(), AllocError> {
     if line.is_empty() || line.starts_with('#') {
         return Ok(());
     }
     let (word, rest) = cut(line);
     if word == "==" {
-        tell(verdict, report)?;
+        tell(verdict, report);
         begin(verdict, rest)?;
         return renew(alloc, scenario);
     }
@@ -72,7 +65,7 @@ fn judge_line(
         return Ok(());
     }
     found.clear();
-    verdict.passes &= judge(alloc, line, scenario, &verdict.name, found, report)?;
+    verdict.passes &= judge(alloc, line, scenario, &verdict.name, found, report);
     Ok(())
 }
 
@@ -88,11 +81,10 @@ fn begin(verdict: &mut Verdict, name: &str) -> Result<(), AllocError> {
 }
 
 // Tells that the scenario passes, where there is one and it does.
-fn tell(verdict: &Verdict, report: &mut String) -> Result<(), AllocError> {
-    if verdict.name.is_empty() || !verdict.passes {
-        return Ok(());
+fn tell(verdict: &Verdict, report: &mut Found) {
+    if !verdict.name.is_empty() && verdict.passes {
+        report.texts(&[verdict.name.as_str(), ": passed\n"])
     }
-    add_texts(report, &[verdict.name.as_str(), ": passed\n"])
 }
 
 // Whether what is found of a row is what is wanted. Else it is told.
@@ -101,37 +93,21 @@ fn judge(
     line: &str,
     scenario: &mut Scenario,
     name: &str,
-    found: &mut String,
-    report: &mut String,
-) -> Result<bool, AllocError> {
+    found: &mut Found,
+    report: &mut Found,
+) -> bool {
     let (row, wanted) = line.split_once(" = ").unwrap_or((line, ""));
     match find(alloc, scenario, row, found) {
-        Ok(()) if found.as_str() == wanted => Ok(true),
-        Ok(()) => differs(name, row, found, wanted, report),
+        Ok(()) if !found.is_whole() => differs(name, row, "no memory", wanted, report),
+        Ok(()) if found.as_str() == wanted => true,
+        Ok(()) => differs(name, row, found.as_str(), wanted, report),
         Err(Fault::NoRow) => differs(name, row, "no row of its kind", wanted, report),
         Err(Fault::OutOfMemory) => differs(name, row, "no memory", wanted, report),
     }
 }
 
-fn differs(
-    name: &str,
-    row: &str,
-    found: &str,
-    wanted: &str,
-    report: &mut String,
-) -> Result<bool, AllocError> {
-    add_texts(
-        report,
-        &[
-            name,
-            ": ",
-            row,
-            ": found ",
-            found,
-            ", wanted ",
-            wanted,
-            "\n",
-        ],
-    )?;
-    Ok(false)
+fn differs(name: &str, row: &str, found: &str, wanted: &str, report: &mut Found) -> bool {
+    report.texts(&[name, ": ", row, ": found ", found]);
+    report.texts(&[", wanted ", wanted, "\n"]);
+    false
 }

@@ -15,11 +15,12 @@ mod trees;
 mod values;
 
 use judging::judge_lines;
+use row_tables::Found;
 use std::io;
 
 fn main(rt: HostRuntime) -> io::Result<()> {
     let text = io::read_to_string(rt.alloc(), rt.reader())?;
-    let mut report = String::new(rt.alloc());
+    let mut report = Found::new(rt.alloc());
     judge_lines(rt.alloc(), &text, &mut report)?;
-    print!(rt; "{report}")
+    print!(rt; "{}", report.as_str())
 }

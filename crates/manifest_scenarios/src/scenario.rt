@@ -41,12 +41,12 @@
 //! | `reread` | `same` where that file alone gives a manifest of the same single file |
 use crate::chains::add_chain;
 use crate::linked::{find_link, find_linked};
-use crate::modules::{find_channels, find_module, find_parts};
-use crate::tables::{empty_table, find_grounding, find_height, find_weight, read_table};
-use crate::values::{find_fit, find_kind, find_laid, find_spaces, find_type};
-use fml_types::{Manifest, TypeTable};
+use crate::modules::{find_channels, find_module};
+use crate::tables::{find_by_table, find_height, find_weight};
+use crate::values::{add_type_of, add_without_spaces};
+use fml_types::Manifest;
 use host_model::MemShelf;
-use row_tables::{Fault, Piece, cut, number};
+use row_tables::{Fault, Found, Piece, cut, number};
 use std::alloc::{AllocError, Global};
 use std::str::from_utf8;
 
@@ -120,28 +120,27 @@ fn add_piece(text: &mut Vec<u8>, word: &str, rest: &str) -> Result<bool, AllocEr
     }
 }
 
-/// Writes what is found of a row.
+/// Adds what is found of a row.
 pub(crate) fn find(
     alloc: Global,
     scenario: &mut Scenario,
     row: &str,
-    found: &mut String,
+    found: &mut Found,
 ) -> Result<(), Fault> {
     let (word, rest) = cut(row);
     match word {
-        "link" => find_link(
+        "link" => Ok(find_link(
             alloc,
             &mut scenario.shelf,
             &mut scenario.manifest,
             rest,
             found,
-        ),
-        "type" => find_type(alloc, rest, found),
-        "spaces" => find_spaces(rest, found),
+        )),
+        "type" => Ok(add_type_of(alloc, rest, found)),
+        "spaces" => Ok(add_without_spaces(rest, found)),
         "channels" => find_channels(alloc, rest, found),
-        "module" if !rest.is_empty() => find_module(alloc, rest.as_bytes(), found),
-        "module" => find_module(alloc, &scenario.text, found),
-        "parts" => find_parts(alloc, &scenario.text, found),
+        "module" if !rest.is_empty() => find_module(alloc, word, rest.as_bytes(), found),
+        "module" | "parts" => find_module(alloc, word, &scenario.text, found),
         "grounded" | "height" | "weight" | "tree" | "value" | "lay" => {
             find_by_text(alloc, &scenario.text, word, rest, found)
         }
@@ -149,71 +148,31 @@ pub(crate) fn find(
     }
 }
 
+// Adds what is found of a row on the table of a text.
 fn find_by_text(
     alloc: Global,
     text: &[u8],
     word: &str,
     rest: &str,
-    found: &mut String,
+    found: &mut Found,
 ) -> Result<(), Fault> {
-    match from_utf8(text) {
-        Ok(rows) => find_by_rows(alloc, rows, word, rest, found),
-        Err(_) => Err(Fault::NoRow),
-    }
-}
-
-fn find_by_rows(
-    alloc: Global,
-    rows: &str,
-    word: &str,
-    rest: &str,
-    found: &mut String,
-) -> Result<(), Fault> {
+    let Ok(rows) = from_utf8(text) else {
+        return Err(Fault::NoRow);
+    };
     match word {
-        "grounded" => find_grounding(alloc, rows, found),
         "height" => find_height(alloc, rows, rest, found),
         "weight" => find_weight(alloc, rows, rest, found),
         _ => find_by_table(alloc, rows, word, rest, found),
     }
 }
 
-// Writes what is found of a row on trees and values of the table of these lines.
-fn find_by_table(
-    alloc: Global,
-    rows: &str,
-    word: &str,
-    rest: &str,
-    found: &mut String,
-) -> Result<(), Fault> {
-    let mut types = empty_table(alloc);
-    let outcome = find_in_table(alloc, rows, &mut types, word, rest, found);
-    drop(types);
-    outcome
-}
-
-fn find_in_table(
-    alloc: Global,
-    rows: &str,
-    types: &mut TypeTable,
-    word: &str,
-    rest: &str,
-    found: &mut String,
-) -> Result<(), Fault> {
-    read_table(alloc, rows, types)?;
-    match word {
-        "tree" => find_fit(alloc, types, rest, found),
-        "value" => find_kind(alloc, types, rest, found),
-        _ => find_laid(alloc, types, rest, found),
-    }
-}
-
-// Writes what is found of a row on the manifest that was linked last.
+// Adds what is found of a row on the manifest that was linked last.
 fn find_by_manifest(
     alloc: Global,
     manifest: &Option<Manifest>,
     word: &str,
     rest: &str,
-    found: &mut String,
+    found: &mut Found,
 ) -> Result<(), Fault> {
     match manifest {
         Some(manifest) => find_linked(alloc, manifest, word, rest, found),

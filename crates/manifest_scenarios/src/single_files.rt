@@ -4,48 +4,55 @@ use fml_imports::single;
 use fml_link::link;
 use fml_types::Manifest;
 use host_model::MemShelf;
-use row_tables::Fault;
-use std::alloc::{AllocError, Global};
+use row_tables::{Fault, Found};
+use std::alloc::Global;
 
 const NAME: &str = "single.json";
 
-/// Writes the text of the manifest's single file.
-pub(crate) fn find_single(
-    alloc: Global,
-    manifest: &Manifest,
-    found: &mut String,
-) -> Result<(), AllocError> {
-    let tree = single(alloc, manifest)?;
-    add_tree(alloc, &tree, found)
+/// Adds the text of the manifest's single file.
+pub(crate) fn add_single(alloc: Global, manifest: &Manifest, found: &mut Found) {
+    match single(alloc, manifest) {
+        Ok(tree) => add_tree(alloc, &tree, found),
+        Err(_) => found.lack_memory(),
+    }
 }
 
-/// Writes `same` where a shelf with that file alone gives a manifest of the same single file, or else the text of that one's.
+/// Adds `same` where a shelf with that file alone gives a manifest of the same single file, or else the text of that one's.
 pub(crate) fn find_rereading(
     alloc: Global,
     manifest: &Manifest,
-    found: &mut String,
+    found: &mut Found,
 ) -> Result<(), Fault> {
-    let mut text = String::new(alloc);
-    find_single(alloc, manifest, &mut text)?;
-    find_again(alloc, text.as_str(), manifest.channel.as_str(), found)
+    let mut file = Found::new(alloc);
+    add_single(alloc, manifest, &mut file);
+    let mut shelf = MemShelf::new(alloc, &[])?;
+    find_again(
+        alloc,
+        &mut shelf,
+        file.as_str(),
+        manifest.channel.as_str(),
+        found,
+    )
 }
 
-fn find_again(alloc: Global, text: &str, channel: &str, found: &mut String) -> Result<(), Fault> {
-    let again = linked_again(alloc, text, channel)?;
-    let outcome = find_single(alloc, &again, found);
-    drop(again);
-    outcome?;
+fn find_again(
+    alloc: Global,
+    shelf: &mut MemShelf,
+    text: &str,
+    channel: &str,
+    found: &mut Found,
+) -> Result<(), Fault> {
+    shelf.add(alloc, NAME, text.as_bytes())?;
+    match link(alloc, shelf, NAME, channel) {
+        Ok(again) => Ok(add_again(alloc, &again, text, found)),
+        Err(_) => Err(Fault::NoRow),
+    }
+}
+
+fn add_again(alloc: Global, again: &Manifest, text: &str, found: &mut Found) {
+    add_single(alloc, again, found);
     if found.as_str() == text {
         found.clear();
-        found.push_str("same")?;
+        found.text("same")
     }
-    Ok(())
-}
-
-fn linked_again(alloc: Global, text: &str, channel: &str) -> Result<Manifest, Fault> {
-    let mut shelf = MemShelf::new(alloc, &[])?;
-    shelf.add(alloc, NAME, text.as_bytes())?;
-    link(alloc, &mut shelf, NAME, channel)
-        .ok()
-        .ok_or(Fault::NoRow)
 }

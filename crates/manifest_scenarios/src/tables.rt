@@ -1,23 +1,24 @@
 //! Tables of objects, and how high and how heavy objects are.
 use crate::trees::{tree_of, type_of};
+use crate::values::find_of_type;
 use fml_types::{
     ByName, EnumDefinition, Field, GroundFault, ObjectDefinition, Text, TypeTable, Ungrounded,
     grounded,
 };
 use json_tree::Tree;
-use row_tables::{Fault, add_texts, cut, number};
+use row_tables::{Fault, Found, cut, number};
 use std::alloc::{AllocError, Global};
 
-/// A table without types.
-pub(crate) fn empty_table(alloc: Global) -> TypeTable {
+// A table without types.
+fn empty_table(alloc: Global) -> TypeTable {
     TypeTable {
         enums: ByName::new(alloc),
         objects: ByName::new(alloc),
     }
 }
 
-/// Adds the objects that the lines are, and the enum `Side` of `left` and `right`.
-pub(crate) fn read_table(alloc: Global, rows: &str, types: &mut TypeTable) -> Result<(), Fault> {
+// Adds the objects that the lines are, and the enum `Side` of `left` and `right`.
+fn read_table(alloc: Global, rows: &str, types: &mut TypeTable) -> Result<(), Fault> {
     add_side(alloc, &mut types.enums)?;
     read_objects(alloc, rows, &mut types.objects)
 }
@@ -119,51 +120,59 @@ fn default_of(alloc: Global, text: &str) -> Result<Option<Tree>, Fault> {
     Ok(Some(tree_of(alloc, text.as_bytes())?))
 }
 
-/// Writes `ok`, or what the table of these lines is refused for.
-pub(crate) fn find_grounding(alloc: Global, rows: &str, found: &mut String) -> Result<(), Fault> {
-    let mut types = empty_table(alloc);
-    let outcome = find_grounding_of(alloc, rows, &mut types, found);
-    drop(types);
-    outcome
-}
-
-fn find_grounding_of(
+/// What is found of a row on the table of these lines.
+pub(crate) fn find_by_table(
     alloc: Global,
     rows: &str,
-    types: &mut TypeTable,
-    found: &mut String,
+    kind: &str,
+    rest: &str,
+    found: &mut Found,
 ) -> Result<(), Fault> {
-    read_table(alloc, rows, types)?;
-    match grounded(alloc, types) {
-        Ok(()) => Ok(found.push_str("ok")?),
-        Err(fault) => Ok(add_fault(&fault, found)?),
+    let mut types = empty_table(alloc);
+    match read_table(alloc, rows, &mut types) {
+        Ok(()) => find_in_table(alloc, &types, kind, rest, found),
+        Err(fault) => Err(fault),
     }
 }
 
-fn add_fault(fault: &GroundFault, found: &mut String) -> Result<(), AllocError> {
+fn find_in_table(
+    alloc: Global,
+    types: &TypeTable,
+    kind: &str,
+    rest: &str,
+    found: &mut Found,
+) -> Result<(), Fault> {
+    if kind == "grounded" {
+        return Ok(add_grounding(alloc, types, found));
+    }
+    let (of, text) = rest.split_once(": ").ok_or(Fault::NoRow)?;
+    let of = type_of(alloc, of)?;
+    find_of_type(alloc, types, &of, kind, text, found)
+}
+
+// Adds `ok`, or what a table is refused for.
+fn add_grounding(alloc: Global, types: &TypeTable, found: &mut Found) {
+    match grounded(alloc, types) {
+        Ok(()) => found.text("ok"),
+        Err(fault) => add_fault(&fault, found),
+    }
+}
+
+fn add_fault(fault: &GroundFault, found: &mut Found) {
     match fault {
         GroundFault::Refused(Ungrounded::EndlessObject(name)) => {
-            add_texts(found, &["endless ", name.as_str()])
+            found.texts(&["endless ", name.as_str()])
         }
         GroundFault::Refused(Ungrounded::ObjectTooLarge(name)) => {
-            add_texts(found, &["large ", name.as_str()])
+            found.texts(&["large ", name.as_str()])
         }
-        GroundFault::OutOfMemory => found.push_str("OutOfMemory"),
+        GroundFault::OutOfMemory => found.lack_memory(),
     }
 }
 
 // ---- heights and weights
 
-// Puts `yes` in the place of what is found where it is this.
-fn say_yes_where(found: &mut String, wanted: &str) -> Result<(), AllocError> {
-    if found.as_str() != wanted {
-        return Ok(());
-    }
-    found.clear();
-    found.push_str("yes")
-}
-
-/// Writes whether an object has this height, of which 33 stands for each that is too high. Row: the name, and the height.
+/// Whether an object has this height, of which 33 stands for each that is too high. Row: the name, and the height.
 ///
 /// A tower stands on such an object, 10, so 11 is one higher, and so on up to 42. The first that is too high, above 32, tells
 /// the height.
@@ -171,86 +180,79 @@ pub(crate) fn find_height(
     alloc: Global,
     rows: &str,
     words: &str,
-    found: &mut String,
+    found: &mut Found,
 ) -> Result<(), Fault> {
     let (name, height) = cut(words);
     let height = number(height).ok_or(Fault::NoRow)?;
-    find_tower(alloc, rows, name, found)?;
-    let wanted = format!(in alloc; "endless {}", 43u64.saturating_sub(height))?;
-    Ok(say_yes_where(found, wanted.as_str())?)
+    let mut tower = Found::new(alloc);
+    add_tower(rows, name, &mut tower);
+    let mut wanted = Found::new(alloc);
+    wanted.text("endless ");
+    wanted.displayed(&43u64.saturating_sub(height));
+    find_whether(alloc, tower.as_str(), wanted.as_str(), found)
 }
 
-fn find_tower(alloc: Global, rows: &str, name: &str, found: &mut String) -> Result<(), Fault> {
-    let mut tower = String::new(alloc);
-    add_tower(rows, name, &mut tower)?;
-    find_grounding(alloc, tower.as_str(), found)
-}
-
-// Adds the rows of a table, and before them those of a tower on a copy of an object.
-fn add_tower(rows: &str, name: &str, tower: &mut String) -> Result<(), AllocError> {
-    add_copy(tower, rows, name)?;
-    for place in 10..42u64 {
-        add_floor(tower, place)?;
-    }
-    tower.push_str(rows)
-}
-
-// Adds an object that needs the one of this number.
-fn add_floor(tower: &mut String, place: u64) -> Result<(), AllocError> {
-    write!(tower, "{}/f/", place.saturating_add(1))?;
-    write!(tower, "{place}/\n")
-}
-
-// Adds the rows of an object as those of the object 10.
-fn add_copy(tower: &mut String, rows: &str, name: &str) -> Result<(), AllocError> {
-    for row in rows.lines() {
-        let (owner, field) = row.split_once('/').unwrap_or(("", ""));
-        if owner == name {
-            add_texts(tower, &["10/", field, "\n"])?;
-        }
+// Whether a table is refused for what is wanted.
+fn find_whether(alloc: Global, rows: &str, wanted: &str, found: &mut Found) -> Result<(), Fault> {
+    find_by_table(alloc, rows, "grounded", "", found)?;
+    if found.as_str() == wanted {
+        found.clear();
+        found.text("yes");
     }
     Ok(())
 }
 
-/// Writes whether an object has this weight. Row: the name, and the weight.
+// Adds the rows of a table, and before them those of a tower on a copy of an object.
+fn add_tower(rows: &str, name: &str, tower: &mut Found) {
+    add_copy(tower, rows, name);
+    for place in 10..42u64 {
+        add_floor(tower, place);
+    }
+    tower.text(rows)
+}
+
+// Adds an object that needs the one of this number.
+fn add_floor(tower: &mut Found, place: u64) {
+    tower.displayed(&place.saturating_add(1));
+    tower.text("/f/");
+    tower.displayed(&place);
+    tower.text("/\n")
+}
+
+// Adds the rows of an object as those of the object 10.
+fn add_copy(tower: &mut Found, rows: &str, name: &str) {
+    for row in rows.lines() {
+        let (owner, field) = row.split_once('/').unwrap_or(("", ""));
+        if owner == name {
+            tower.texts(&["10/", field, "\n"]);
+        }
+    }
+}
+
+/// Whether an object has this weight. Row: the name, and the weight.
 ///
 /// Beside it stand 1, which needs it and weighs 16,384 then, and 2, which weighs one more, and that is too much.
 pub(crate) fn find_weight(
     alloc: Global,
     rows: &str,
     words: &str,
-    found: &mut String,
+    found: &mut Found,
 ) -> Result<(), Fault> {
     let (name, weight) = cut(words);
     let length = 16_292u64.saturating_sub(number(weight).ok_or(Fault::NoRow)?);
-    find_heavy(alloc, rows, name, length, found)?;
-    Ok(say_yes_where(found, "large 2")?)
-}
-
-fn find_heavy(
-    alloc: Global,
-    rows: &str,
-    name: &str,
-    length: u64,
-    found: &mut String,
-) -> Result<(), Fault> {
-    let mut heavy = String::new(alloc);
-    add_heavy(rows, name, length, &mut heavy)?;
-    find_grounding(alloc, heavy.as_str(), found)
-}
-
-fn add_heavy(rows: &str, name: &str, length: u64, heavy: &mut String) -> Result<(), AllocError> {
-    add_named(heavy, "1", length, name)?;
-    add_named(heavy, "2", length.saturating_add(1), name)?;
-    heavy.push_str(rows)
+    let mut heavy = Found::new(alloc);
+    add_named(&mut heavy, "1", length, name);
+    add_named(&mut heavy, "2", length.saturating_add(1), name);
+    heavy.text(rows);
+    find_whether(alloc, heavy.as_str(), "large 2", found)
 }
 
 // Adds an object that needs this one, by a field whose name has so many bytes. It weighs 92 more than these and the one that
 // it needs.
-fn add_named(rows: &mut String, name: &str, length: u64, needed: &str) -> Result<(), AllocError> {
-    add_texts(rows, &[name, "/"])?;
+fn add_named(rows: &mut Found, name: &str, length: u64, needed: &str) {
+    rows.texts(&[name, "/"]);
     for _ in 0..length {
-        rows.push_str("x")?;
+        rows.text("x");
     }
-    add_texts(rows, &["/", needed, "/\n"])
+    rows.texts(&["/", needed, "/\n"])
 }

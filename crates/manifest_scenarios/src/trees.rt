@@ -1,9 +1,9 @@
 //! Trees, and what is found in words.
 use fml_types::{FieldType, read_type};
 use json_tree::{Tree, read, write};
-use row_tables::{Fault, add_texts};
+use row_tables::{Fault, Found};
 use sequences::Text;
-use std::alloc::{AllocError, Global};
+use std::alloc::Global;
 
 pub(crate) fn type_of(alloc: Global, text: &str) -> Result<FieldType, Fault> {
     match read_type(alloc, text) {
@@ -20,17 +20,18 @@ pub(crate) fn tree_of(alloc: Global, bytes: &[u8]) -> Result<Tree, Fault> {
 }
 
 /// Adds the text of a tree.
-pub(crate) fn add_tree(alloc: Global, tree: &Tree, found: &mut String) -> Result<(), AllocError> {
-    let text = write(alloc, tree)?;
-    found.push_str(text.as_str())
+pub(crate) fn add_tree(alloc: Global, tree: &Tree, found: &mut Found) {
+    match write(alloc, tree) {
+        Ok(text) => found.text(text.as_str()),
+        Err(_) => found.lack_memory(),
+    }
 }
 
 /// Adds the names, each with a stroke before it.
-pub(crate) fn add_names(found: &mut String, names: &[Text]) -> Result<(), AllocError> {
+pub(crate) fn add_names(found: &mut Found, names: &[Text]) {
     for name in names {
-        add_texts(found, &["|", name.as_str()])?;
+        found.texts(&["|", name.as_str()]);
     }
-    Ok(())
 }
 
 pub(crate) fn word_of(truth: bool) -> &'static str {

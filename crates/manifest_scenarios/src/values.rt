@@ -1,45 +1,45 @@
 //! Types, trees and values of types, and what is laid over them.
-use crate::trees::{add_tree, tree_of, type_of, word_of};
+use crate::trees::{add_tree, tree_of, word_of};
 use fml_merge::{DefaultFault, check_defaults, default_of, overlay, overlay_feature, zero};
 use fml_types::{
     FeatureDefinition, FieldType, Key, Manifest, TypeTable, read_type, without_spaces,
 };
 use fml_value::{Value, check, fits, takes, to_tree};
 use json_tree::Tree;
-use row_tables::{Fault, add_bytes, add_texts, cut};
+use row_tables::{Fault, Found, cut};
 use std::alloc::{AllocError, Global};
 
-/// Writes the text of the type that a text is, without spaces.
-pub(crate) fn find_type(alloc: Global, text: &str, found: &mut String) -> Result<(), Fault> {
+/// Adds the text of the type that a text is, without spaces.
+pub(crate) fn add_type_of(alloc: Global, text: &str, found: &mut Found) {
     match read_type(alloc, text) {
-        Ok(of) => Ok(add_type(&of, found)?),
-        Err(_) => Ok(found.push_str("no type")?),
+        Ok(of) => add_type(&of, found),
+        Err(_) => found.text("no type"),
     }
 }
 
-fn add_type(of: &FieldType, found: &mut String) -> Result<(), AllocError> {
+fn add_type(of: &FieldType, found: &mut Found) {
     match of {
-        FieldType::Boolean => found.push_str("Boolean"),
-        FieldType::Int => found.push_str("Int"),
-        FieldType::String => found.push_str("String"),
-        FieldType::Text => found.push_str("Text"),
-        FieldType::Image => found.push_str("Image"),
+        FieldType::Boolean => found.text("Boolean"),
+        FieldType::Int => found.text("Int"),
+        FieldType::String => found.text("String"),
+        FieldType::Text => found.text("Text"),
+        FieldType::Image => found.text("Image"),
         FieldType::Option(inner) => {
-            found.push_str("Option<")?;
-            add_type(inner.get(), found)?;
-            found.push_str(">")
+            found.text("Option<");
+            add_type(inner.get(), found);
+            found.text(">")
         }
         FieldType::List(inner) => {
-            found.push_str("List<")?;
-            add_type(inner.get(), found)?;
-            found.push_str(">")
+            found.text("List<");
+            add_type(inner.get(), found);
+            found.text(">")
         }
         FieldType::Map(key, inner) => {
-            add_texts(found, &["Map<", key_name(key), ","])?;
-            add_type(inner.get(), found)?;
-            found.push_str(">")
+            found.texts(&["Map<", key_name(key), ","]);
+            add_type(inner.get(), found);
+            found.text(">")
         }
-        FieldType::Named(name) => found.push_str(name.as_str()),
+        FieldType::Named(name) => found.text(name.as_str()),
     }
 }
 
@@ -50,91 +50,54 @@ fn key_name(key: &Key) -> &str {
     }
 }
 
-/// Writes what stands between the spaces around a text, with a stroke on each side.
-pub(crate) fn find_spaces(text: &str, found: &mut String) -> Result<(), Fault> {
-    found.push_str("|")?;
-    add_bytes(found, without_spaces(text.as_bytes()))?;
-    Ok(found.push_str("|")?)
+/// Adds what stands between the spaces around a text, with a stroke on each side.
+pub(crate) fn add_without_spaces(text: &str, found: &mut Found) {
+    found.text("|");
+    found.bytes(without_spaces(text.as_bytes()));
+    found.text("|")
 }
 
-// A type and a tree.
-#[derive(Drop)]
-struct TypedTree {
-    of: FieldType,
-    tree: Tree,
-}
-
-fn typed_tree(alloc: Global, row: &str) -> Result<TypedTree, Fault> {
-    let (of, text) = row.split_once(": ").ok_or(Fault::NoRow)?;
+/// What is found of a type and a text. Of the kind `tree` it is whether the type takes the tree and whether the tree fits it, and of
+/// `value` the kind of the value whose tree this is. Of `lay` it is the tree that comes of it where a patch is laid over a value or
+/// over the type's zero; the text is the value's tree or `zero`, and the patch.
+pub(crate) fn find_of_type(
+    alloc: Global,
+    types: &TypeTable,
+    of: &FieldType,
+    kind: &str,
+    text: &str,
+    found: &mut Found,
+) -> Result<(), Fault> {
+    if kind == "lay" {
+        return find_laid(alloc, types, of, text, found);
+    }
     let tree = tree_of(alloc, text.as_bytes())?;
-    Ok(TypedTree {
-        of: type_of(alloc, of)?,
-        tree,
-    })
-}
-
-/// Writes whether a type takes a tree, and whether the tree fits it. Row: the type and the tree.
-pub(crate) fn find_fit(
-    alloc: Global,
-    types: &TypeTable,
-    row: &str,
-    found: &mut String,
-) -> Result<(), Fault> {
-    let typed = typed_tree(alloc, row)?;
-    let outcome = add_fit(types, &typed.of, &typed.tree, found);
-    drop(typed);
-    Ok(outcome?)
-}
-
-fn add_fit(
-    types: &TypeTable,
-    of: &FieldType,
-    tree: &Tree,
-    found: &mut String,
-) -> Result<(), AllocError> {
-    let taken = word_of(takes(types, of, tree));
-    let fitting = word_of(fits(types, of, tree));
-    add_texts(found, &["takes ", taken, ", fits ", fitting])
-}
-
-/// Writes the kind of the value whose tree this is. Where a copy of the value has another tree, that tree. Row: the type and the
-/// tree.
-pub(crate) fn find_kind(
-    alloc: Global,
-    types: &TypeTable,
-    row: &str,
-    found: &mut String,
-) -> Result<(), Fault> {
-    let typed = typed_tree(alloc, row)?;
-    let outcome = add_kind(alloc, types, &typed.of, &typed.tree, found);
-    drop(typed);
-    Ok(outcome?)
-}
-
-fn add_kind(
-    alloc: Global,
-    types: &TypeTable,
-    of: &FieldType,
-    tree: &Tree,
-    found: &mut String,
-) -> Result<(), AllocError> {
-    match check(alloc, types, of, tree)? {
-        Some(value) => add_kind_of_copy(alloc, &value, tree, found),
-        None => found.push_str("none"),
+    match kind {
+        "tree" => Ok(add_fit(types, of, &tree, found)),
+        _ => Ok(add_kind(alloc, types, of, &tree, found)),
     }
 }
 
-fn add_kind_of_copy(
-    alloc: Global,
-    value: &Value,
-    tree: &Tree,
-    found: &mut String,
-) -> Result<(), AllocError> {
-    let copy = copy_tree(alloc, value)?;
-    if copy == *tree {
-        found.push_str(kind_of(value))
-    } else {
-        add_tree(alloc, &copy, found)
+fn add_fit(types: &TypeTable, of: &FieldType, tree: &Tree, found: &mut Found) {
+    let taken = word_of(takes(types, of, tree));
+    let fitting = word_of(fits(types, of, tree));
+    found.texts(&["takes ", taken, ", fits ", fitting])
+}
+
+fn add_kind(alloc: Global, types: &TypeTable, of: &FieldType, tree: &Tree, found: &mut Found) {
+    match check(alloc, types, of, tree) {
+        Ok(Some(value)) => add_kind_of(alloc, &value, tree, found),
+        Ok(None) => found.text("none"),
+        Err(_) => found.lack_memory(),
+    }
+}
+
+// Adds the kind of a value, or the tree of its copy where that is another one than this.
+fn add_kind_of(alloc: Global, value: &Value, tree: &Tree, found: &mut Found) {
+    match copy_tree(alloc, value) {
+        Ok(copy) if copy == *tree => found.text(kind_of(value)),
+        Ok(copy) => add_tree(alloc, &copy, found),
+        Err(_) => found.lack_memory(),
     }
 }
 
@@ -159,47 +122,40 @@ fn kind_of(value: &Value) -> &str {
 }
 
 // Adds the text of the value's tree.
-fn add_value(alloc: Global, value: &Value, found: &mut String) -> Result<(), AllocError> {
-    let tree = to_tree(alloc, value)?;
-    add_tree(alloc, &tree, found)
+fn add_value(alloc: Global, value: &Value, found: &mut Found) {
+    match to_tree(alloc, value) {
+        Ok(tree) => add_tree(alloc, &tree, found),
+        Err(_) => found.lack_memory(),
+    }
 }
 
-/// Writes the tree that comes of it where a patch is laid over a value or over the type's zero. Row: the type, the value's tree or
-/// `zero`, and the patch.
-pub(crate) fn find_laid(
-    alloc: Global,
-    types: &TypeTable,
-    row: &str,
-    found: &mut String,
-) -> Result<(), Fault> {
-    let (of, rest) = row.split_once(": ").ok_or(Fault::NoRow)?;
-    let of = type_of(alloc, of)?;
-    find_laid_of(alloc, types, &of, rest, found)
-}
-
-fn find_laid_of(
+fn find_laid(
     alloc: Global,
     types: &TypeTable,
     of: &FieldType,
-    rest: &str,
-    found: &mut String,
+    text: &str,
+    found: &mut Found,
 ) -> Result<(), Fault> {
-    let (base, patch) = rest.split_once(": ").ok_or(Fault::NoRow)?;
+    let (base, patch) = text.split_once(": ").ok_or(Fault::NoRow)?;
     let patch = tree_of(alloc, patch.as_bytes())?;
-    find_laid_over(alloc, types, of, base, &patch, found)
+    match base_of(alloc, types, of, base) {
+        Ok(base) => Ok(add_laid(alloc, types, of, base, &patch, found)),
+        Err(fault) => Err(fault),
+    }
 }
 
-fn find_laid_over(
+fn add_laid(
     alloc: Global,
     types: &TypeTable,
     of: &FieldType,
-    base: &str,
+    base: Value,
     patch: &Tree,
-    found: &mut String,
-) -> Result<(), Fault> {
-    let base = base_of(alloc, types, of, base)?;
-    let value = overlay(alloc, types, of, base, patch)?;
-    Ok(add_value(alloc, &value, found)?)
+    found: &mut Found,
+) {
+    match overlay(alloc, types, of, base, patch) {
+        Ok(value) => add_value(alloc, &value, found),
+        Err(_) => found.lack_memory(),
+    }
 }
 
 // The value of a type whose tree this is, or the type's zero.
@@ -211,54 +167,44 @@ fn base_of(alloc: Global, types: &TypeTable, of: &FieldType, text: &str) -> Resu
     check(alloc, types, of, &tree)?.ok_or(Fault::NoRow)
 }
 
-/// Writes the tree of a feature's default. Row: the name of the feature.
+/// The tree of a feature's default, with a patch laid over it where one stands here. Row: the name of the feature, and the patch.
 pub(crate) fn find_default(
     alloc: Global,
     manifest: &Manifest,
-    name: &str,
-    found: &mut String,
-) -> Result<(), Fault> {
-    let feature = manifest.features.get(name).ok_or(Fault::NoRow)?;
-    let value = default_of(alloc, manifest, feature)?;
-    Ok(add_value(alloc, &value, found)?)
-}
-
-/// Writes the tree of a feature's default with a patch laid over it. Row: the name of the feature, and the patch.
-pub(crate) fn find_laid_feature(
-    alloc: Global,
-    manifest: &Manifest,
     row: &str,
-    found: &mut String,
+    found: &mut Found,
 ) -> Result<(), Fault> {
     let (name, patch) = cut(row);
     let feature = manifest.features.get(name).ok_or(Fault::NoRow)?;
-    let patch = tree_of(alloc, patch.as_bytes())?;
-    Ok(add_laid_feature(alloc, manifest, feature, &patch, found)?)
+    match default_of(alloc, manifest, feature) {
+        Ok(value) if patch.is_empty() => Ok(add_value(alloc, &value, found)),
+        Ok(value) => find_laid_over(alloc, manifest, feature, value, patch, found),
+        Err(_) => Err(Fault::OutOfMemory),
+    }
 }
 
-fn add_laid_feature(
+fn find_laid_over(
     alloc: Global,
     manifest: &Manifest,
     feature: &FeatureDefinition,
-    patch: &Tree,
-    found: &mut String,
-) -> Result<(), AllocError> {
-    let value = default_of(alloc, manifest, feature)?;
-    let value = overlay_feature(alloc, manifest, feature, value, patch)?;
-    add_value(alloc, &value, found)
+    value: Value,
+    patch: &str,
+    found: &mut Found,
+) -> Result<(), Fault> {
+    let patch = tree_of(alloc, patch.as_bytes())?;
+    match overlay_feature(alloc, manifest, feature, value, &patch) {
+        Ok(value) => Ok(add_value(alloc, &value, found)),
+        Err(_) => Err(Fault::OutOfMemory),
+    }
 }
 
-/// Writes `ok`, or the owner and the place of the first default that doesn't fit.
-pub(crate) fn find_defaults(
-    alloc: Global,
-    manifest: &Manifest,
-    found: &mut String,
-) -> Result<(), Fault> {
+/// Adds `ok`, or the owner and the place of the first default that doesn't fit.
+pub(crate) fn add_defaults(alloc: Global, manifest: &Manifest, found: &mut Found) {
     match check_defaults(alloc, manifest) {
-        Ok(()) => Ok(found.push_str("ok")?),
+        Ok(()) => found.text("ok"),
         Err(DefaultFault::BadDefault { owner, place }) => {
-            Ok(add_texts(found, &[owner.as_str(), " ", place.as_str()])?)
+            found.texts(&[owner.as_str(), " ", place.as_str()])
         }
-        Err(DefaultFault::OutOfMemory) => Err(Fault::OutOfMemory),
+        Err(DefaultFault::OutOfMemory) => found.lack_memory(),
     }
 }
