@@ -1,12 +1,13 @@
-//! The host of a scenario, and calls on it, on sources and on shelves.
+//! The host of a scenario, its sides, and calls on it.
 ghost use Rattle.std.specs.Prelude.{[], ◌^◌, ◌-◌};
 
-use crate::text::{add_done, add_number, bytes_of, count, cut, number, side};
+use crate::bytes::Bytes;
+use crate::words::Words;
 use host_model::{Choice, DiskFailed, Host, MemHost, SayFailed, Side};
 use std::alloc::{AllocError, Global};
 
 /// A host in memory that tells nothing of what it holds. It counts the bytes that are written, and where they end. An endless
-/// one keeps none of them, and no call on it fails.
+/// one keeps none of them, and no write or sync of it fails.
 #[derive(Drop)]
 pub(crate) struct ScenarioHost {
     memory: MemHost,
@@ -16,45 +17,31 @@ pub(crate) struct ScenarioHost {
 }
 
 impl ScenarioHost {
-    /// A host with these bytes on its sides and room for so many on each, whose call of this number fails.
+    /// A host with these bytes on its sides and room for so many on each, whose call of this number fails, or none at 0.
     pub(crate) fn new(
         alloc: Global,
         left: &[u8],
         right: &[u8],
         room: usize,
-        failing: Option<u64>,
+        failing: u64,
     ) -> Result<ScenarioHost, AllocError> {
         let room = room.max(left.len()).max(right.len());
-        let memory = match failing {
-            Some(call) => MemHost::new(alloc, left, right, room, &[call])?,
-            None => MemHost::new(alloc, left, right, room, &[])?,
-        };
         Ok(ScenarioHost {
-            memory,
+            memory: MemHost::new(alloc, left, right, room, &[failing])?,
             is_endless: false,
             written: 0,
             end: 0,
         })
     }
 
-    /// A host that keeps nothing.
-    pub(crate) fn endless(alloc: Global) -> Result<ScenarioHost, AllocError> {
-        Ok(ScenarioHost {
-            memory: MemHost::new(alloc, b"", b"", 0, &[])?,
-            is_endless: true,
-            written: 0,
-            end: 0,
-        })
+    /// From here on it keeps nothing that is written.
+    pub(crate) fn be_endless(&mut self) {
+        self.is_endless = true;
     }
 
-    /// What a crash may leave on a side.
-    pub(crate) fn image(
-        &self,
-        alloc: Global,
-        side: Side,
-        choice: Choice,
-    ) -> Result<Vec<u8>, AllocError> {
-        self.memory.image(alloc, side, choice)
+    /// Makes bytes what a crash may leave on a side.
+    pub(crate) fn set_image(&self, alloc: Global, side: Side, choice: Choice, bytes: &mut Bytes) {
+        bytes.set(self.memory.image(alloc, side, choice));
     }
 
     /// The text said.
@@ -62,9 +49,14 @@ impl ScenarioHost {
         self.memory.said()
     }
 
-    /// How many bytes were written since the last call, and where the furthest of them ends.
-    pub(crate) fn writes(&self) -> (u64, u64) {
-        (self.written, self.end)
+    /// How many bytes were written since the last call.
+    pub(crate) fn written(&self) -> u64 {
+        self.written
+    }
+
+    /// Where the furthest of them ends.
+    pub(crate) fn end(&self) -> u64 {
+        self.end
     }
 
     /// Counts from here on.
@@ -132,98 +124,112 @@ impl Host for ScenarioHost {
     }
 }
 
-/// A call on the host itself.
-#[derive(Clone, Copy)]
-pub(crate) enum HostCall<'a> {
-    Length(Side),
-    Read(Side, u64, usize),
-    Write(Side, u64, &'a str),
-    Sync(Side),
-    Say(&'a str),
+/// The bytes of both sides.
+#[derive(Drop)]
+pub(crate) struct Sides {
+    left: Bytes,
+    right: Bytes,
 }
 
-impl<'a> HostCall<'a> {
-    /// The call that a line names.
-    pub(crate) fn of(words: &'a str) -> Option<HostCall<'a>> {
-        let (word, rest) = cut(words);
-        let (name, behind) = cut(rest);
-        let (place, last) = cut(behind);
-        match word {
-            "length" => Some(HostCall::Length(side(name)?)),
-            "read" => Some(HostCall::Read(side(name)?, number(place)?, count(last)?)),
-            "write" => Some(HostCall::Write(side(name)?, number(place)?, last)),
-            "sync" => Some(HostCall::Sync(side(name)?)),
-            "say" => Some(HostCall::Say(rest)),
-            _ => None,
+impl Sides {
+    /// What a crash may leave of a host's sides.
+    pub(crate) fn of(alloc: Global, host: &ScenarioHost, left: Choice, right: Choice) -> Sides {
+        let mut sides = Sides {
+            left: Bytes::new(alloc),
+            right: Bytes::new(alloc),
+        };
+        host.set_image(alloc, Side::Left, left, &mut sides.left);
+        host.set_image(alloc, Side::Right, right, &mut sides.right);
+        sides
+    }
+
+    /// A side.
+    pub(crate) fn side(&mut self, side: Side) -> &mut Bytes {
+        match side {
+            Side::Left => &mut self.left,
+            Side::Right => &mut self.right,
         }
+    }
+
+    /// Makes a side the bytes that a text spells.
+    pub(crate) fn write(&mut self, side: Side, text: &str) {
+        let bytes = self.side(side);
+        bytes.clear();
+        bytes.spell(text);
+    }
+
+    /// Takes away all bytes.
+    pub(crate) fn clear(&mut self) {
+        self.left.clear();
+        self.right.clear();
+    }
+
+    /// A host with these sides, whose call of this number fails, or none at 0.
+    pub(crate) fn host(
+        &self,
+        alloc: Global,
+        room: usize,
+        failing: u64,
+    ) -> Result<ScenarioHost, AllocError> {
+        if !self.left.are_whole() || !self.right.are_whole() {
+            return Err(AllocError);
+        }
+        let (left, right) = (self.left.as_slice(), self.right.as_slice());
+        ScenarioHost::new(alloc, left, right, room, failing)
     }
 }
 
-/// Makes a call on a host, and adds its answer.
+/// Makes the call on a host that a line names, and adds its answer.
 pub(crate) fn call_host(
     alloc: Global,
     host: &mut ScenarioHost,
-    call: HostCall<'_>,
-    answer: &mut Vec<u8>,
-) -> Result<(), AllocError> {
-    match call {
-        HostCall::Length(side) => match host.len(side) {
-            Ok(length) => add_number(alloc, length, answer),
-            Err(DiskFailed) => add_done(false, answer),
-        },
-        HostCall::Read(side, at, room) => read(alloc, host, side, at, room, answer),
-        HostCall::Write(side, at, bytes) => write(alloc, host, side, at, bytes, answer),
-        HostCall::Sync(side) => add_done(host.sync(side).is_ok(), answer),
-        HostCall::Say(bytes) => say(alloc, host, bytes, answer),
+    words: &mut Words<'_>,
+    answer: &mut Bytes,
+) {
+    match words.word() {
+        "length" => add_length(host.len(words.side()), answer),
+        "read" => read(alloc, host, words, answer),
+        "write" => write(alloc, host, words, answer),
+        "sync" => answer.done(host.sync(words.side()).is_ok()),
+        "say" => say(alloc, host, words.rest(), answer),
+        _ => words.refuse(),
     }
 }
 
-fn read(
-    alloc: Global,
-    host: &mut ScenarioHost,
-    side: Side,
-    at: u64,
-    room: usize,
-    answer: &mut Vec<u8>,
-) -> Result<(), AllocError> {
-    let mut piece = vec![in alloc; b'-'; room.min(64)]?;
-    let placed = host.read(side, at, &mut piece).ok();
-    add_read(alloc, placed, &piece, answer)
+fn add_length(length: Result<u64, DiskFailed>, answer: &mut Bytes) {
+    match length {
+        Ok(length) => answer.shown(&length),
+        Err(DiskFailed) => answer.done(false),
+    }
 }
 
-fn write(
-    alloc: Global,
-    host: &mut ScenarioHost,
-    side: Side,
-    at: u64,
-    bytes: &str,
-    answer: &mut Vec<u8>,
-) -> Result<(), AllocError> {
-    let bytes = bytes_of(alloc, bytes)?;
-    add_done(host.write_at(side, at, &bytes).is_ok(), answer)
-}
-
-fn say(
-    alloc: Global,
-    host: &mut ScenarioHost,
-    bytes: &str,
-    answer: &mut Vec<u8>,
-) -> Result<(), AllocError> {
-    let bytes = bytes_of(alloc, bytes)?;
-    add_done(host.say(&bytes).is_ok(), answer)
+fn read(alloc: Global, host: &mut ScenarioHost, words: &mut Words<'_>, answer: &mut Bytes) {
+    let (side, at, room) = (words.side(), words.number(), words.count());
+    let mut piece = Bytes::new(alloc);
+    piece.fill(b'-', room.min(64));
+    let placed = host.read(side, at, piece.as_mut_slice()).ok();
+    add_read(placed, &piece, answer);
 }
 
 /// Adds how many bytes a read has placed, and the whole piece.
-pub(crate) fn add_read(
-    alloc: Global,
-    placed: Option<usize>,
-    piece: &[u8],
-    answer: &mut Vec<u8>,
-) -> Result<(), AllocError> {
+pub(crate) fn add_read(placed: Option<usize>, piece: &Bytes, answer: &mut Bytes) {
     match placed {
-        Some(count) => add_number(alloc, count as u64, answer)?,
-        None => add_done(false, answer)?,
+        Some(count) => answer.shown(&count),
+        None => answer.done(false),
     }
-    answer.extend_from_slice(b" ")?;
-    answer.extend_from_slice(piece)
+    answer.text(" ");
+    answer.add_all(piece);
+}
+
+fn write(alloc: Global, host: &mut ScenarioHost, words: &mut Words<'_>, answer: &mut Bytes) {
+    let (side, at) = (words.side(), words.number());
+    let bytes = Bytes::spelled(alloc, words.rest());
+    answer.needs(&bytes);
+    answer.done(host.write_at(side, at, bytes.as_slice()).is_ok());
+}
+
+fn say(alloc: Global, host: &mut ScenarioHost, text: &str, answer: &mut Bytes) {
+    let bytes = Bytes::spelled(alloc, text);
+    answer.needs(&bytes);
+    answer.done(host.say(bytes.as_slice()).is_ok());
 }

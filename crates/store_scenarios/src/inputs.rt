@@ -1,117 +1,100 @@
 //! Calls on sources and on shelves.
+use crate::bytes::Bytes;
 use crate::hosts::add_read;
-use crate::text::{add_done, bytes_of, count, cut, number};
+use crate::words::Words;
 use host_model::{MemShelf, MemSource, Shelf, ShelfAnswer, Source};
-use std::alloc::{AllocError, Global};
+use std::alloc::Global;
 
-/// The source and the shelf of a scenario.
+/// The source and the shelf of a scenario, where it has them.
 #[derive(Drop)]
 pub(crate) struct Inputs {
-    source: MemSource,
-    shelf: MemShelf,
-}
-
-/// A call on the source or the shelf, or what makes them anew.
-#[derive(Clone, Copy)]
-pub(crate) enum InputCall<'a> {
-    Source(usize, u64, &'a str),
-    Pull(usize),
-    Shelf(u64),
-    File(&'a str, &'a str),
-    Take(&'a str),
-}
-
-impl<'a> InputCall<'a> {
-    /// The call that a line names.
-    pub(crate) fn of(word: &str, rest: &'a str) -> Option<InputCall<'a>> {
-        let (first, behind) = cut(rest);
-        let (second, last) = cut(behind);
-        match word {
-            "source" => Some(InputCall::Source(count(first)?, number(second)?, last)),
-            "pull" => Some(InputCall::Pull(count(rest)?)),
-            "shelf" => Some(InputCall::Shelf(number(rest)?)),
-            "file" => Some(InputCall::File(first, behind)),
-            "take" => Some(InputCall::Take(rest)),
-            _ => None,
-        }
-    }
+    source: Option<MemSource>,
+    shelf: Option<MemShelf>,
 }
 
 impl Inputs {
-    /// An empty source and an empty shelf.
-    pub(crate) fn new(alloc: Global) -> Result<Inputs, AllocError> {
-        let source = MemSource::new(alloc, b"", 1, &[])?;
-        Ok(Inputs {
-            source,
-            shelf: MemShelf::new(alloc, &[])?,
-        })
+    /// None is there.
+    pub(crate) fn new() -> Inputs {
+        Inputs {
+            source: None,
+            shelf: None,
+        }
     }
 }
 
-/// Makes a call on the source or the shelf, and adds its answer.
+/// Makes the call on the source or the shelf that a line names, or makes one of them, and adds the answer.
 pub(crate) fn call_inputs(
     alloc: Global,
     inputs: &mut Inputs,
-    call: InputCall<'_>,
-    answer: &mut Vec<u8>,
-) -> Result<(), AllocError> {
-    match call {
-        InputCall::Source(piece, failing, bytes) => {
-            set_source(alloc, &mut inputs.source, piece, failing, bytes)?;
-            add_done(true, answer)
-        }
-        InputCall::Pull(room) => pull(alloc, &mut inputs.source, room, answer),
-        InputCall::Shelf(failing) => {
-            inputs.shelf = MemShelf::new(alloc, &[failing])?;
-            add_done(true, answer)
-        }
-        InputCall::File(name, bytes) => {
-            add_file(alloc, &mut inputs.shelf, name, bytes)?;
-            add_done(true, answer)
-        }
-        InputCall::Take(name) => add_taken(inputs.shelf.take(alloc, name), answer),
+    word: &str,
+    words: &mut Words<'_>,
+    answer: &mut Bytes,
+) {
+    match word {
+        "source" => make_source(alloc, &mut inputs.source, words, answer),
+        "shelf" => make_shelf(alloc, &mut inputs.shelf, words.number(), answer),
+        "pull" => match &mut inputs.source {
+            Some(source) => pull(alloc, source, words.count(), answer),
+            None => words.refuse(),
+        },
+        _ => match &mut inputs.shelf {
+            Some(shelf) => call_shelf(alloc, shelf, word, words, answer),
+            None => words.refuse(),
+        },
     }
 }
 
-fn set_source(
+fn make_source(
     alloc: Global,
-    source: &mut MemSource,
-    piece: usize,
-    failing: u64,
-    bytes: &str,
-) -> Result<(), AllocError> {
-    let bytes = bytes_of(alloc, bytes)?;
-    *source = MemSource::new(alloc, &bytes, piece.max(1), &[failing])?;
-    Ok(())
+    source: &mut Option<MemSource>,
+    words: &mut Words<'_>,
+    answer: &mut Bytes,
+) {
+    let (piece, failing) = (words.count().max(1), words.number());
+    let bytes = Bytes::spelled(alloc, words.rest());
+    answer.needs(&bytes);
+    *source = MemSource::new(alloc, bytes.as_slice(), piece, &[failing]).ok();
+    answer.done(source.is_some());
 }
 
-fn pull(
-    alloc: Global,
-    source: &mut MemSource,
-    room: usize,
-    answer: &mut Vec<u8>,
-) -> Result<(), AllocError> {
-    let mut piece = vec![in alloc; b'-'; room.min(64)]?;
-    let placed = source.read(&mut piece).ok();
-    add_read(alloc, placed, &piece, answer)
+fn make_shelf(alloc: Global, shelf: &mut Option<MemShelf>, failing: u64, answer: &mut Bytes) {
+    *shelf = MemShelf::new(alloc, &[failing]).ok();
+    answer.done(shelf.is_some());
 }
 
-fn add_file(
+fn pull(alloc: Global, source: &mut MemSource, room: usize, answer: &mut Bytes) {
+    let mut piece = Bytes::new(alloc);
+    piece.fill(b'-', room.min(64));
+    let placed = source.read(piece.as_mut_slice()).ok();
+    add_read(placed, &piece, answer);
+}
+
+fn call_shelf(
     alloc: Global,
     shelf: &mut MemShelf,
-    name: &str,
-    bytes: &str,
-) -> Result<(), AllocError> {
-    let bytes = bytes_of(alloc, bytes)?;
-    shelf.add(alloc, name, &bytes)
+    word: &str,
+    words: &mut Words<'_>,
+    answer: &mut Bytes,
+) {
+    match word {
+        "file" => add_file(alloc, shelf, words, answer),
+        _ => add_taken(shelf.take(alloc, words.rest()), answer),
+    }
 }
 
-fn add_taken(taken: ShelfAnswer, answer: &mut Vec<u8>) -> Result<(), AllocError> {
+fn add_file(alloc: Global, shelf: &mut MemShelf, words: &mut Words<'_>, answer: &mut Bytes) {
+    let name = words.word();
+    let bytes = Bytes::spelled(alloc, words.rest());
+    answer.needs(&bytes);
+    answer.done(shelf.add(alloc, name, bytes.as_slice()).is_ok());
+}
+
+fn add_taken(taken: ShelfAnswer, answer: &mut Bytes) {
     match taken {
-        ShelfAnswer::Bytes(file) => answer.extend_from_slice(file.as_slice()),
-        ShelfAnswer::Absent => answer.extend_from_slice(b"Absent"),
-        ShelfAnswer::TooLarge(_) => answer.extend_from_slice(b"TooLarge"),
-        ShelfAnswer::Failed => answer.extend_from_slice(b"Failed"),
-        ShelfAnswer::OutOfMemory => answer.extend_from_slice(b"OutOfMemory"),
+        ShelfAnswer::Bytes(file) => answer.add(file.as_slice()),
+        ShelfAnswer::Absent => answer.text("Absent"),
+        ShelfAnswer::TooLarge(_) => answer.text("TooLarge"),
+        ShelfAnswer::Failed => answer.text("Failed"),
+        ShelfAnswer::OutOfMemory => answer.text("OutOfMemory"),
     }
 }

@@ -1,205 +1,152 @@
 //! Calls on row stores.
-ghost use Rattle.std.specs.Prelude.{◌≡◌, ◌≤◌, length, IfOk, IsTrue};
+ghost use Rattle.std.specs.Prelude.{◌≡◌, ◌≤◌, length, IfSome, IsTrue};
 ghost use Rattle.gate_journal.specs.declared.frame.TheConstants.{MAX_PAYLOAD};
 ghost use Rattle.pair_store.specs.declared.mark.TheConstants.{MAX_WHOLE};
 ghost use Rattle.row_batches.specs.Batch.{applied, batch_text, whole_of};
 ghost use Rattle.row_store.specs.Ready.{IsReadyFor};
 
 use crate::batches::{add_rows, read_batch};
+use crate::bytes::Bytes;
 use crate::hosts::ScenarioHost;
-use crate::text::{add_done, add_fault, bytes_of};
+use crate::states::{Question, answer_of_rows};
+use crate::words::Words;
 use gate_journal::MAX_PAYLOAD;
 use pair_store::MAX_WHOLE;
-use row_batches::{Batch, StoreRow};
+use row_batches::Batch;
 use row_store::{Ready, RowStore};
-use state_codec::{CodecFault, state_of};
 use std::alloc::{AllocError, Global};
 
-/// Makes a row store of the puts behind a clear.
-pub(crate) fn make_rows(
+/// Makes the call on a row store that a line names, and adds its answer.
+pub(crate) fn call_rows(
     alloc: Global,
+    rows: &mut Option<RowStore>,
     host: &mut ScenarioHost,
-    changes: &str,
-    answer: &mut Vec<u8>,
-) -> Result<(), AllocError> {
-    match read_batch(alloc, changes)? {
-        None => answer.extend_from_slice(b"no batch"),
-        Some(whole) if !whole.is_clear() || whole.size() > MAX_WHOLE as u128 => {
-            answer.extend_from_slice(b"no such making")
-        }
-        Some(whole) => match RowStore::make(alloc, host, &whole) {
-            Ok(()) => add_done(true, answer),
-            Err(fault) => add_fault(alloc, &fault, answer),
+    words: &mut Words<'_>,
+    answer: &mut Bytes,
+) {
+    match words.word() {
+        "make" => make_rows(alloc, host, words.rest(), answer),
+        "open" => open_rows(alloc, rows, host, "all", answer),
+        "state" => open_rows(alloc, rows, host, "state", answer),
+        word => match rows {
+            Some(rows) => call_open_rows(alloc, rows, host, word, words, answer),
+            None => answer.text("no rows"),
         },
     }
 }
 
-/// Opens the rows, and adds all of them.
-pub(crate) fn open_rows(
+// Makes a row store of the puts behind a clear.
+fn make_rows(alloc: Global, host: &mut ScenarioHost, changes: &str, answer: &mut Bytes) {
+    match read_batch(alloc, changes, answer) {
+        Some(whole) if whole.is_clear() && whole.size() <= MAX_WHOLE as u128 => {
+            match RowStore::make(alloc, host, &whole) {
+                Ok(()) => answer.done(true),
+                Err(fault) => answer.shown(&fault),
+            }
+        }
+        Some(_) => answer.text("no such making"),
+        None => {}
+    }
+}
+
+// Opens the rows, and adds all of them, or whether they are a state's.
+fn open_rows(
     alloc: Global,
     rows: &mut Option<RowStore>,
     host: &mut ScenarioHost,
-    answer: &mut Vec<u8>,
-) -> Result<(), AllocError> {
+    asked: &str,
+    answer: &mut Bytes,
+) {
     match RowStore::open(alloc, host) {
-        Ok(opened) => {
-            *rows = Some(opened);
-            add_all(rows, answer)
-        }
-        Err(fault) => add_fault(alloc, &fault, answer),
+        Ok(opened) => add_opened(alloc, rows.insert(opened), asked, answer),
+        Err(fault) => answer.shown(&fault),
     }
 }
 
-/// Opens the rows, and adds whether they are a state's.
-pub(crate) fn open_state(
+fn add_opened(alloc: Global, rows: &mut RowStore, asked: &str, answer: &mut Bytes) {
+    match asked {
+        "state" => answer_of_rows(alloc, rows.rows(), Question::Form, answer),
+        _ => add_rows(rows.rows(), answer),
+    }
+}
+
+fn call_open_rows(
     alloc: Global,
-    rows: &mut Option<RowStore>,
+    rows: &mut RowStore,
     host: &mut ScenarioHost,
-    answer: &mut Vec<u8>,
-) -> Result<(), AllocError> {
-    match RowStore::open(alloc, host) {
-        Ok(mut opened) => {
-            let added = add_form(alloc, opened.rows(), answer);
-            *rows = Some(opened);
-            added
-        }
-        Err(fault) => add_fault(alloc, &fault, answer),
+    word: &str,
+    words: &mut Words<'_>,
+    answer: &mut Bytes,
+) {
+    match word {
+        "prepare" => prepare(alloc, rows, words.rest(), answer),
+        "commit" => commit(alloc, rows, host, words.rest(), answer),
+        "get" => add_value(alloc, rows, words.rest(), answer),
+        "all" => add_rows(rows.rows(), answer),
+        _ => words.refuse(),
     }
 }
 
-fn add_form(alloc: Global, rows: &[StoreRow], answer: &mut Vec<u8>) -> Result<(), AllocError> {
-    match state_of(alloc, rows) {
-        Ok(state) => {
-            drop(state);
-            answer.extend_from_slice(b"state")
-        }
-        Err(CodecFault::NotAState) => answer.extend_from_slice(b"NotAState"),
-        Err(CodecFault::OutOfMemory) => Err(AllocError),
+// Adds the value under a key, or `none`.
+fn add_value(alloc: Global, rows: &RowStore, key: &str, answer: &mut Bytes) {
+    let key = Bytes::spelled(alloc, key);
+    answer.needs(&key);
+    answer.add(rows.get(key.as_slice()).unwrap_or(b"none"));
+}
+
+// Makes a batch ready, and lets it go.
+fn prepare(alloc: Global, rows: &mut RowStore, changes: &str, answer: &mut Bytes) {
+    if ready_in(alloc, rows, changes, answer).is_some() {
+        answer.done(true);
     }
 }
 
-/// Adds all rows.
-pub(crate) fn add_all(rows: &mut Option<RowStore>, answer: &mut Vec<u8>) -> Result<(), AllocError> {
-    match rows {
-        Some(rows) => add_rows(rows.rows(), answer),
-        None => answer.extend_from_slice(b"no rows"),
-    }
-}
-
-/// Adds the value under a key, or `none`.
-pub(crate) fn add_value(
+// Makes a batch ready, and commits it.
+fn commit(
     alloc: Global,
-    rows: &Option<RowStore>,
-    key: &str,
-    answer: &mut Vec<u8>,
-) -> Result<(), AllocError> {
-    match rows {
-        Some(rows) => add_value_of(alloc, rows, key, answer),
-        None => answer.extend_from_slice(b"no rows"),
-    }
-}
-
-fn add_value_of(
-    alloc: Global,
-    rows: &RowStore,
-    key: &str,
-    answer: &mut Vec<u8>,
-) -> Result<(), AllocError> {
-    let key = bytes_of(alloc, key)?;
-    match rows.get(&key) {
-        Some(value) => answer.extend_from_slice(value),
-        None => answer.extend_from_slice(b"none"),
-    }
-}
-
-/// Makes a batch ready, and lets it go.
-pub(crate) fn prepare(
-    alloc: Global,
-    rows: &mut Option<RowStore>,
-    changes: &str,
-    answer: &mut Vec<u8>,
-) -> Result<(), AllocError> {
-    match rows {
-        Some(rows) => match ready_in(alloc, rows, changes) {
-            Ok(_) => add_done(true, answer),
-            Err(unready) => add_unready(unready, answer),
-        },
-        None => answer.extend_from_slice(b"no rows"),
-    }
-}
-
-/// Makes a batch ready, and commits it.
-pub(crate) fn commit(
-    alloc: Global,
-    rows: &mut Option<RowStore>,
+    rows: &mut RowStore,
     host: &mut ScenarioHost,
     changes: &str,
-    answer: &mut Vec<u8>,
-) -> Result<(), AllocError> {
-    match rows {
-        Some(rows) => match ready_in(alloc, rows, changes) {
-            Ok(ready) => add_done(rows.commit(host, ready).is_ok(), answer),
-            Err(unready) => add_unready(unready, answer),
-        },
-        None => answer.extend_from_slice(b"no rows"),
+    answer: &mut Bytes,
+) {
+    if let Some(ready) = ready_in(alloc, rows, changes, answer) {
+        answer.done(rows.commit(host, ready).is_ok());
     }
 }
 
-// Why a batch was not made ready.
-#[derive(Clone, Copy)]
-enum Unready {
-    NoBatch,
-    TooLong,
-    // `prepare` was refused memory.
-    OutOfMemory,
-    // The scenario was.
-    NoScenario,
-}
-
-impl From<AllocError> for Unready {
-    fn from(_: AllocError) -> Self {
-        Unready::NoScenario
-    }
-}
-
-fn add_unready(unready: Unready, answer: &mut Vec<u8>) -> Result<(), AllocError> {
-    match unready {
-        Unready::NoBatch => answer.extend_from_slice(b"no batch"),
-        Unready::TooLong => answer.extend_from_slice(b"TooLong"),
-        Unready::OutOfMemory => answer.extend_from_slice(b"OutOfMemory"),
-        Unready::NoScenario => Err(AllocError),
-    }
-}
-
-// Makes the batch of words ready.
-fn ready_in(alloc: Global, rows: &mut RowStore, changes: &str) -> Result<Ready, Unready>
-    ensures { IfOk result (λ ready. IsReadyFor rows.new ready) }
+// The batch of words made ready, or `None` after the reason was added.
+fn ready_in(alloc: Global, rows: &mut RowStore, changes: &str, answer: &mut Bytes) -> Option<Ready>
+    ensures { IfSome result (λ ready. IsReadyFor rows.new ready) }
 {
-    match read_batch(alloc, changes)? {
-        Some(batch) => ready_of(alloc, rows, batch),
-        None => Err(Unready::NoBatch),
+    match read_batch(alloc, changes, answer) {
+        Some(batch) => ready_of(alloc, rows, &batch, answer),
+        None => None,
     }
 }
 
-// Makes a batch ready.
-fn ready_of(alloc: Global, rows: &mut RowStore, batch: Batch) -> Result<Ready, Unready>
-    ensures { IfOk result (λ ready. IsReadyFor rows.new ready) }
+fn ready_of(alloc: Global, rows: &mut RowStore, batch: &Batch, answer: &mut Bytes) -> Option<Ready>
+    ensures { IfSome result (λ ready. IsReadyFor rows.new ready) }
 {
-    if !fits(alloc, rows, &batch)? {
-        return Err(Unready::TooLong);
+    if !fits(alloc, rows, batch, answer) {
+        answer.text("TooLong");
+        return None;
     }
-    match rows.prepare(alloc, &batch) {
-        Ok(ready) => Ok(ready),
-        Err(AllocError) => Err(Unready::OutOfMemory),
-    }
+    let ready = rows.prepare(alloc, batch).ok();
+    answer.text(if ready.is_some() { "" } else { "OutOfMemory" });
+    ready
 }
 
 // Whether a batch and the whole of the rows behind it are short enough.
-fn fits(alloc: Global, rows: &mut RowStore, batch: &Batch) -> Result<bool, AllocError>
+fn fits(alloc: Global, rows: &mut RowStore, batch: &Batch, answer: &mut Bytes) -> bool
     ensures same { rows.new ≡ rows.old }
-    ensures size { IfOk result (λ fits. IsTrue fits → length (batch_text batch.now) ≤ MAX_PAYLOAD) }
-    ensures whole_size { IfOk result (λ fits. IsTrue fits → length (batch_text (whole_of (applied batch.now rows.old.rows))) ≤ MAX_WHOLE) }
+    ensures size { IsTrue result → length (batch_text batch.now) ≤ MAX_PAYLOAD }
+    ensures whole_size { IsTrue result → length (batch_text (whole_of (applied batch.now rows.old.rows))) ≤ MAX_WHOLE }
 {
-    let whole = batch.whole_after(alloc, rows.rows())?;
-    Ok(batch.size() <= MAX_PAYLOAD as u128 && whole.len() <= MAX_WHOLE)
+    match batch.whole_after(alloc, rows.rows()) {
+        Ok(whole) => batch.size() <= MAX_PAYLOAD as u128 && whole.len() <= MAX_WHOLE,
+        Err(AllocError) => {
+            answer.lack_memory();
+            false
+        }
+    }
 }

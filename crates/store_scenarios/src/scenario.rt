@@ -1,12 +1,14 @@
 //! A scenario as far as it is done.
 use crate::batches::add_batch_again;
-use crate::directive::Directive;
-use crate::hosts::ScenarioHost;
+use crate::bytes::Bytes;
+use crate::hosts::{ScenarioHost, Sides};
 use crate::inputs::{Inputs, call_inputs};
-use crate::states::{add_change, add_migration};
-use crate::stores::{Call, Layer, Stores, call_store, open_store};
-use crate::text::bytes_of;
+use crate::judging::judge;
+use crate::states::{Question, answer_of_rows, changed_rows};
+use crate::stores::{Stores, call_store, open_over, opening_of};
+use crate::words::Words;
 use host_model::{Choice, Side};
+use state_codec::StoreRow;
 use std::alloc::{AllocError, Global};
 
 /// How many bytes a side may have, unless a scenario says another number.
@@ -14,7 +16,7 @@ const ROOM: usize = 4096;
 
 /// What the lines of a scenario have made so far.
 #[derive(Drop)]
-pub(crate) struct Scenario {
+pub(crate) struct Scenario<'a> {
     host: ScenarioHost,
     /// How many bytes a side may have.
     pub(crate) room: usize,
@@ -22,216 +24,160 @@ pub(crate) struct Scenario {
     inputs: Inputs,
     /// The host on which a call was stopped last, if no call followed it.
     stopped: Option<ScenarioHost>,
-    /// The layer that was called last.
-    pub(crate) layer: Layer,
-    /// What the last call has answered.
-    pub(crate) answer: Vec<u8>,
-    /// The rows of a state, of which so many stood there before the first scenario.
-    pub(crate) rows: Vec<String>,
-    shared: usize,
+    /// The call that opens the layer that was called last.
+    pub(crate) opening: &'static str,
+    /// What the last call has answered. It is whole where memory was found for all that was done.
+    pub(crate) answer: Bytes,
+    /// The rows of a state.
+    pub(crate) rows: Vec<&'a str>,
 }
 
-impl Scenario {
-    /// Nothing is done. The rows that come now are those of each scenario.
-    pub(crate) fn new(alloc: Global) -> Result<Scenario, AllocError> {
-        let host = ScenarioHost::new(alloc, b"", b"", ROOM, None)?;
+impl<'a> Scenario<'a> {
+    /// Nothing is done.
+    pub(crate) fn new(alloc: Global) -> Result<Scenario<'a>, AllocError> {
         Ok(Scenario {
-            host,
+            host: ScenarioHost::new(alloc, b"", b"", ROOM, 0)?,
             room: ROOM,
             stores: Stores::new(),
-            inputs: Inputs::new(alloc)?,
+            inputs: Inputs::new(),
             stopped: None,
-            layer: Layer::Rows,
-            answer: Vec::new(alloc),
+            opening: "rows open",
+            answer: Bytes::new(alloc),
             rows: Vec::new(alloc),
-            shared: 0,
         })
-    }
-
-    /// Begins a scenario: the first one, or another.
-    pub(crate) fn begin(&mut self, alloc: Global, is_first: bool) -> Result<(), AllocError> {
-        if is_first {
-            self.shared = self.rows.len();
-        }
-        self.rows.truncate(self.shared);
-        self.answer.clear();
-        self.inputs = Inputs::new(alloc)?;
-        empty(alloc, self, ROOM)
     }
 
     /// The host that was called last.
     pub(crate) fn last_host(&self) -> &ScenarioHost {
-        match &self.stopped {
-            Some(host) => host,
-            None => &self.host,
-        }
+        self.stopped.as_ref().unwrap_or(&self.host)
     }
 }
 
-/// Does what a line says.
-pub(crate) fn act(
+/// Does what a line says. Whether it is as it is wanted, where something is; else it adds what is found.
+pub(crate) fn play<'a>(
     alloc: Global,
-    scenario: &mut Scenario,
-    directive: Directive<'_>,
-) -> Result<(), AllocError> {
-    match directive {
-        Directive::Call(call) => call_last(alloc, scenario, call),
-        Directive::Stop(number, call) => stop(alloc, scenario, number, call),
-        Directive::Room(room) => empty(alloc, scenario, room),
-        Directive::Endless => end_host(alloc, &mut scenario.host),
-        Directive::Anew => renew(alloc, &mut scenario.host, scenario.room, None),
-        Directive::Fails(call) => renew(alloc, &mut scenario.host, scenario.room, Some(call)),
-        Directive::Side(side, bytes) => {
-            scenario.stopped = None;
-            replace(alloc, &mut scenario.host, scenario.room, side, bytes)
+    scenario: &mut Scenario<'a>,
+    words: &mut Words<'a>,
+    found: &mut Bytes,
+) -> bool {
+    let word = words.word();
+    match word {
+        "host" | "journal" | "pair" | "rows" => call_last(alloc, scenario, word, words),
+        "stop" => stop(alloc, scenario, words),
+        "room" | "anew" | "fails" | "left" | "right" => change_host(alloc, scenario, word, words),
+        "endless" => scenario.host.be_endless(),
+        "row" => add_row(words.rest(), scenario),
+        "no" => scenario.rows.clear(),
+        "source" | "pull" | "shelf" | "file" | "take" | "batch" | "change" | "migration" => {
+            give_answer(alloc, scenario, word, words);
         }
-        Directive::Row(line) => add_row(alloc, line, &mut scenario.rows),
-        Directive::NoRows => {
-            scenario.rows.truncate(0);
-            Ok(())
-        }
-        _ => answer(alloc, scenario, directive),
+        _ => return judge(alloc, scenario, word, words, found),
+    }
+    true
+}
+
+fn add_row<'a>(line: &'a str, scenario: &mut Scenario<'a>) {
+    if scenario.rows.push(line).is_err() {
+        scenario.answer.lack_memory();
     }
 }
 
-// Gives the answer of a call on the inputs, a batch, a change or a migration.
-fn answer(
-    alloc: Global,
-    scenario: &mut Scenario,
-    directive: Directive<'_>,
-) -> Result<(), AllocError> {
-    scenario.answer.clear();
-    let (rows, answer) = (scenario.rows.as_slice(), &mut scenario.answer);
-    match directive {
-        Directive::Input(call) => call_inputs(alloc, &mut scenario.inputs, call, answer),
-        Directive::Batch(bytes) => add_batch_again(alloc, bytes, answer),
-        Directive::Change(changes) => add_change(alloc, rows, changes, answer),
-        Directive::Migration(changes) => add_migration(alloc, rows, changes, answer),
-        _ => Ok(()),
-    }
-}
-
-fn add_row(alloc: Global, line: &str, rows: &mut Vec<String>) -> Result<(), AllocError> {
-    let line = String::from_str(alloc, line)?;
-    rows.push(line)?;
-    Ok(())
-}
-
-fn empty(alloc: Global, scenario: &mut Scenario, room: usize) -> Result<(), AllocError> {
-    scenario.room = room;
-    scenario.stores = Stores::new();
+fn call_last(alloc: Global, scenario: &mut Scenario<'_>, layer: &str, words: &mut Words<'_>) {
     scenario.stopped = None;
-    scenario.host = ScenarioHost::new(alloc, b"", b"", room, None)?;
-    Ok(())
-}
-
-fn end_host(alloc: Global, host: &mut ScenarioHost) -> Result<(), AllocError> {
-    *host = ScenarioHost::endless(alloc)?;
-    Ok(())
-}
-
-// The host has what reads of it give, and its call of this number fails.
-fn renew(
-    alloc: Global,
-    host: &mut ScenarioHost,
-    room: usize,
-    failing: Option<u64>,
-) -> Result<(), AllocError> {
-    *host = copy_of(alloc, host, (Choice::New, Choice::New), room, failing)?;
-    Ok(())
-}
-
-// A side has these bytes, and the other one what it had.
-fn replace(
-    alloc: Global,
-    host: &mut ScenarioHost,
-    room: usize,
-    side: Side,
-    bytes: &str,
-) -> Result<(), AllocError> {
-    let bytes = bytes_of(alloc, bytes)?;
-    *host = replaced(alloc, host, room, side, &bytes)?;
-    Ok(())
-}
-
-fn replaced(
-    alloc: Global,
-    host: &ScenarioHost,
-    room: usize,
-    side: Side,
-    bytes: &[u8],
-) -> Result<ScenarioHost, AllocError> {
-    match side {
-        Side::Left => {
-            let right = host.image(alloc, Side::Right, Choice::New)?;
-            ScenarioHost::new(alloc, bytes, &right, room, None)
-        }
-        Side::Right => {
-            let left = host.image(alloc, Side::Left, Choice::New)?;
-            ScenarioHost::new(alloc, &left, bytes, room, None)
-        }
-    }
-}
-
-/// A host with these images of another one, whose call of this number fails.
-pub(crate) fn copy_of(
-    alloc: Global,
-    host: &ScenarioHost,
-    choices: (Choice, Choice),
-    room: usize,
-    failing: Option<u64>,
-) -> Result<ScenarioHost, AllocError> {
-    let left = host.image(alloc, Side::Left, choices.0)?;
-    let right = host.image(alloc, Side::Right, choices.1)?;
-    ScenarioHost::new(alloc, &left, &right, room, failing)
-}
-
-fn call_last(alloc: Global, scenario: &mut Scenario, call: Call<'_>) -> Result<(), AllocError> {
-    scenario.stopped = None;
-    scenario.layer = call.layer().unwrap_or(scenario.layer);
+    scenario.opening = opening_of(layer, words.rest(), scenario.opening);
     scenario.host.count_anew();
     scenario.answer.clear();
     call_store(
         alloc,
         &mut scenario.stores,
         &mut scenario.host,
-        call,
+        layer,
+        words,
         &mut scenario.answer,
-    )
+    );
 }
 
 // Makes a call on a copy, where the host's call of this number fails.
-fn stop(
-    alloc: Global,
-    scenario: &mut Scenario,
-    number: u64,
-    call: Call<'_>,
-) -> Result<(), AllocError> {
-    scenario.layer = call.layer().unwrap_or(scenario.layer);
-    let mut copy = copy_of(
-        alloc,
-        &scenario.host,
-        (Choice::New, Choice::New),
-        scenario.room,
-        Some(number),
-    )?;
-    let mut stores = opened_on_copy(alloc, &scenario.host, scenario.room, scenario.layer)?;
-    scenario.answer.clear();
-    let called = call_store(alloc, &mut stores, &mut copy, call, &mut scenario.answer);
-    scenario.stopped = Some(copy);
-    called
+fn stop(alloc: Global, scenario: &mut Scenario<'_>, words: &mut Words<'_>) {
+    let (number, layer) = (words.number(), words.word());
+    scenario.opening = opening_of(layer, words.rest(), scenario.opening);
+    let sides = Sides::of(alloc, &scenario.host, Choice::New, Choice::New);
+    scenario.stopped = sides.host(alloc, scenario.room, number).ok();
+    stop_over(alloc, scenario, &sides, layer, words);
 }
 
-// What is opened on a copy of the host.
-fn opened_on_copy(
+fn stop_over(
     alloc: Global,
-    host: &ScenarioHost,
-    room: usize,
-    layer: Layer,
-) -> Result<Stores, AllocError> {
-    let mut copy = copy_of(alloc, host, (Choice::New, Choice::New), room, None)?;
+    scenario: &mut Scenario<'_>,
+    sides: &Sides,
+    layer: &str,
+    words: &mut Words<'_>,
+) {
     let mut stores = Stores::new();
-    let mut answer = Vec::new(alloc);
-    open_store(alloc, &mut stores, &mut copy, layer, &mut answer)?;
-    Ok(stores)
+    let answer = &mut scenario.answer;
+    open_over(
+        alloc,
+        sides,
+        scenario.room,
+        scenario.opening,
+        &mut stores,
+        answer,
+    );
+    answer.clear();
+    match &mut scenario.stopped {
+        Some(copy) => call_store(alloc, &mut stores, copy, layer, words, answer),
+        None => answer.lack_memory(),
+    }
+}
+
+fn change_host(alloc: Global, scenario: &mut Scenario<'_>, word: &str, words: &mut Words<'_>) {
+    let mut sides = Sides::of(alloc, &scenario.host, Choice::New, Choice::New);
+    let failing = change_sides(&mut sides, &mut scenario.room, word, words);
+    scenario.stopped = None;
+    match sides.host(alloc, scenario.room, failing) {
+        Ok(host) => scenario.host = host,
+        Err(AllocError) => scenario.answer.lack_memory(),
+    }
+}
+
+// Changes the sides or their room; gives the number of the call that fails, or 0 where none does.
+fn change_sides(sides: &mut Sides, room: &mut usize, word: &str, words: &mut Words<'_>) -> u64 {
+    match word {
+        "left" => sides.write(Side::Left, words.rest()),
+        "right" => sides.write(Side::Right, words.rest()),
+        "room" => {
+            *room = words.count();
+            sides.clear();
+        }
+        "fails" => return words.number(),
+        _ => {}
+    }
+    0
+}
+
+// Gives the answer of a call on the inputs, a batch, a change or a migration.
+fn give_answer(alloc: Global, scenario: &mut Scenario<'_>, word: &str, words: &mut Words<'_>) {
+    scenario.answer.clear();
+    let (lines, answer) = (scenario.rows.as_slice(), &mut scenario.answer);
+    match word {
+        "batch" => add_batch_again(alloc, words.rest(), answer),
+        "change" => add_change(alloc, lines, words.rest(), answer),
+        "migration" => add_migration(alloc, lines, words.rest(), answer),
+        _ => call_inputs(alloc, &mut scenario.inputs, word, words, answer),
+    }
+}
+
+fn add_change(alloc: Global, lines: &[&str], changes: &str, answer: &mut Bytes) {
+    let new = changed_rows(alloc, lines, changes, answer);
+    add_change_to(alloc, lines, &new, answer);
+}
+
+fn add_change_to(alloc: Global, lines: &[&str], new: &[StoreRow], answer: &mut Bytes) {
+    let old = changed_rows(alloc, lines, "", answer);
+    answer_of_rows(alloc, &old, Question::Change(new), answer);
+}
+
+fn add_migration(alloc: Global, lines: &[&str], changes: &str, answer: &mut Bytes) {
+    let rows = changed_rows(alloc, lines, changes, answer);
+    answer_of_rows(alloc, &rows, Question::Migration, answer);
 }

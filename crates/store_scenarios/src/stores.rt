@@ -1,125 +1,21 @@
-//! Calls on journals and pairs, and which store a call is for.
-use crate::framed::{
-    JournalFramed, PairFramed, add_reply, frame_of, on_journal as reply_of_journal,
-    on_pair as reply_of_pair,
-};
-use crate::hosts::{HostCall, ScenarioHost, call_host};
-use crate::row_stores::{add_all, add_value, commit, make_rows, open_rows, open_state, prepare};
-use crate::text::{add_done, add_fault, add_number, byte, cut, side};
-use gate_journal::{Frame, Journal, Payloads};
+//! Calls on journals, on pairs and on row stores.
+use crate::bytes::Bytes;
+use crate::hosts::{ScenarioHost, Sides, call_host};
+use crate::row_stores::call_rows;
+use crate::words::Words;
+use gate_journal::{AppendFault, Frame, FrameFault, Journal, Payloads};
 use host_model::Side;
 use pair_store::{MAX_WHOLE, PairStore};
 use row_store::RowStore;
+use row_tables::cut;
 use std::alloc::{AllocError, Global};
 
-/// The journal, the pair and the row store of a scenario, where it has one.
+/// The journal, the pair and the row store of a scenario, where it has them.
 #[derive(Drop)]
 pub(crate) struct Stores {
     journal: Option<Journal>,
     pair: Option<PairStore>,
     rows: Option<RowStore>,
-}
-
-/// A layer that keeps a list, a map or a state on sides.
-#[derive(Clone, Copy)]
-pub(crate) enum Layer {
-    Journal,
-    Pair,
-    Rows,
-    State,
-}
-
-/// A call on a store or on the host.
-#[derive(Clone, Copy)]
-pub(crate) enum Call<'a> {
-    Host(HostCall<'a>),
-    JournalMake(Side, u8, &'a str),
-    JournalOpen(Side),
-    JournalFramed(JournalFramed, &'a str),
-    JournalClose(Side),
-    JournalGeneration,
-    PairMake(&'a str),
-    PairOpen,
-    PairFramed(PairFramed, &'a str),
-    RowsMake(&'a str),
-    RowsOpen,
-    RowsPrepare(&'a str),
-    RowsCommit(&'a str),
-    RowsGet(&'a str),
-    RowsAll,
-    RowsState,
-}
-
-impl<'a> Call<'a> {
-    /// The call that a line names.
-    pub(crate) fn of(word: &str, rest: &'a str) -> Option<Call<'a>> {
-        let (call, behind) = cut(rest);
-        match word {
-            "host" => Some(Call::Host(HostCall::of(rest)?)),
-            "journal" => journal_call(call, behind),
-            "pair" => pair_call(call, behind),
-            "rows" => rows_call(call, behind),
-            _ => None,
-        }
-    }
-
-    /// The layer on which it is a call.
-    pub(crate) fn layer(&self) -> Option<Layer> {
-        match self {
-            Call::Host(_) => None,
-            Call::JournalMake(..)
-            | Call::JournalOpen(_)
-            | Call::JournalFramed(..)
-            | Call::JournalClose(_)
-            | Call::JournalGeneration => Some(Layer::Journal),
-            Call::PairMake(_) | Call::PairOpen | Call::PairFramed(..) => Some(Layer::Pair),
-            Call::RowsMake(_)
-            | Call::RowsOpen
-            | Call::RowsPrepare(_)
-            | Call::RowsCommit(_)
-            | Call::RowsGet(_)
-            | Call::RowsAll => Some(Layer::Rows),
-            Call::RowsState => Some(Layer::State),
-        }
-    }
-}
-
-fn journal_call<'a>(call: &str, rest: &'a str) -> Option<Call<'a>> {
-    let (name, behind) = cut(rest);
-    let (generation, first) = cut(behind);
-    match call {
-        "make" => Some(Call::JournalMake(side(name)?, byte(generation)?, first)),
-        "open" => Some(Call::JournalOpen(side(name)?)),
-        "append" => Some(Call::JournalFramed(JournalFramed::Append, rest)),
-        "close" => Some(Call::JournalClose(side(name)?)),
-        "generation" => Some(Call::JournalGeneration),
-        "end" => Some(Call::JournalFramed(JournalFramed::EndAfter, rest)),
-        _ => None,
-    }
-}
-
-fn pair_call<'a>(call: &str, rest: &'a str) -> Option<Call<'a>> {
-    match call {
-        "make" => Some(Call::PairMake(rest)),
-        "open" => Some(Call::PairOpen),
-        "append" => Some(Call::PairFramed(PairFramed::Append, rest)),
-        "checkpoint" => Some(Call::PairFramed(PairFramed::Checkpoint, rest)),
-        "wants" => Some(Call::PairFramed(PairFramed::Wants, rest)),
-        _ => None,
-    }
-}
-
-fn rows_call<'a>(call: &str, rest: &'a str) -> Option<Call<'a>> {
-    match call {
-        "make" => Some(Call::RowsMake(rest)),
-        "open" => Some(Call::RowsOpen),
-        "prepare" => Some(Call::RowsPrepare(rest)),
-        "commit" => Some(Call::RowsCommit(rest)),
-        "get" => Some(Call::RowsGet(rest)),
-        "all" => Some(Call::RowsAll),
-        "state" => Some(Call::RowsState),
-        _ => None,
-    }
 }
 
 impl Stores {
@@ -133,29 +29,74 @@ impl Stores {
     }
 }
 
-/// Makes a call, and adds its answer.
+/// The call that opens the layer on which a call is made, or the other one, where it is made on a host.
+pub(crate) fn opening_of(layer: &str, call: &str, other: &'static str) -> &'static str {
+    match layer {
+        "journal" => "journal open left",
+        "pair" => "pair open",
+        "rows" if call == "state" => "rows state",
+        "rows" => "rows open",
+        _ => other,
+    }
+}
+
+/// Makes an opening of what stands on sides, and adds its answer.
+pub(crate) fn open_over(
+    alloc: Global,
+    sides: &Sides,
+    room: usize,
+    opening: &str,
+    stores: &mut Stores,
+    answer: &mut Bytes,
+) {
+    let (layer, call) = cut(opening);
+    match sides.host(alloc, room, 0) {
+        Ok(mut host) => {
+            call_store(
+                alloc,
+                stores,
+                &mut host,
+                layer,
+                &mut Words::new(call),
+                answer,
+            );
+        }
+        Err(AllocError) => answer.lack_memory(),
+    }
+}
+
+/// Makes the call on a layer that a line names, and adds its answer.
 pub(crate) fn call_store(
     alloc: Global,
     stores: &mut Stores,
     host: &mut ScenarioHost,
-    call: Call<'_>,
-    answer: &mut Vec<u8>,
-) -> Result<(), AllocError> {
-    match call {
-        Call::Host(call) => call_host(alloc, host, call, answer),
-        Call::PairMake(first) => make_pair(alloc, &mut stores.pair, host, first, answer),
-        Call::PairOpen => open_pair(alloc, &mut stores.pair, host, answer),
-        Call::PairFramed(call, payload) => {
-            call_pair(alloc, &mut stores.pair, host, call, payload, answer)
+    layer: &str,
+    words: &mut Words<'_>,
+    answer: &mut Bytes,
+) {
+    match layer {
+        "host" => call_host(alloc, host, words, answer),
+        "journal" => call_journal(alloc, &mut stores.journal, host, words, answer),
+        "pair" => call_pair(alloc, &mut stores.pair, host, words, answer),
+        "rows" => call_rows(alloc, &mut stores.rows, host, words, answer),
+        _ => words.refuse(),
+    }
+}
+
+// The frame of a payload, or `None` after the reason was added.
+fn frame_of(alloc: Global, payload: &str, answer: &mut Bytes) -> Option<Frame> {
+    let payload = Bytes::payload(alloc, payload);
+    answer.needs(&payload);
+    match Frame::new(alloc, payload.as_slice()) {
+        Ok(frame) => Some(frame),
+        Err(FrameFault::TooLong) => {
+            answer.text("TooLong");
+            None
         }
-        Call::RowsMake(changes) => make_rows(alloc, host, changes, answer),
-        Call::RowsOpen
-        | Call::RowsPrepare(_)
-        | Call::RowsCommit(_)
-        | Call::RowsGet(_)
-        | Call::RowsAll
-        | Call::RowsState => call_rows(alloc, &mut stores.rows, host, call, answer),
-        _ => call_journal(alloc, &mut stores.journal, host, call, answer),
+        Err(FrameFault::OutOfMemory) => {
+            answer.lack_memory();
+            None
+        }
     }
 }
 
@@ -163,52 +104,17 @@ fn call_journal(
     alloc: Global,
     journal: &mut Option<Journal>,
     host: &mut ScenarioHost,
-    call: Call<'_>,
-    answer: &mut Vec<u8>,
-) -> Result<(), AllocError> {
-    match call {
-        Call::JournalMake(side, generation, first) => {
-            make_journal(alloc, journal, host, side, generation, first, answer)
-        }
-        Call::JournalOpen(side) => open_journal(alloc, journal, host, side, answer),
-        Call::JournalFramed(call, payload) => {
-            call_on_journal(alloc, journal, host, call, payload, answer)
-        }
-        Call::JournalClose(side) => add_done(Journal::close(host, side).is_ok(), answer),
-        _ => add_generation(alloc, journal, answer),
-    }
-}
-
-fn call_rows(
-    alloc: Global,
-    rows: &mut Option<RowStore>,
-    host: &mut ScenarioHost,
-    call: Call<'_>,
-    answer: &mut Vec<u8>,
-) -> Result<(), AllocError> {
-    match call {
-        Call::RowsOpen => open_rows(alloc, rows, host, answer),
-        Call::RowsPrepare(changes) => prepare(alloc, rows, changes, answer),
-        Call::RowsCommit(changes) => commit(alloc, rows, host, changes, answer),
-        Call::RowsGet(key) => add_value(alloc, rows, key, answer),
-        Call::RowsState => open_state(alloc, rows, host, answer),
-        _ => add_all(rows, answer),
-    }
-}
-
-/// Opens what stands on the sides, and adds the answer.
-pub(crate) fn open_store(
-    alloc: Global,
-    stores: &mut Stores,
-    host: &mut ScenarioHost,
-    layer: Layer,
-    answer: &mut Vec<u8>,
-) -> Result<(), AllocError> {
-    match layer {
-        Layer::Journal => open_journal(alloc, &mut stores.journal, host, Side::Left, answer),
-        Layer::Pair => open_pair(alloc, &mut stores.pair, host, answer),
-        Layer::Rows => open_rows(alloc, &mut stores.rows, host, answer),
-        Layer::State => open_state(alloc, &mut stores.rows, host, answer),
+    words: &mut Words<'_>,
+    answer: &mut Bytes,
+) {
+    match words.word() {
+        "make" => make_journal(alloc, journal, host, words, answer),
+        "open" => open_journal(alloc, journal, host, words.side(), answer),
+        "close" => answer.done(Journal::close(host, words.side()).is_ok()),
+        word => match journal {
+            Some(journal) => call_open_journal(alloc, journal, host, word, words, answer),
+            None => answer.text("no journal"),
+        },
     }
 }
 
@@ -216,20 +122,17 @@ fn make_journal(
     alloc: Global,
     journal: &mut Option<Journal>,
     host: &mut ScenarioHost,
-    side: Side,
-    generation: u8,
-    first: &str,
-    answer: &mut Vec<u8>,
-) -> Result<(), AllocError> {
-    match frame_of(alloc, first)? {
-        None => answer.extend_from_slice(b"TooLong"),
-        Some(first) if generation > 2 || first.bytes() > MAX_WHOLE as u64 => {
-            answer.extend_from_slice(b"no such making")
-        }
-        Some(first) => {
+    words: &mut Words<'_>,
+    answer: &mut Bytes,
+) {
+    let (side, generation) = (words.side(), words.byte());
+    match frame_of(alloc, words.rest(), answer) {
+        Some(first) if generation <= 2 && first.bytes() <= MAX_WHOLE as u64 => {
             *journal = Journal::make(host, side, generation, &first).ok();
-            add_done(journal.is_some(), answer)
+            answer.done(journal.is_some());
         }
+        Some(_) => answer.text("no such making"),
+        None => {}
     }
 }
 
@@ -238,65 +141,56 @@ fn open_journal(
     journal: &mut Option<Journal>,
     host: &mut ScenarioHost,
     side: Side,
-    answer: &mut Vec<u8>,
-) -> Result<(), AllocError> {
+    answer: &mut Bytes,
+) {
     match Journal::open(alloc, host, side) {
         Ok((opened, payloads)) => {
-            let generation = opened.generation();
+            answer.shown(&opened.generation());
+            add_payloads(&payloads, answer);
             *journal = Some(opened);
-            add_opened(alloc, generation, &payloads, answer)
         }
-        Err(fault) => add_fault(alloc, &fault, answer),
+        Err(fault) => answer.shown(&fault),
     }
 }
 
-fn add_opened(
-    alloc: Global,
-    generation: u8,
-    payloads: &Payloads,
-    answer: &mut Vec<u8>,
-) -> Result<(), AllocError> {
-    add_number(alloc, u64::from(generation), answer)?;
-    add_payloads(payloads, answer)
-}
-
-fn call_on_journal(
-    alloc: Global,
-    journal: &mut Option<Journal>,
-    host: &mut ScenarioHost,
-    call: JournalFramed,
-    payload: &str,
-    answer: &mut Vec<u8>,
-) -> Result<(), AllocError> {
-    match journal {
-        Some(journal) => match frame_of(alloc, payload)? {
-            Some(frame) => add_journal_reply(alloc, journal, host, call, &frame, answer),
-            None => answer.extend_from_slice(b"TooLong"),
-        },
-        None => answer.extend_from_slice(b"no journal"),
-    }
-}
-
-fn add_journal_reply(
+fn call_open_journal(
     alloc: Global,
     journal: &mut Journal,
     host: &mut ScenarioHost,
-    call: JournalFramed,
-    frame: &Frame,
-    answer: &mut Vec<u8>,
-) -> Result<(), AllocError> {
-    let reply = reply_of_journal(host, journal, call, frame);
-    add_reply(alloc, reply, answer)
+    word: &str,
+    words: &mut Words<'_>,
+    answer: &mut Bytes,
+) {
+    match (word, frame_of(alloc, words.rest(), answer)) {
+        ("append", Some(frame)) => add_appended(journal.append(host, &frame), answer),
+        ("end", Some(frame)) => answer.shown(&journal.end_after(&frame)),
+        ("generation", Some(_)) => answer.shown(&journal.generation()),
+        (_, Some(_)) => words.refuse(),
+        (_, None) => {}
+    }
 }
 
-fn add_generation(
+fn add_appended(appended: Result<(), AppendFault>, answer: &mut Bytes) {
+    match appended {
+        Err(AppendFault::SideFull) => answer.text("SideFull"),
+        appended => answer.done(appended.is_ok()),
+    }
+}
+
+fn call_pair(
     alloc: Global,
-    journal: &Option<Journal>,
-    answer: &mut Vec<u8>,
-) -> Result<(), AllocError> {
-    match journal {
-        Some(journal) => add_number(alloc, u64::from(journal.generation()), answer),
-        None => answer.extend_from_slice(b"no journal"),
+    pair: &mut Option<PairStore>,
+    host: &mut ScenarioHost,
+    words: &mut Words<'_>,
+    answer: &mut Bytes,
+) {
+    match words.word() {
+        "make" => make_pair(alloc, pair, host, words.rest(), answer),
+        "open" => open_pair(alloc, pair, host, answer),
+        word => match pair {
+            Some(pair) => call_open_pair(alloc, pair, host, word, words, answer),
+            None => answer.text("no pair"),
+        },
     }
 }
 
@@ -305,14 +199,15 @@ fn make_pair(
     pair: &mut Option<PairStore>,
     host: &mut ScenarioHost,
     first: &str,
-    answer: &mut Vec<u8>,
-) -> Result<(), AllocError> {
-    match frame_of(alloc, first)? {
+    answer: &mut Bytes,
+) {
+    match frame_of(alloc, first, answer) {
         Some(first) if first.bytes() <= MAX_WHOLE as u64 => {
             *pair = PairStore::make(host, &first).ok();
-            add_done(pair.is_some(), answer)
+            answer.done(pair.is_some());
         }
-        _ => answer.extend_from_slice(b"TooLong"),
+        Some(_) => answer.text("TooLong"),
+        None => {}
     }
 }
 
@@ -320,58 +215,67 @@ fn open_pair(
     alloc: Global,
     pair: &mut Option<PairStore>,
     host: &mut ScenarioHost,
-    answer: &mut Vec<u8>,
-) -> Result<(), AllocError> {
+    answer: &mut Bytes,
+) {
     match PairStore::open(alloc, host) {
         Ok((opened, payloads)) => {
+            answer.text("has");
+            add_payloads(&payloads, answer);
             *pair = Some(opened);
-            add_has(&payloads, answer)
         }
-        Err(fault) => add_fault(alloc, &fault, answer),
+        Err(fault) => answer.shown(&fault),
     }
 }
 
-fn add_has(payloads: &Payloads, answer: &mut Vec<u8>) -> Result<(), AllocError> {
-    answer.extend_from_slice(b"has")?;
-    add_payloads(payloads, answer)
-}
-
-fn call_pair(
-    alloc: Global,
-    pair: &mut Option<PairStore>,
-    host: &mut ScenarioHost,
-    call: PairFramed,
-    payload: &str,
-    answer: &mut Vec<u8>,
-) -> Result<(), AllocError> {
-    match pair {
-        Some(pair) => match frame_of(alloc, payload)? {
-            Some(frame) => add_pair_reply(alloc, pair, host, call, &frame, answer),
-            None => answer.extend_from_slice(b"TooLong"),
-        },
-        None => answer.extend_from_slice(b"no pair"),
-    }
-}
-
-fn add_pair_reply(
+fn call_open_pair(
     alloc: Global,
     pair: &mut PairStore,
     host: &mut ScenarioHost,
-    call: PairFramed,
+    word: &str,
+    words: &mut Words<'_>,
+    answer: &mut Bytes,
+) {
+    if let Some(frame) = frame_of(alloc, words.rest(), answer) {
+        match word {
+            "append" => append_to_pair(pair, host, &frame, answer),
+            "checkpoint" => checkpoint_pair(pair, host, &frame, answer),
+            "wants" if pair.wants_checkpoint(frame.bytes()) => answer.text("yes"),
+            "wants" => answer.text("no"),
+            _ => words.refuse(),
+        }
+    }
+}
+
+fn append_to_pair(
+    pair: &mut PairStore,
+    host: &mut ScenarioHost,
     frame: &Frame,
-    answer: &mut Vec<u8>,
-) -> Result<(), AllocError> {
-    let reply = reply_of_pair(host, pair, call, frame);
-    add_reply(alloc, reply, answer)
+    answer: &mut Bytes,
+) {
+    if pair.wants_checkpoint(frame.bytes()) {
+        answer.text("past the mark");
+    } else {
+        answer.done(pair.append(host, frame).is_ok());
+    }
+}
+
+fn checkpoint_pair(
+    pair: &mut PairStore,
+    host: &mut ScenarioHost,
+    frame: &Frame,
+    answer: &mut Bytes,
+) {
+    if frame.bytes() > MAX_WHOLE as u64 {
+        answer.text("TooLong");
+    } else {
+        answer.done(pair.checkpoint(host, frame).is_ok());
+    }
 }
 
 // Adds the payloads, each behind a space.
-fn add_payloads(payloads: &Payloads, answer: &mut Vec<u8>) -> Result<(), AllocError> {
+fn add_payloads(payloads: &Payloads, answer: &mut Bytes) {
     for place in 0..payloads.len() {
-        if let Some(payload) = payloads.get(place) {
-            answer.extend_from_slice(b" ")?;
-            answer.extend_from_slice(payload)?;
-        }
+        answer.text(" ");
+        answer.add(payloads.get(place).unwrap_or(b""));
     }
-    Ok(())
 }
