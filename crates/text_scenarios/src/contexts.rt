@@ -5,7 +5,9 @@ use row_tables::{Fault, Found, cut, parts};
 use sequences::Text;
 use std::alloc::{AllocError, Global};
 
-/// What is found of a row.
+/// What is found of a row. Of the kind `refused` the first key that keeps a tree from being a context, or `none`; the row is a JSON
+/// text. Of `text` the text that the copy of the context that is given has under a key, or the unit of this name, in quotes, or
+/// `none`; and the numbers of its texts, units and custom attributes at `texts`, `units` and `custom`; the row is the key.
 pub(crate) fn find(
     alloc: Global,
     kind: &str,
@@ -13,34 +15,16 @@ pub(crate) fn find(
     input: &str,
     found: &mut Found,
 ) -> Result<(), Fault> {
-    match kind {
-        "refused" => find_refused_key(alloc, input, found),
-        "text" => find_text(alloc, given, input, found),
-        "named" => find_named(alloc, input, found),
-        _ => Err(Fault::NoRow),
+    if kind == "named" {
+        return find_named(alloc, input, found);
     }
-}
-
-fn context(alloc: Global, text: &str) -> Result<Context, Fault> {
-    let tree = tree(alloc, text)?;
-    read_context(alloc, &tree).ok().ok_or(Fault::NoRow)
-}
-
-// The first key that keeps a tree from being a context, or `none`. Row: a JSON text.
-fn find_refused_key(alloc: Global, input: &str, found: &mut Found) -> Result<(), Fault> {
-    let tree = tree(alloc, input)?;
-    match read_context(alloc, &tree).err() {
-        None => Ok(found.text("none")),
-        Some(ContextFault::BadContext(key)) => Ok(found.text(key.name())),
-        Some(ContextFault::OutOfMemory) => Err(Fault::OutOfMemory),
+    let tree = tree(alloc, if kind == "text" { given } else { input })?;
+    match read_context(alloc, &tree) {
+        Ok(context) if kind == "text" => Ok(add_text_of_copy(&context, input, found)),
+        Ok(_) => Ok(found.text("none")),
+        Err(ContextFault::BadContext(key)) => Ok(found.text(key.name())),
+        Err(ContextFault::OutOfMemory) => Err(Fault::OutOfMemory),
     }
-}
-
-// The text that a context's copy has under a key, or the unit of this name, in quotes, or `none`; and the numbers of its
-// texts, units and custom attributes at `texts`, `units` and `custom`. Row: the key.
-fn find_text(alloc: Global, given: &str, input: &str, found: &mut Found) -> Result<(), Fault> {
-    let context = context(alloc, given)?;
-    Ok(add_text_of_copy(&context, input, found))
 }
 
 fn add_text_of_copy(context: &Context, key: &str, found: &mut Found) {

@@ -1,36 +1,15 @@
 //! Rows on the trees of expressions by the grammar, and on the texts that have none.
-use jexl_lexer::{Token, lex};
+use jexl_lexer::Token;
 use jexl_parser::{Literal, Node, parse};
-use row_tables::{Fault, Found};
+use row_tables::Found;
 use std::alloc::Global;
 
-/// The tree of an expression, or the name of the fault of its text. Row: the text.
-pub(crate) fn find_tree(alloc: Global, input: &str, found: &mut Found) -> Result<(), Fault> {
-    match lex(alloc, input) {
-        Ok(tokens) => Ok(add_parsed(alloc, tokens.as_slice(), found)),
-        Err(fault) => Ok(found.debugged(&fault)),
-    }
-}
-
-fn add_parsed(alloc: Global, tokens: &[Token], found: &mut Found) {
+/// Adds the tree of an expression, or of the kind `reading` only `tree`; or the name of the fault of its tokens.
+pub(crate) fn add_parsed(alloc: Global, kind: &str, tokens: &[Token], found: &mut Found) {
     match parse(alloc, tokens) {
-        Ok(expression) => add_node(&expression.root, found),
+        Ok(expression) if kind == "tree" => add_node(&expression.root, found),
+        Ok(_) => found.text("tree"),
         Err(fault) => found.debugged(&fault),
-    }
-}
-
-/// Whether a text is an expression: `tree`, or the name of its fault. Row: the text.
-pub(crate) fn find_reading(alloc: Global, input: &str, found: &mut Found) -> Result<(), Fault> {
-    match lex(alloc, input) {
-        Ok(tokens) => Ok(add_reading(alloc, tokens.as_slice(), found)),
-        Err(fault) => Ok(found.debugged(&fault)),
-    }
-}
-
-fn add_reading(alloc: Global, tokens: &[Token], found: &mut Found) {
-    match parse(alloc, tokens).err() {
-        Some(fault) => found.debugged(&fault),
-        None => found.text("tree"),
     }
 }
 

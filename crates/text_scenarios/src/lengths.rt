@@ -1,6 +1,6 @@
 //! Rows on the lengths of JSON's compact texts, and on the bounds that they keep.
 use crate::trees::tree;
-use json_length::{length_within, text_length, tree_length, whole_length};
+use json_length::{length_within, tree_length, whole_length};
 use json_tree::{Tree, write};
 use row_tables::{Fault, Found, cut, number};
 use std::alloc::Global;
@@ -20,11 +20,6 @@ fn add_length(alloc: Global, tree: &Tree, text: &str, found: &mut Found) {
         return found.text("another text is written");
     }
     found.displayed(&tree_length(tree));
-}
-
-/// The length of the JSON text of a text. Row: the text.
-pub(crate) fn find_text_length(input: &str, found: &mut Found) -> Result<(), Fault> {
-    Ok(found.displayed(&text_length(input)))
 }
 
 /// The length of the text of a whole number. Row: the number.

@@ -18,6 +18,8 @@ mod trees;
 mod values;
 mod versions;
 
+use json_length::text_length;
+use plain_text::is_name;
 use row_tables::{Fault, Found, Kinds, Question, report_on};
 use std::alloc::Global;
 use std::io;
@@ -40,11 +42,10 @@ fn find_of_bytes(alloc: Global, kind: &str, input: &[u8], found: &mut Found) -> 
         "lines" => plain::find_lines(alloc, input, found),
         "words" => plain::find_words(alloc, input, found),
         "slug" => plain::find_slug(alloc, input, found),
-        "name" => plain::find_name(input, found),
-        "number" => plain::find_number(input, found),
-        "moment" => plain::find_moment(input, found),
-        "json" => trees::find_rewritten(alloc, input, found),
-        "readable" => trees::find_fault(alloc, input, found),
+        "name" => Ok(found.displayed(&is_name(input))),
+        "number" => Ok(plain::add_number(input, found)),
+        "moment" => Ok(plain::add_moment(input, found)),
+        "json" | "readable" => Ok(trees::add_read(alloc, kind, input, found)),
         _ => Err(Fault::NoRow),
     }
 }
@@ -72,17 +73,17 @@ fn find_of_order(alloc: Global, kind: &str, input: &str, found: &mut Found) -> R
     match kind {
         "slugs" => plain::find_order(alloc, input, found),
         "versions" => versions::find_order(input, found),
-        "chain" => versions::find_chain(alloc, input, found),
+        "chain" => Ok(versions::add_chain(input, found)),
         _ => Err(Fault::NoRow),
     }
 }
 
 fn find_of_json(alloc: Global, kind: &str, input: &str, found: &mut Found) -> Result<(), Fault> {
     match kind {
-        "member" => trees::find_member(alloc, input, found),
+        "member" => Ok(trees::add_member_of_copy(alloc, input, found)),
         "same" => trees::find_same(alloc, input, found),
         "length" => lengths::find_length(alloc, input, found),
-        "text-length" => lengths::find_text_length(input, found),
+        "text-length" => Ok(found.displayed(&text_length(input))),
         "whole-length" => lengths::find_whole_length(input, found),
         "within" => lengths::find_length_within(alloc, input, found),
         _ => Err(Fault::NoRow),
@@ -97,14 +98,12 @@ fn find_of_recipes(
     found: &mut Found,
 ) -> Result<(), Fault> {
     match kind {
-        "record" => records::find_record(alloc, input, found),
-        "with" => records::find_reason_with(alloc, given, input, found),
-        "absent" => records::find_texts_with(alloc, input, found),
+        "record" => records::find_of_record(alloc, kind, input, found),
+        "with" => records::find_with(alloc, kind, given, input, found),
+        "absent" => records::find_with(alloc, kind, "record", input, found),
         "equal" => records::find_equal(alloc, input, found),
-        "payload" => payloads::find_payload(alloc, input, found),
-        "fault" => payloads::find_fault(alloc, input, found),
-        "inserted" => payloads::find_inserted(alloc, input, found),
-        "last" => payloads::find_last(alloc, input, found),
+        "payload" | "fault" => payloads::find_of_payload(alloc, kind, input, "", found),
+        "inserted" | "last" => payloads::find_of_slugs(alloc, kind, input, found),
         _ => Err(Fault::NoRow),
     }
 }
@@ -117,10 +116,7 @@ fn find_of_jexl(
     found: &mut Found,
 ) -> Result<(), Fault> {
     match kind {
-        "tokens" => tokens::find_tokens(alloc, input, found),
-        "count" => tokens::find_count(alloc, input, found),
-        "tree" => expressions::find_tree(alloc, input, found),
-        "reading" => expressions::find_reading(alloc, input, found),
+        "tokens" | "count" | "tree" | "reading" => Ok(tokens::add_read(alloc, kind, input, found)),
         "value" | "truth" | "call" => {
             meanings::find_with_standard(alloc, kind, given, input, found)
         }

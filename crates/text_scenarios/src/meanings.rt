@@ -16,21 +16,13 @@ use jexl_value::{Attributes, NamedValues, Value};
 use row_tables::{Fault, Found};
 use std::alloc::Global;
 
-/// Puts a transform at the end of a table.
-pub(crate) fn put(
-    alloc: Global,
-    table: &mut TransformTable,
-    name: &str,
-    transform: Transform,
-) -> Result<(), Fault>
+/// Puts a transform at the end of a table, unless memory is wanting.
+pub(crate) fn put(alloc: Global, table: &mut TransformTable, name: &str, transform: Transform)
     requires standard { IsTrue (is_standard name.now) }
     requires callable { Transform.IsAlwaysCallable transform }
     requires answers { AnswersAs name.now (Transform.post transform) }
 {
-    table
-        .push(alloc, name, transform)
-        .ok()
-        .ok_or(Fault::OutOfMemory)
+    let _ = table.push(alloc, name, transform);
 }
 
 /// A row over a table of the standard transforms, of the kind `value`, `truth` or `call`.
@@ -82,18 +74,14 @@ pub(crate) fn find_with_standard(
         return Err(Fault::OutOfMemory);
     };
     let mut table = TransformTable::new(alloc);
-    let (Ok(()), Ok(()), Ok(()), Ok(()), Ok(()), Ok(())) = (
-        put(alloc, &mut table, "versionCompare", version),
-        put(alloc, &mut table, "date", date),
-        put(alloc, &mut table, "bucketSample", bucket),
-        put(alloc, &mut table, "eventSum", sum),
-        put(alloc, &mut table, "eventCountNonZero", nonzero),
-        put(alloc, &mut table, "eventLastSeen", seen),
-    ) else {
-        return Err(Fault::OutOfMemory);
-    };
+    put(alloc, &mut table, "versionCompare", version);
+    put(alloc, &mut table, "date", date);
+    put(alloc, &mut table, "bucketSample", bucket);
+    put(alloc, &mut table, "eventSum", sum);
+    put(alloc, &mut table, "eventCountNonZero", nonzero);
+    put(alloc, &mut table, "eventLastSeen", seen);
     if table.names() != 6 {
-        return Err(Fault::NoRow);
+        return Err(Fault::OutOfMemory);
     }
     find_by(alloc, &table, kind, given, input, found)
 }
@@ -106,27 +94,18 @@ pub(crate) fn find_with_wanting(
     input: &str,
     found: &mut Found,
 ) -> Result<(), Fault> {
+    let wanting = |_: &Attributes, _: &Value, _: &[Value]| TransformAnswer::OutOfMemory;
     let (Ok(version), Ok(date), Ok(bucket)) = (
-        Box::new(alloc, |_: &Attributes, _: &Value, _: &[Value]| {
-            TransformAnswer::OutOfMemory
-        }),
-        Box::new(alloc, |_: &Attributes, _: &Value, _: &[Value]| {
-            TransformAnswer::OutOfMemory
-        }),
-        Box::new(alloc, |_: &Attributes, _: &Value, _: &[Value]| {
-            TransformAnswer::OutOfMemory
-        }),
+        Box::new(alloc, wanting),
+        Box::new(alloc, wanting),
+        Box::new(alloc, wanting),
     ) else {
         return Err(Fault::OutOfMemory);
     };
     let mut table = TransformTable::new(alloc);
-    let (Ok(()), Ok(()), Ok(())) = (
-        put(alloc, &mut table, "versionCompare", version),
-        put(alloc, &mut table, "date", date),
-        put(alloc, &mut table, "bucketSample", bucket),
-    ) else {
-        return Err(Fault::OutOfMemory);
-    };
+    put(alloc, &mut table, "versionCompare", version);
+    put(alloc, &mut table, "date", date);
+    put(alloc, &mut table, "bucketSample", bucket);
     find_by(alloc, &table, kind, given, input, found)
 }
 
@@ -157,21 +136,10 @@ fn find_meaning(
     found: &mut Found,
 ) -> Result<(), Fault> {
     let attributes = attributes(alloc, given)?;
-    find_meaning_over(alloc, table, &attributes, kind, input, found)
-}
-
-fn find_meaning_over(
-    alloc: Global,
-    table: &TransformTable,
-    attributes: &Attributes,
-    kind: &str,
-    input: &str,
-    found: &mut Found,
-) -> Result<(), Fault> {
-    let expression = expression(alloc, input)?;
-    match kind {
-        "truth" => Ok(add_truth(alloc, &expression, attributes, table, found)),
-        _ => Ok(add_meaning(alloc, &expression, attributes, table, found)),
+    match expression(alloc, input) {
+        Ok(it) if kind == "truth" => Ok(add_truth(alloc, &it, &attributes, table, found)),
+        Ok(it) => Ok(add_meaning(alloc, &it, &attributes, table, found)),
+        Err(fault) => Err(fault),
     }
 }
 

@@ -2,23 +2,62 @@
 use crate::records::{add_record_named, recipe};
 use crate::trees::tree;
 use recipe_reader::{Payload, Recipe, Recipes, read_payload};
-use row_tables::{Fault, Found, parts};
+use row_tables::{Fault, Found};
 use std::alloc::{AllocError, Global};
 
-fn payload(alloc: Global, text: &str) -> Result<Payload, Fault> {
+/// What is found of a payload whose records have slugs, between which there are spaces. Row: the slugs; and of the kind `inserted`
+/// the slug of one more recipe, with ` | ` before it.
+pub(crate) fn find_of_slugs(
+    alloc: Global,
+    kind: &str,
+    input: &str,
+    found: &mut Found,
+) -> Result<(), Fault> {
+    let (slugs, slug) = input.split_once(" | ").unwrap_or((input, ""));
+    let mut text = Found::new(alloc);
+    add_records(slugs, &mut text);
+    find_of_payload(alloc, kind, text.as_str(), slug, found)
+}
+
+fn add_records(slugs: &str, text: &mut Found) {
+    text.text("{\"data\":[");
+    for (place, slug) in slugs.split(' ').enumerate() {
+        text.text(if place > 0 { "," } else { "" });
+        add_record_named(slug, text);
+    }
+    text.text("]}")
+}
+
+/// What is found of a payload, or its fault.
+pub(crate) fn find_of_payload(
+    alloc: Global,
+    kind: &str,
+    text: &str,
+    slug: &str,
+    found: &mut Found,
+) -> Result<(), Fault> {
     let tree = tree(alloc, text)?;
     match read_payload(alloc, &tree) {
-        Ok(payload) => Ok(payload),
-        Err(_) => Err(Fault::NoRow),
+        Ok(payload) => find_in(alloc, kind, &payload, slug, found),
+        Err(fault) => Ok(found.debugged(&fault)),
     }
 }
 
-/// The slugs of a payload's recipes, and the records that are skipped. Row: the payload.
-pub(crate) fn find_payload(alloc: Global, input: &str, found: &mut Found) -> Result<(), Fault> {
-    let payload = payload(alloc, input)?;
-    add_payload(&payload, found);
-    drop(payload);
-    Ok(())
+// Of the kind `payload` the slugs of its recipes, and the records that are skipped; of `inserted` and `last` as is said there; and
+// else `none`.
+fn find_in(
+    alloc: Global,
+    kind: &str,
+    payload: &Payload,
+    slug: &str,
+    found: &mut Found,
+) -> Result<(), Fault> {
+    match kind {
+        "payload" => Ok(add_payload(payload, found)),
+        "inserted" => find_inserted(alloc, &payload.recipes, slug, found),
+        "last" => Ok(add_last(alloc, payload.recipes.as_slice(), found)?),
+        _ => Ok(found.text("none")),
+    }
 }
 
 fn add_payload(payload: &Payload, found: &mut Found) {
@@ -35,56 +74,16 @@ fn add_slugs(recipes: &[Recipe], found: &mut Found) {
     }
 }
 
-/// The fault of a payload, or `none`. Row: the payload.
-pub(crate) fn find_fault(alloc: Global, input: &str, found: &mut Found) -> Result<(), Fault> {
-    let tree = tree(alloc, input)?;
-    match read_payload(alloc, &tree).err() {
-        Some(fault) => Ok(found.debugged(&fault)),
-        None => Ok(found.text("none")),
-    }
-}
-
-// The recipes of a payload whose records have these slugs, between which there are spaces.
-fn recipes_named(alloc: Global, slugs: &str) -> Result<Recipes, Fault> {
-    let mut text = String::new(alloc);
-    add_records(slugs, &mut text)?;
-    recipes_of(alloc, text.as_str())
-}
-
-fn add_records(slugs: &str, text: &mut String) -> Result<(), AllocError> {
-    text.push_str("{\"data\":[")?;
-    for (place, slug) in slugs.split(' ').enumerate() {
-        text.push_str(if place > 0 { "," } else { "" })?;
-        add_record_named(slug, text)?;
-    }
-    text.push_str("]}")
-}
-
-fn recipes_of(alloc: Global, text: &str) -> Result<Recipes, Fault> {
-    let payload = payload(alloc, text)?;
-    Ok(payload.recipes)
-}
-
-/// Whether a recipe is put into a copy of recipes, the slugs of the copy, those of the recipes, and whether each then has
-/// it. Row: the slugs of a payload's records, and the recipe's with ` | ` before it.
-pub(crate) fn find_inserted(alloc: Global, input: &str, found: &mut Found) -> Result<(), Fault> {
-    let (slugs, slug) = parts(input)?;
-    let recipes = recipes_named(alloc, slugs)?;
-    let outcome = find_inserted_into(alloc, &recipes, slug, found);
-    drop(recipes);
-    outcome
-}
-
-fn find_inserted_into(
+// Whether a recipe of this slug is put into a copy of recipes, the slugs of the copy, those of the recipes, and whether each then
+// has it.
+fn find_inserted(
     alloc: Global,
     recipes: &Recipes,
     slug: &str,
     found: &mut Found,
 ) -> Result<(), Fault> {
     let mut copy = recipes.clone()?;
-    let outcome = insert_into(alloc, recipes, &mut copy, slug, found);
-    drop(copy);
-    outcome
+    insert_into(alloc, recipes, &mut copy, slug, found)
 }
 
 fn insert_into(
@@ -97,16 +96,12 @@ fn insert_into(
     if *copy != *recipes || recipes.as_slice().is_empty() {
         return Ok(found.text("a copy differs"));
     }
-    let is_new = copy.insert(recipe_named(alloc, slug)?)?;
+    let mut record = Found::new(alloc);
+    add_record_named(slug, &mut record);
+    let is_new = copy.insert(recipe(alloc, record.as_str())?)?;
     found.displayed(&is_new);
     found.text("; ");
     Ok(add_both(copy, recipes, slug, found))
-}
-
-fn recipe_named(alloc: Global, slug: &str) -> Result<Recipe, Fault> {
-    let mut record = String::new(alloc);
-    add_record_named(slug, &mut record)?;
-    recipe(alloc, record.as_str())
 }
 
 // Adds the slugs of both, and whether each has the slug.
@@ -119,25 +114,11 @@ fn add_both(first: &Recipes, second: &Recipes, slug: &str, found: &mut Found) {
     found.all_displayed(&[is_in, was_in]);
 }
 
-/// The slug of the last of a payload's recipes, which is put at the end of none. Row: the slugs of its records.
-pub(crate) fn find_last(alloc: Global, input: &str, found: &mut Found) -> Result<(), Fault> {
-    let recipes = recipes_named(alloc, input)?;
-    let outcome = find_last_of(alloc, recipes.as_slice(), found);
-    drop(recipes);
-    outcome
-}
-
-fn find_last_of(alloc: Global, recipes: &[Recipe], found: &mut Found) -> Result<(), Fault> {
-    match recipes.last() {
-        Some(last) => Ok(add_alone(alloc, last, found)?),
-        None => Err(Fault::NoRow),
-    }
-}
-
-fn add_alone(alloc: Global, recipe: &Recipe, found: &mut Found) -> Result<(), AllocError> {
-    let copy = recipe.clone()?;
+// The slug of the last recipe, which is put at the end of none.
+fn add_last(alloc: Global, recipes: &[Recipe], found: &mut Found) -> Result<(), AllocError> {
     let mut others = Recipes::new(alloc);
-    others.push(copy)?;
-    add_slugs(others.as_slice(), found);
-    Ok(())
+    if let Some(last) = recipes.last() {
+        others.push(last.clone()?)?;
+    }
+    Ok(add_slugs(others.as_slice(), found))
 }

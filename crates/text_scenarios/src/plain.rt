@@ -1,5 +1,5 @@
 //! Rows on lines, words, slugs, names, numbers and moments of plain text, from bytes.
-use plain_text::{Slug, SlugFault, is_name, lines, read_moment, read_number, slug_of, words};
+use plain_text::{Slug, SlugFault, lines, read_moment, read_number, slug_of, words};
 use row_tables::{Fault, Found, cut};
 use std::alloc::Global;
 
@@ -44,44 +44,26 @@ fn add_copy(slug: &Slug, found: &mut Found) {
 /// Whether the first of two slugs is below the second. Row: the slugs.
 pub(crate) fn find_order(alloc: Global, input: &str, found: &mut Found) -> Result<(), Fault> {
     let (first, second) = cut(input);
-    let first = slug(alloc, first)?;
-    find_order_of(alloc, &first, second, found)
-}
-
-fn find_order_of(
-    alloc: Global,
-    first: &Slug,
-    second: &str,
-    found: &mut Found,
-) -> Result<(), Fault> {
-    let second = slug(alloc, second)?;
-    Ok(found.displayed(&(*first < second)))
-}
-
-fn slug(alloc: Global, text: &str) -> Result<Slug, Fault> {
-    match slug_of(alloc, text.as_bytes()) {
-        Ok(slug) => Ok(slug),
-        Err(_) => Err(Fault::NoRow),
+    let first = slug_of(alloc, first.as_bytes());
+    let second = slug_of(alloc, second.as_bytes());
+    match (&first, &second) {
+        (Ok(first), Ok(second)) => Ok(found.displayed(&(first < second))),
+        _ => Err(Fault::NoRow),
     }
 }
 
-/// Whether the bytes are a name. Row: the bytes.
-pub(crate) fn find_name(input: &[u8], found: &mut Found) -> Result<(), Fault> {
-    Ok(found.displayed(&is_name(input)))
-}
-
-/// The number that the bytes are read as. Row: the bytes.
-pub(crate) fn find_number(input: &[u8], found: &mut Found) -> Result<(), Fault> {
+/// Adds the number that the bytes are read as.
+pub(crate) fn add_number(input: &[u8], found: &mut Found) {
     match read_number(input) {
-        Some(number) => Ok(found.displayed(&number)),
-        None => Ok(found.text("none")),
+        Some(number) => found.displayed(&number),
+        None => found.text("none"),
     }
 }
 
-/// The moment that the bytes are read as. Row: the bytes.
-pub(crate) fn find_moment(input: &[u8], found: &mut Found) -> Result<(), Fault> {
+/// Adds the moment that the bytes are read as.
+pub(crate) fn add_moment(input: &[u8], found: &mut Found) {
     match read_moment(input) {
-        Some(moment) => Ok(found.displayed(&moment)),
-        None => Ok(found.text("none")),
+        Some(moment) => found.displayed(&moment),
+        None => found.text("none"),
     }
 }

@@ -1,22 +1,25 @@
 //! Rows on the tokens of texts with their places, and on the faults of texts that have none.
+use crate::expressions::add_parsed;
 use jexl_lexer::{LexFault, Token, TokenKind, lex};
-use row_tables::{Fault, Found};
+use row_tables::Found;
 use std::alloc::Global;
 
-/// The tokens of a text, each with its span and a comma before it, or the message and the name of its fault. Row: the
-/// text.
-pub(crate) fn find_tokens(alloc: Global, input: &str, found: &mut Found) -> Result<(), Fault> {
+/// Adds what is found of a text, or the name of its fault: of the kind `tokens` its tokens, each with its span and a comma before
+/// it, or the message before the fault; of `count` the number of tokens; of `tree` the tree of the expression, and of `reading`
+/// that it has one.
+pub(crate) fn add_read(alloc: Global, kind: &str, input: &str, found: &mut Found) {
     match lex(alloc, input) {
-        Ok(tokens) => Ok(add_tokens(tokens.as_slice(), found)),
-        Err(fault) => Ok(add_fault(&fault, found)),
+        Ok(tokens) => add_lexed(alloc, kind, tokens.as_slice(), found),
+        Err(fault) if kind == "tokens" => add_fault(&fault, found),
+        Err(fault) => found.debugged(&fault),
     }
 }
 
-/// The number of tokens, or the name of a fault. Row: the text.
-pub(crate) fn find_count(alloc: Global, input: &str, found: &mut Found) -> Result<(), Fault> {
-    match lex(alloc, input) {
-        Ok(tokens) => Ok(found.displayed(&tokens.len())),
-        Err(fault) => Ok(found.debugged(&fault)),
+fn add_lexed(alloc: Global, kind: &str, tokens: &[Token], found: &mut Found) {
+    match kind {
+        "tokens" => add_tokens(tokens, found),
+        "count" => found.displayed(&tokens.len()),
+        _ => add_parsed(alloc, kind, tokens, found),
     }
 }
 

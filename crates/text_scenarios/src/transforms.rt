@@ -78,17 +78,7 @@ pub(crate) fn find_called(
     found: &mut Found,
 ) -> Result<(), Fault> {
     let (name, rest) = parts(input)?;
-    find_called_by(alloc, table, name, rest, found)
-}
-
-fn find_called_by(
-    alloc: Global,
-    table: &TransformTable,
-    name: &str,
-    input: &str,
-    found: &mut Found,
-) -> Result<(), Fault> {
-    let call = call_of(alloc, input)?;
+    let call = call_of(alloc, rest)?;
     Ok(add_called(alloc, table, name, &call, found))
 }
 
@@ -121,7 +111,7 @@ pub(crate) fn find_pushed_again(
         return Err(Fault::OutOfMemory);
     };
     let mut table = TransformTable::new(alloc);
-    put(alloc, &mut table, "date", wanting)?;
+    put(alloc, &mut table, "date", wanting);
     match table.push(alloc, "date", again) {
         Err(PushFault::DuplicateName(given_back)) => {
             find_both(alloc, &table, &given_back, input, found)
@@ -139,22 +129,11 @@ fn find_both(
 ) -> Result<(), Fault>
     requires { Transform.IsAlwaysCallable given_back.now }
 {
+    let call = call_of(alloc, input)?;
     found.displayed(&table.names());
     found.text(" ");
-    find_called_by(alloc, table, "date", input, found)?;
+    add_called(alloc, table, "date", &call, found);
     found.text(" ");
-    find_answer_of(alloc, given_back, input, found)
-}
-
-fn find_answer_of(
-    alloc: Global,
-    transform: &Transform,
-    input: &str,
-    found: &mut Found,
-) -> Result<(), Fault>
-    requires { Transform.IsAlwaysCallable transform.now }
-{
-    let call = call_of(alloc, input)?;
-    let answer = transform(&no_attributes(alloc), &call.subject, &call.arguments);
+    let answer = given_back(&no_attributes(alloc), &call.subject, &call.arguments);
     Ok(add_answer(alloc, &answer, found))
 }

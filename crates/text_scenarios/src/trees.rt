@@ -24,73 +24,52 @@ pub(crate) fn add_tree(alloc: Global, tree: &Tree, found: &mut Found) {
     }
 }
 
-/// The text that a text is read and written as, or the name of its fault. Row: the bytes.
-pub(crate) fn find_rewritten(alloc: Global, input: &[u8], found: &mut Found) -> Result<(), Fault> {
+/// Adds the text that a text is read and written as, or of the kind `readable` only `none`; or the name of its fault.
+pub(crate) fn add_read(alloc: Global, kind: &str, input: &[u8], found: &mut Found) {
     match read(alloc, input) {
-        Ok(tree) => Ok(add_tree(alloc, &tree, found)),
-        Err(fault) => Ok(found.debugged(&fault)),
-    }
-}
-
-/// The name of a text's fault, or `none`. Row: the bytes.
-pub(crate) fn find_fault(alloc: Global, input: &[u8], found: &mut Found) -> Result<(), Fault> {
-    match read(alloc, input) {
-        Ok(_) => Ok(found.text("none")),
-        Err(fault) => Ok(found.debugged(&fault)),
+        Ok(tree) if kind == "json" => add_tree(alloc, &tree, found),
+        Ok(_) => found.text("none"),
+        Err(fault) => found.debugged(&fault),
     }
 }
 
 /// Whether two texts have the same tree. Row: the texts with ` | ` between them.
 pub(crate) fn find_same(alloc: Global, input: &str, found: &mut Found) -> Result<(), Fault> {
     let (first, second) = parts(input)?;
-    let first = tree(alloc, first)?;
-    find_same_as(alloc, &first, second, found)
-}
-
-fn find_same_as(alloc: Global, first: &Tree, second: &str, found: &mut Found) -> Result<(), Fault> {
-    let second = tree(alloc, second)?;
-    Ok(found.displayed(&(*first == second)))
-}
-
-/// The text of a member of an object with a list and a truth value that is built, copied and read again, or `none`; at
-/// `all` its own text. Row: the key.
-pub(crate) fn find_member(alloc: Global, input: &str, found: &mut Found) -> Result<(), Fault> {
-    let tree = built(alloc)?;
-    find_member_of(alloc, &tree, input, found)
-}
-
-fn find_member_of(alloc: Global, tree: &Tree, key: &str, found: &mut Found) -> Result<(), Fault>
-    requires { depth (json_of tree.now) ≤ max_depth }
-{
-    if !is_copied(tree)? {
-        return Ok(found.text("a copy differs"));
+    let (first, second) = (tree(alloc, first), tree(alloc, second));
+    match (&first, &second) {
+        (Ok(first), Ok(second)) => Ok(found.displayed(&(first == second))),
+        _ => Err(Fault::NoRow),
     }
-    if !is_reread(alloc, tree)? {
-        return Ok(found.text("it reads back as another"));
+}
+
+/// Adds the text of a member of an object with a list and a truth value that is built, copied and read again, or `none`; at `all`
+/// its own text.
+pub(crate) fn add_member_of_copy(alloc: Global, key: &str, found: &mut Found) {
+    match built(alloc) {
+        Ok(tree) if !is_kept(alloc, &tree) => found.text("a copy differs"),
+        Ok(tree) if key == "all" => add_tree(alloc, &tree, found),
+        Ok(tree) => add_member(alloc, &tree, key, found),
+        Err(_) => found.lack_memory(),
     }
-    Ok(add_member(alloc, tree, key, found))
 }
 
 fn add_member(alloc: Global, tree: &Tree, key: &str, found: &mut Found) {
-    if key == "all" {
-        return add_tree(alloc, tree, found);
-    }
     match tree.get(key) {
         Some(member) => add_tree(alloc, member, found),
         None => found.text("none"),
     }
 }
 
-fn is_copied(tree: &Tree) -> Result<bool, AllocError> {
-    Ok(tree.clone()? == *tree)
-}
-
-fn is_reread(alloc: Global, tree: &Tree) -> Result<bool, Fault>
+// Whether a tree is copied and read again as the same.
+fn is_kept(alloc: Global, tree: &Tree) -> bool
     requires { depth (json_of tree.now) ≤ max_depth }
 {
-    match reread(alloc, tree) {
-        Ok(again) => Ok(again == *tree),
-        Err(_) => Err(Fault::OutOfMemory),
+    let copy: Result<Tree, AllocError> = tree.clone();
+    let again = reread(alloc, tree);
+    match (&copy, &again) {
+        (Ok(copy), Ok(again)) => copy == tree && again == tree,
+        _ => false,
     }
 }
 

@@ -4,58 +4,39 @@ use jexl_value::{Attributes, NamedValues, Text, Value, order, same, truthy};
 use row_tables::{Fault, Found, parts};
 use std::alloc::Global;
 
-/// What is found of a row.
+/// What is found of a row. Of the kind `truthy` whether a value counts as true, of `rewritten` the JSON text of its copy, of `order`
+/// how two values compare in both orders, and of `same` whether they are the same; the row is their JSON texts.
 pub(crate) fn find(alloc: Global, kind: &str, input: &str, found: &mut Found) -> Result<(), Fault> {
     match kind {
-        "truthy" => find_truthy(alloc, input, found),
-        "order" => find_order(alloc, input, found),
-        "same" => find_same(alloc, input, found),
-        "rewritten" => find_rewritten(alloc, input, found),
+        "order" | "same" => find_of_two(alloc, kind, input, found),
         "attribute" => find_attribute(alloc, input, found),
+        _ => find_of_one(alloc, kind, input, found),
+    }
+}
+
+fn find_of_one(alloc: Global, kind: &str, input: &str, found: &mut Found) -> Result<(), Fault> {
+    let value = value(alloc, input)?;
+    match kind {
+        "truthy" => Ok(found.displayed(&truthy(&value))),
+        "rewritten" => Ok(add_copy(alloc, &value, found)),
         _ => Err(Fault::NoRow),
     }
 }
 
-// Whether a value counts as true. Row: its JSON text.
-fn find_truthy(alloc: Global, input: &str, found: &mut Found) -> Result<(), Fault> {
-    let value = value(alloc, input)?;
-    Ok(found.displayed(&truthy(&value)))
-}
-
-// How two values compare, in both orders. Row: their JSON texts.
-fn find_order(alloc: Global, input: &str, found: &mut Found) -> Result<(), Fault> {
+fn find_of_two(alloc: Global, kind: &str, input: &str, found: &mut Found) -> Result<(), Fault> {
     let (left, right) = parts(input)?;
-    let left = value(alloc, left)?;
-    find_order_to(alloc, &left, right, found)
-}
-
-fn find_order_to(alloc: Global, left: &Value, right: &str, found: &mut Found) -> Result<(), Fault> {
-    let right = value(alloc, right)?;
-    Ok(add_order(left, &right, found))
+    let (left, right) = (value(alloc, left), value(alloc, right));
+    match (&left, &right) {
+        (Ok(left), Ok(right)) if kind == "order" => Ok(add_order(left, right, found)),
+        (Ok(left), Ok(right)) => Ok(found.displayed(&same(left, right))),
+        _ => Err(Fault::NoRow),
+    }
 }
 
 fn add_order(left: &Value, right: &Value, found: &mut Found) {
     found.debugged(&order(left, right));
     found.text(" ");
     found.debugged(&order(right, left));
-}
-
-// Whether two values are the same. Row: their JSON texts.
-fn find_same(alloc: Global, input: &str, found: &mut Found) -> Result<(), Fault> {
-    let (left, right) = parts(input)?;
-    let left = value(alloc, left)?;
-    find_same_as(alloc, &left, right, found)
-}
-
-fn find_same_as(alloc: Global, left: &Value, right: &str, found: &mut Found) -> Result<(), Fault> {
-    let right = value(alloc, right)?;
-    Ok(found.displayed(&same(left, &right)))
-}
-
-// The JSON text of a value, and of its copy. Row: a JSON text.
-fn find_rewritten(alloc: Global, input: &str, found: &mut Found) -> Result<(), Fault> {
-    let value = value(alloc, input)?;
-    Ok(add_copy(alloc, &value, found))
 }
 
 // Adds the JSON text of a copy of a value.

@@ -1,6 +1,5 @@
 //! Rows on the order of versions.
 use row_tables::{Fault, Found};
-use std::alloc::{AllocError, Global};
 use version_compare::compare;
 
 /// How two versions compare, in both orders. Row: the versions with a bar between them.
@@ -12,43 +11,37 @@ pub(crate) fn find_order(input: &str, found: &mut Found) -> Result<(), Fault> {
     Ok(found.debugged(&back))
 }
 
-// A version, and its rank.
-#[derive(Clone, Copy)]
-struct Ranked<'a> {
-    version: &'a str,
-    rank: u32,
-}
-
-/// The first pair that doesn't compare as the ranks of its versions, or `as ranked`. Row: versions with ` < ` between
-/// them, or ` = ` where the rank is the same.
-pub(crate) fn find_chain(alloc: Global, input: &str, found: &mut Found) -> Result<(), Fault> {
-    let mut chain = Vec::new(alloc);
-    add_versions(input, &mut chain)?;
-    match first_unranked(&chain) {
-        Some((first, second)) => Ok(found.texts(&[first, " and ", second])),
-        None => Ok(found.text("as ranked")),
+/// Adds the first pair that doesn't compare as the ranks of its versions, or `as ranked`. Row: versions with ` < ` between them, or
+/// ` = ` where the rank is the same.
+pub(crate) fn add_chain(input: &str, found: &mut Found) {
+    let mut rank = 0u32;
+    for first in input.split(' ') {
+        match first {
+            "<" => rank = rank.saturating_add(1),
+            "=" => {}
+            _ => {
+                if let Some(second) = first_unranked(input, first, rank) {
+                    return found.texts(&[first, " and ", second]);
+                }
+            }
+        }
     }
+    found.text("as ranked")
 }
 
-fn first_unranked<'a>(chain: &[Ranked<'a>]) -> Option<(&'a str, &'a str)> {
-    for first in chain {
-        for second in chain {
-            if compare(first.version, second.version) != first.rank.cmp(&second.rank) {
-                return Some((first.version, second.version));
+// The first version to which this one doesn't compare as their ranks.
+fn first_unranked<'a>(input: &'a str, version: &str, at: u32) -> Option<&'a str> {
+    let mut rank = 0u32;
+    for second in input.split(' ') {
+        match second {
+            "<" => rank = rank.saturating_add(1),
+            "=" => {}
+            _ => {
+                if compare(version, second) != at.cmp(&rank) {
+                    return Some(second);
+                }
             }
         }
     }
     None
-}
-
-fn add_versions<'a>(input: &'a str, chain: &mut Vec<Ranked<'a>>) -> Result<(), AllocError> {
-    let mut rank = 0u32;
-    for word in input.split(' ') {
-        match word {
-            "<" => rank = rank.saturating_add(1),
-            "=" => {}
-            version => chain.push(Ranked { version, rank })?,
-        }
-    }
-    Ok(())
 }
