@@ -12,6 +12,7 @@ pub mod Migrating
 pub mod Fresh
 pub mod Encoded
 pub mod Valids
+pub mod Known
 pub mod Added
 pub mod KeyOrder
 pub mod Letters

@@ -1,5 +1,5 @@
 -- What rows of a store say of a state. Of rows that encode one it is the state; what it makes of other rows doesn't matter.
-use Rattle.std.specs.Prelude.{ℕ, ◌==◌, ◌||◌, nat_le, Bool, true, false, List, [], ◌∷◌, length, Option, Some, None, if◌then◌else◌, codes, bytes_eq, ⊤}
+use Rattle.std.specs.Prelude.{◌≡◌, ℕ, ◌==◌, ◌||◌, nat_le, Bool, true, false, List, [], ◌∷◌, length, Option, Some, None, if◌then◌else◌, codes, bytes_eq, ⊤}
 use Rattle.recipe_reader.specs.Records.{IsValid}
 use Rattle.recipe_reader.specs.Payloads.{AreValid, has_slug, with_recipe}
 use Rattle.recipe_reader.specs.declared.recipe.Recipe.{Recipe}
@@ -47,6 +47,10 @@ text_row tag r = tagged (λ rest value. text_in rest) (after_tag tag r.key) r.va
 
 unfoldable pub recipe_row : ℕ → StoreRow → Option (Option Recipe)
 recipe_row tag r = tagged (λ rest value. recipe_in value) (after_tag tag r.key) r.value
+
+-- whether the bytes are read as the recipe, which is valid
+abbrev pub IsRecordOf : Recipe → List ℕ → Type 0
+IsRecordOf r bytes = (recipe_in bytes ≡ Some r) × IsValid r
 
 unfoldable pub client_row_in : List ℕ → List ℕ → Option Row
 client_row_in rest value = do

@@ -91,8 +91,8 @@ fn recipes_in(alloc: Global, rows: &[StoreRow]) -> Result<StateRecipes, CodecFau
     ensures recipes { Gives (λ r. r) result (recipes_in rows.now) }
     ensures valid { IfOk result HaveValid }
 {
-    let live = recipes_under(alloc, RowKind::Live, rows)?;
-    let waiting = recipes_under(alloc, RowKind::Pending, rows)?;
+    let live = recipes_under(alloc, RowKind::Live, rows, &Recipes::new(alloc))?;
+    let waiting = recipes_under(alloc, RowKind::Pending, rows, &live)?;
     let pending = flag_under(RowKind::IsPending, rows)?;
     Ok(StateRecipes {
         live,
