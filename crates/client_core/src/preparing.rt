@@ -1,5 +1,5 @@
 // A step is prepared: its new state, the changed rows and its answer are built before the first write.
-ghost use Rattle.std.specs.Prelude.{◌≡◌, ◌≤◌, ◌<◌, List, ℕ, Option, None, IfOk, IfErr, IsErrOf, IsTrue, false, length};
+ghost use Rattle.std.specs.Prelude.{◌≡◌, ◌≤◌, ◌<◌, List, ℕ, Option, None, IfOk, IfErr, IsErrOf, IsTrue, OnOk, false, length};
 ghost use Rattle.host_model.specs.Causes.{Rose};
 ghost use Rattle.enrol_states.specs.State.{last_moment};
 ghost use Rattle.jexl_transforms.specs.Table.{HasStandardNames};
@@ -159,7 +159,10 @@ impl Client {
         ensures answer { IfOk result (λ prepared. IsAnswerOrRefused (answer_for asked) (answer_in prepared)) }
     {
         match asked {
-            Asked::NewState { change, answer } => self.changed(alloc, change.into_change(), answer),
+            Asked::NewState { change, answer } => {
+                let mut change = change.into_change();
+                self.changed(alloc, &mut change, answer)
+            }
             Asked::Followed { change, answer } => self.changed_to(alloc, change.get(), answer),
             Asked::SameState { change, answer } => Ok(self.unchanged(change, answer)),
             Asked::Refused(refusal) => {
@@ -172,18 +175,18 @@ impl Client {
     fn changed(
         &mut self,
         alloc: Global,
-        change: StateChange,
+        change: &mut StateChange,
         answer: Answer,
     ) -> Result<Prepared, AllocError>
-        requires change { IsChangeOf (state_of self.old) change }
-        requires preferences { change.preferences ≡ None }
+        requires change { IsChangeOf (state_of self.old) change.old }
+        requires preferences { change.old.preferences ≡ None }
         ensures same { IsSameClient self.old self.new }
         ensures made { IfOk result (λ prepared. IsMadeOn self.new prepared) }
-        ensures step { IfOk result (λ prepared. Leads self.new prepared (done (state_of self.old) (session_of self.old) (changed_outcome (state_of self.old) (session_of self.old) change answer))) }
+        ensures step { IfOk result (λ prepared. Leads self.new prepared (done (state_of self.old) (session_of self.old) (changed_outcome (state_of self.old) (session_of self.old) change.old answer))) }
         ensures answer { IfOk result (λ prepared. IsAnswerOrRefused answer (answer_in prepared)) }
     {
         match self.followed(alloc, change) {
-            Ok(change) => self.changed_to(alloc, &change, answer),
+            Ok(()) => self.changed_to(alloc, change, answer),
             Err(AppendChangesFault::ChangesSpent) => {
                 Ok(self.unchanged(SessionChange::Stays, Answer::Refused(Refusal::ChangesSpent)))
             }
@@ -191,20 +194,20 @@ impl Client {
         }
     }
 
-    // The change with what follows it, by the session's manifest and bindings. The state is lent to that, and stays the same.
+    // Adds what follows the change to it, by the session's manifest and bindings. The state is lent to that, and stays the same.
     pub(crate) fn followed(
         &mut self,
         alloc: Global,
-        change: StateChange,
-    ) -> Result<StateChange, AppendChangesFault>
-        requires change { IsChangeOf (state_of self.old) change }
-        requires preferences { change.preferences ≡ None }
+        change: &mut StateChange,
+    ) -> Result<(), AppendChangesFault>
+        requires change { IsChangeOf (state_of self.old) change.old }
+        requires preferences { change.old.preferences ≡ None }
         ensures same { self.new ≡ self.old }
-        ensures followed { IfOk result (λ next. state_after next (state_of self.old)
-            ≡ followed (session_of self.old).manifest (session_of self.old).bindings change (state_of self.old)) }
-        ensures change { IfOk result (IsWholeChangeOf (state_of self.old)) }
-        ensures not_spent { IfOk result (λ _. spends change (state_of self.old) ≡ false) }
-        ensures spent { IsErrOf result AppendChangesFault.ChangesSpent → IsTrue (spends change (state_of self.old)) }
+        ensures followed { OnOk result (state_after change.new (state_of self.old)
+            ≡ followed (session_of self.old).manifest (session_of self.old).bindings change.old (state_of self.old)) }
+        ensures change { OnOk result (IsWholeChangeOf (state_of self.old) change.new) }
+        ensures not_spent { OnOk result (spends change.old (state_of self.old) ≡ false) }
+        ensures spent { IsErrOf result AppendChangesFault.ChangesSpent → IsTrue (spends change.old (state_of self.old)) }
     {
         // Its contract says that the state is sound.
         self.store.state();

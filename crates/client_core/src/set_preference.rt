@@ -40,8 +40,8 @@ impl Client {
         ensures follows { IfOk result (λ asked. FollowsFrom (state_of self.old) asked) }
     {
         match self.released(alloc, name) {
-            Ok(change) => {
-                let change = self.store.set_preference(change, name, value)?;
+            Ok(mut change) => {
+                self.store.set_preference(&mut change, name, value)?;
                 Ok(Asked::Followed {
                     change: BoxedChange::new(alloc, change)?,
                     answer: Answer::Okay,
@@ -67,8 +67,9 @@ impl Client {
         };
         let slug = holder.clone()?;
         let ended = self.ended(&slug)?;
-        let change = StateChange::of_next_state(ended);
-        self.followed(alloc, change)
+        let mut change = StateChange::of_next_state(ended);
+        self.followed(alloc, &mut change)?;
+        Ok(change)
     }
 
     // The enrolment in which that of the slug has ended. The state is lent to that, and stays the same.

@@ -1,5 +1,5 @@
 // What follows a change of the enrolment.
-ghost use Rattle.std.specs.Prelude.{◌≡◌, ◌+◌, false, nat_lt, length, IfOk, IsErrOf, IsTrue, option_map};
+ghost use Rattle.std.specs.Prelude.{◌≡◌, ◌+◌, false, nat_lt, length, IfOk, IsErrOf, IsTrue, OnErr, OnOk, option_map};
 ghost use Rattle.std.specs.Option.{unwrap_or};
 ghost use Rattle.enrol_states.specs.Consistent as states;
 ghost use Rattle.change_outbox.specs.Contents as contents;
@@ -22,30 +22,32 @@ use std::alloc::{AllocError, Global};
 /// and the preferences do their leaves and then their joins. A join sets what the branch of the slug's live recipe sets of the bound
 /// preferences, where there are a manifest and bindings. Where no enrolment changes, both stay as they are. `ChangesSpent` comes
 /// exactly where the outbox's next number would pass 9,223,372,036,854,775,807. Of the rows of both enrolments the part is walked
-/// once that may differ, and the texts of entries are shared. The state is lent to the outbox, and stays the same.
+/// once that may differ, and the texts of entries are shared. The state is lent to the outbox, and stays the same. After an error the
+/// change is as it was.
 #[tactic(auto, using(crate::proofs::Followed::none_followed, crate::proofs::Followed::none_whole, crate::proofs::Followed::none_spent, crate::proofs::Followed::empty_followed, crate::proofs::Followed::empty_whole, crate::proofs::Followed::empty_spent, crate::proofs::Followed::all_followed, crate::proofs::Followed::all_whole, crate::proofs::Followed::all_spent))]
 pub fn follow(
     alloc: Global,
     state: &mut ClientState,
-    change: StateChange,
+    change: &mut StateChange,
     manifest: Option<&Manifest>,
     bindings: Option<&Bindings>,
-) -> Result<StateChange, AppendChangesFault>
+) -> Result<(), AppendChangesFault>
     requires state { IsConsistent state.old }
-    requires change { IsChangeOf state.old change }
-    requires holders { HasHoldersOfBefore state.old change }
+    requires change { IsChangeOf state.old change.old }
+    requires holders { HasHoldersOfBefore state.old change.old }
     ensures same { state.new ≡ state.old }
-    ensures followed { IfOk result (λ next. state_after next state.old ≡ followed (option_map (λ m. m.now) manifest.entry) (option_map (λ b. b.now) bindings.entry) change state.old) }
-    ensures change { IfOk result (IsWholeChangeOf state.old) }
-    ensures not_spent { IfOk result (λ _. spends change state.old ≡ false) }
-    ensures spent { IsErrOf result AppendChangesFault.ChangesSpent → IsTrue (spends change state.old) }
+    ensures followed { OnOk result (state_after change.new state.old ≡ followed (option_map (λ m. m.now) manifest.entry) (option_map (λ b. b.now) bindings.entry) change.old state.old) }
+    ensures change { OnOk result (IsWholeChangeOf state.old change.new) }
+    ensures not_spent { OnOk result (spends change.old state.old ≡ false) }
+    ensures spent { IsErrOf result AppendChangesFault.ChangesSpent → IsTrue (spends change.old state.old) }
+    ensures unchanged { OnErr result (change.new ≡ change.old) }
 {
     let Some(next) = &change.enrolment else {
-        return Ok(change);
+        return Ok(());
     };
     let changes = enrolment_changes(alloc, &state.enrolment, next)?;
     if changes.is_empty() {
-        return Ok(change);
+        return Ok(());
     }
     let sources = Sources {
         enrolment: &next.state,
@@ -58,13 +60,10 @@ pub fn follow(
         changes.as_slice(),
         change.preferences_or(&state.preferences),
     )?;
-    let preferences = next_preferences(&state.preferences, change.preferences, done);
-    let outbox = next_outbox(&mut state.outbox, change.outbox, changes)?;
-    Ok(StateChange {
-        outbox: Some(outbox),
-        preferences,
-        ..change
-    })
+    let outbox = next_outbox(&mut state.outbox, &mut change.outbox, changes)?;
+    change.preferences = next_preferences(&state.preferences, change.preferences.take(), done);
+    change.outbox = Some(outbox);
+    Ok(())
 }
 
 // The changes from the enrolment to the next one, numbered from 0. Of the rows the part alone is looked at that may differ.
@@ -101,22 +100,23 @@ fn next_preferences(
     }
 }
 
-// The next outbox, or else that of before, with the changes. That of before is lent, and stays the same.
+// The next outbox, or else that of before, with the changes. Both are lent, and stay the same.
 #[tactic(auto, using(change_outbox::proofs::Made::made_itself))]
 fn next_outbox(
     before: &mut Outbox,
-    next: Option<Outbox>,
+    next: &mut Option<Outbox>,
     changes: Sequence<Change>,
 ) -> Result<Outbox, AppendChangesFault>
-    requires next { IsNextOutboxIf before.old next }
+    requires next { IsNextOutboxIf before.old next.old }
     ensures same { before.new ≡ before.old }
-    ensures outbox { IfOk result (λ outbox. outbox ≡ appended changes (unwrap_or next before.old)) }
+    ensures same_next { next.new ≡ next.old }
+    ensures outbox { IfOk result (λ outbox. outbox ≡ appended changes (unwrap_or next.old before.old)) }
     ensures next { IfOk result (IsNextOutbox before.old) }
-    ensures not_spent { IfOk result (λ _. nat_lt last_number ((unwrap_or next before.old).next + length changes) ≡ false) }
-    ensures spent { IsErrOf result AppendChangesFault.ChangesSpent → IsTrue (nat_lt last_number ((unwrap_or next before.old).next + length changes)) }
+    ensures not_spent { IfOk result (λ _. nat_lt last_number ((unwrap_or next.old before.old).next + length changes) ≡ false) }
+    ensures spent { IsErrOf result AppendChangesFault.ChangesSpent → IsTrue (nat_lt last_number ((unwrap_or next.old before.old).next + length changes)) }
 {
     match next {
-        Some(mut outbox) => with_changes(&mut outbox, changes),
+        Some(outbox) => with_changes(outbox, changes),
         None => with_changes(before, changes),
     }
 }

@@ -1,5 +1,5 @@
 // A state that may be stored, with the size of its encoding.
-ghost use Rattle.std.specs.Prelude.{◌≡◌, ◌≤◌, ◌+◌, false, IfOk, IsErrOf, IsTrue, length, option_map, ⊤, MatchOption, None};
+ghost use Rattle.std.specs.Prelude.{◌≡◌, ◌≤◌, ◌+◌, false, IfOk, IsErrOf, IsTrue, OnErr, OnOk, length, option_map, ⊤, MatchOption, None};
 ghost use Rattle.std.specs.Fn.{FnOnceReturnsAtMut, FnOnceTakesAtMut};
 ghost use Rattle.plain_text.specs.Names.{is_name};
 ghost use Rattle.pref_bindings.specs.Preferences.{IsValue, holder_of};
@@ -102,40 +102,42 @@ impl SizedState {
         function(&mut self.counted.state)
     }
 
-    /// The change with what follows it. The state is lent to that, and stays the same.
+    /// Adds what follows the change to it. The state is lent to that, and stays the same. After an error the change is as it was.
     pub(crate) fn follow(
         &mut self,
         alloc: Global,
-        change: StateChange,
+        change: &mut StateChange,
         manifest: Option<&Manifest>,
         bindings: Option<&Bindings>,
-    ) -> Result<StateChange, AppendChangesFault>
-        requires change { IsChangeOf self.old change }
-        requires holders { HasHoldersOfBefore self.old change }
+    ) -> Result<(), AppendChangesFault>
+        requires change { IsChangeOf self.old change.old }
+        requires holders { HasHoldersOfBefore self.old change.old }
         ensures same { self.new ≡ self.old }
-        ensures followed { IfOk result (λ next. state_after next self.old ≡ followed (option_map (λ m. m.now) manifest.entry) (option_map (λ b. b.now) bindings.entry) change self.old) }
-        ensures change { IfOk result (IsWholeChangeOf self.old) }
-        ensures not_spent { IfOk result (λ _. spends change self.old ≡ false) }
-        ensures spent { IsErrOf result AppendChangesFault.ChangesSpent → IsTrue (spends change self.old) }
+        ensures followed { OnOk result (state_after change.new self.old ≡ followed (option_map (λ m. m.now) manifest.entry) (option_map (λ b. b.now) bindings.entry) change.old self.old) }
+        ensures change { OnOk result (IsWholeChangeOf self.old change.new) }
+        ensures not_spent { OnOk result (spends change.old self.old ≡ false) }
+        ensures spent { IsErrOf result AppendChangesFault.ChangesSpent → IsTrue (spends change.old self.old) }
+        ensures unchanged { OnErr result (change.new ≡ change.old) }
     {
         follow(alloc, &mut self.counted.state, change, manifest, bindings)
     }
 
-    /// The change after which the user has set the value of a preference too, or taken it away. The state is lent to that, and stays
-    /// the same.
+    /// Makes the change one after which the user has set the value of a preference too, or taken it away. The state is lent to that,
+    /// and stays the same. After an error the change is as it was.
     pub(crate) fn set_preference(
         &mut self,
-        change: StateChange,
+        change: &mut StateChange,
         name: &Text,
         value: Option<&Tree>,
-    ) -> Result<StateChange, AllocError>
-        requires change { IsWholeChangeOf self.old change }
-        requires free { holder_of name.now (state_after change self.old).preferences ≡ None }
+    ) -> Result<(), AllocError>
+        requires change { IsWholeChangeOf self.old change.old }
+        requires free { holder_of name.now (state_after change.old self.old).preferences ≡ None }
         requires name { IsTrue (is_name name.now) }
         requires value { MatchOption value ⊤ (λ v. IsValue v.now) }
         ensures same { self.new ≡ self.old }
-        ensures set { IfOk result (λ next. state_after next self.old ≡ with_users_value name.now (option_map (λ v. v.now) value.entry) (state_after change self.old)) }
-        ensures change { IfOk result (IsWholeChangeOf self.old) }
+        ensures set { OnOk result (state_after change.new self.old ≡ with_users_value name.now (option_map (λ v. v.now) value.entry) (state_after change.old self.old)) }
+        ensures change { OnOk result (IsWholeChangeOf self.old change.new) }
+        ensures unchanged { OnErr result (change.new ≡ change.old) }
     {
         set_preference(&mut self.counted.state, change, name, value)
     }

@@ -84,40 +84,42 @@ impl StateStore {
         self.state.lend(function)
     }
 
-    /// The change with what follows it. The state is lent to that, and stays the same.
+    /// Adds what follows the change to it. The state is lent to that, and stays the same. After an error the change is as it was.
     pub fn follow(
         &mut self,
         alloc: Global,
-        change: StateChange,
+        change: &mut StateChange,
         manifest: Option<&Manifest>,
         bindings: Option<&Bindings>,
-    ) -> Result<StateChange, AppendChangesFault>
-        requires change { changes.IsChangeOf self.old.state change }
-        requires holders { HasHoldersOfBefore self.old.state change }
+    ) -> Result<(), AppendChangesFault>
+        requires change { changes.IsChangeOf self.old.state change.old }
+        requires holders { HasHoldersOfBefore self.old.state change.old }
         ensures same { self.new ≡ self.old }
-        ensures followed { IfOk result (λ next. state_after next self.old.state ≡ followed (option_map (λ m. m.now) manifest.entry) (option_map (λ b. b.now) bindings.entry) change self.old.state) }
-        ensures change { IfOk result (IsWholeChangeOf self.old.state) }
-        ensures not_spent { IfOk result (λ _. spends change self.old.state ≡ false) }
-        ensures spent { IsErrOf result AppendChangesFault.ChangesSpent → IsTrue (spends change self.old.state) }
+        ensures followed { OnOk result (state_after change.new self.old.state ≡ followed (option_map (λ m. m.now) manifest.entry) (option_map (λ b. b.now) bindings.entry) change.old self.old.state) }
+        ensures change { OnOk result (IsWholeChangeOf self.old.state change.new) }
+        ensures not_spent { OnOk result (spends change.old self.old.state ≡ false) }
+        ensures spent { IsErrOf result AppendChangesFault.ChangesSpent → IsTrue (spends change.old self.old.state) }
+        ensures unchanged { OnErr result (change.new ≡ change.old) }
     {
         self.state.follow(alloc, change, manifest, bindings)
     }
 
-    /// The change after which the user has set the value of a preference too, or taken it away. The state is lent to that, and stays
-    /// the same.
+    /// Makes the change one after which the user has set the value of a preference too, or taken it away. The state is lent to that,
+    /// and stays the same. After an error the change is as it was.
     pub fn set_preference(
         &mut self,
-        change: StateChange,
+        change: &mut StateChange,
         name: &Text,
         value: Option<&Tree>,
-    ) -> Result<StateChange, AllocError>
-        requires change { IsWholeChangeOf self.old.state change }
-        requires free { holder_of name.now (state_after change self.old.state).preferences ≡ None }
+    ) -> Result<(), AllocError>
+        requires change { IsWholeChangeOf self.old.state change.old }
+        requires free { holder_of name.now (state_after change.old self.old.state).preferences ≡ None }
         requires name { IsTrue (is_name name.now) }
         requires value { MatchOption value ⊤ (λ v. IsValue v.now) }
         ensures same { self.new ≡ self.old }
-        ensures set { IfOk result (λ next. state_after next self.old.state ≡ with_users_value name.now (option_map (λ v. v.now) value.entry) (state_after change self.old.state)) }
-        ensures change { IfOk result (IsWholeChangeOf self.old.state) }
+        ensures set { OnOk result (state_after change.new self.old.state ≡ with_users_value name.now (option_map (λ v. v.now) value.entry) (state_after change.old self.old.state)) }
+        ensures change { OnOk result (IsWholeChangeOf self.old.state change.new) }
+        ensures unchanged { OnErr result (change.new ≡ change.old) }
     {
         self.state.set_preference(change, name, value)
     }

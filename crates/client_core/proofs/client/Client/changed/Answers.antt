@@ -19,6 +19,6 @@ returns-in-Ok-clause-step c =
     let answer = c.args.answer in
     subst (λ (o : Outcome). IfOk c.changed_to.result (λ prepared. Leads c.changed_to.new.self prepared (done s session o)))
     (ap (λ (t : ClientState). Accepted t session answer) c.in-Ok.ensures.followed
-    ∙ sym (ap (λ (spent : Bool). if spent then Refused ChangesSpent else Accepted (followed session.manifest session.bindings c.args.change s) session answer) c.in-Ok.ensures.not_spent))
-    (subst (λ (x : Client). IfOk c.changed_to.result (λ prepared. Leads c.changed_to.new.self prepared (done x.store.state x.session (Accepted (state_after c.in-Ok.change x.store.state) x.session answer))))
+    ∙ sym (ap (λ (spent : Bool). if spent then Refused ChangesSpent else Accepted (followed session.manifest session.bindings c.args.change.now s) session answer) c.in-Ok.ensures.not_spent))
+    (subst (λ (x : Client). IfOk c.changed_to.result (λ prepared. Leads c.changed_to.new.self prepared (done x.store.state x.session (Accepted (state_after c.followed.new.change x.store.state) x.session answer))))
     c.in-Ok.ensures.same c.changed_to.ensures.step)

@@ -1,6 +1,5 @@
 -- Where a slug holds the preference, nobody does after the end of its enrolment.
 use Rattle.std.proofs.Common.{◌≡◌, ℕ, List, Some, refl, sym, ap, ◌∙◌, subst}
-use Rattle.std.specs.Prelude.{IfOk}
 use Rattle.enrol_states.specs.Commands.{enrolment_ended}
 use Rattle.pref_bindings.specs.Preferences.{holder_of}
 use Rattle.pref_bindings.specs.declared.preference.Preference.{Preference}
@@ -8,7 +7,7 @@ use Rattle.client_state.specs.Changes.{IsChangeOf, state_after}
 use Rattle.client_state.specs.Following.{followed}
 use Rattle.client_state.proofs.NextStates.{is_change}
 use Rattle.client_core.specs.declared.client.Client.{Client}
-use Rattle.client_core.proofs.Preferring.{released_to_none}
+use Rattle.client_core.proofs.Preferring.{free_after}
 use Rattle.client_core.proofs.client.Client.released.Goals as goal
 
 pub followed-requires-clause-change : goal.followed-requires-clause-change
@@ -27,6 +26,6 @@ returns-clause-free c =
     subst (λ (n : List ℕ). holder_of n s.preferences ≡ Some holder) c.as_str.ensures.text
     (subst (λ (ps : List Preference). holder_of c.as_str.result.now ps ≡ Some holder) c.prefs.ensures.preferences (sym c.in-Some.ensures))
     in
-    released_to_none s c.prefs.ensures.consistent client.session c.args.name.now holder held c.in_ok-ended.ended.state
-    (c.in_ok-ended.ensures.state ∙ ap (λ (slug : List ℕ). enrolment_ended slug s.enrolment) c.in_ok-slug.ensures.cases) _ c.of_next_state-change.result c.of_next_state-change.ensures c.followed.result
-    (subst (λ (it : Client). IfOk c.followed.result (λ next. state_after next it.store.state ≡ followed it.session.manifest it.session.bindings c.of_next_state-change.result it.store.state)) c.ended.ensures.same c.followed.ensures.followed)
+    free_after s c.prefs.ensures.consistent client.session c.args.name.now holder held c.in_ok-ended.ended.state
+    (c.in_ok-ended.ensures.state ∙ ap (λ (slug : List ℕ). enrolment_ended slug s.enrolment) c.in_ok-slug.ensures.cases) _ c.of_next_state-change.result c.of_next_state-change.ensures (state_after c.followed.new.change s)
+    (subst (λ (it : Client). state_after c.followed.new.change it.store.state ≡ followed it.session.manifest it.session.bindings c.of_next_state-change.result it.store.state) c.ended.ensures.same c.in_ok-followed.ensures.followed)
