@@ -63,23 +63,23 @@ unfoldable pub id_in : List ℕ → Result (List ℕ) LineFault
 id_in word = id_read (parsed word)
 
 -- the words behind `manifest`: the name of the first file, and the channel
-abbrev pub manifest_file : List (List ℕ) → Result Command LineFault
-manifest_file [] = Err BadWords
-manifest_file (word ∷ []) = Err BadWords
-manifest_file (word ∷ next ∷ []) = text_in word >>= λ file. text_in next >>= λ channel. Ok (Manifest file channel)
-manifest_file (word ∷ next ∷ more ∷ rest) = Err BadWords
+abbrev pub manifest_command : List (List ℕ) → Result Command LineFault
+manifest_command [] = Err BadWords
+manifest_command (word ∷ []) = Err BadWords
+manifest_command (word ∷ next ∷ []) = text_in word >>= λ file. text_in next >>= λ channel. Ok (Manifest file channel)
+manifest_command (word ∷ next ∷ more ∷ rest) = Err BadWords
 
 -- the words behind `context`
-abbrev pub context_file : List (List ℕ) → Result Command LineFault
-context_file [] = Err BadWords
-context_file (word ∷ []) = text_in word >>= λ file. Ok (Context file)
-context_file (word ∷ next ∷ more) = Err BadWords
+abbrev pub context_command : List (List ℕ) → Result Command LineFault
+context_command [] = Err BadWords
+context_command (word ∷ []) = text_in word >>= λ file. Ok (Context file)
+context_command (word ∷ next ∷ more) = Err BadWords
 
 -- the words behind `fetch`
-abbrev pub fetching : List (List ℕ) → Result Command LineFault
-fetching [] = Err BadWords
-fetching (word ∷ []) = text_in word >>= λ file. Ok (Fetch file)
-fetching (word ∷ next ∷ more) = Err BadWords
+abbrev pub fetch_command : List (List ℕ) → Result Command LineFault
+fetch_command [] = Err BadWords
+fetch_command (word ∷ []) = text_in word >>= λ file. Ok (Fetch file)
+fetch_command (word ∷ next ∷ more) = Err BadWords
 
 -- the words behind a command that has none
 abbrev pub alone : Command → List (List ℕ) → Result Command LineFault
@@ -95,36 +95,36 @@ abbrev pub kinds_in : List ℕ → Result Kinds LineFault
 kinds_in word = if bytes_eq word (codes "experiments") then Ok Experiments else (if bytes_eq word (codes "rollouts") then Ok Rollouts else Err BadWords)
 
 -- the words behind `participate`: `yes` or `no`, for the recipes of both kinds or of the one that stands before it
-abbrev pub participation : List (List ℕ) → Result Command LineFault
-participation [] = Err BadWords
-participation (word ∷ []) = yes_or_no_in word >>= λ on. Ok (Participate Both on)
-participation (word ∷ next ∷ []) = kinds_in word >>= λ kinds. yes_or_no_in next >>= λ on. Ok (Participate kinds on)
-participation (word ∷ next ∷ more ∷ rest) = Err BadWords
+abbrev pub participate_command : List (List ℕ) → Result Command LineFault
+participate_command [] = Err BadWords
+participate_command (word ∷ []) = yes_or_no_in word >>= λ on. Ok (Participate Both on)
+participate_command (word ∷ next ∷ []) = kinds_in word >>= λ kinds. yes_or_no_in next >>= λ on. Ok (Participate kinds on)
+participate_command (word ∷ next ∷ more ∷ rest) = Err BadWords
 
 -- the words behind `opt-out`
-abbrev pub opting_out : List (List ℕ) → Result Command LineFault
-opting_out [] = Err BadWords
-opting_out (word ∷ []) = slug_in word >>= λ slug. Ok (OptOut slug)
-opting_out (word ∷ next ∷ more) = Err BadWords
+abbrev pub opt_out_command : List (List ℕ) → Result Command LineFault
+opt_out_command [] = Err BadWords
+opt_out_command (word ∷ []) = slug_in word >>= λ slug. Ok (OptOut slug)
+opt_out_command (word ∷ next ∷ more) = Err BadWords
 
 -- the words behind `opt-in`: the slug's place is told first
-abbrev pub opting_in : List (List ℕ) → Result Command LineFault
-opting_in [] = Err BadWords
-opting_in (word ∷ []) = Err BadWords
-opting_in (word ∷ next ∷ []) = slug_in word >>= λ slug. slug_in next >>= λ branch. Ok (OptIn slug branch)
-opting_in (word ∷ next ∷ more ∷ rest) = Err BadWords
+abbrev pub opt_in_command : List (List ℕ) → Result Command LineFault
+opt_in_command [] = Err BadWords
+opt_in_command (word ∷ []) = Err BadWords
+opt_in_command (word ∷ next ∷ []) = slug_in word >>= λ slug. slug_in next >>= λ branch. Ok (OptIn slug branch)
+opt_in_command (word ∷ next ∷ more ∷ rest) = Err BadWords
 
 -- the words behind `reset`
-abbrev pub resetting : List (List ℕ) → Result Command LineFault
-resetting [] = Err BadWords
-resetting (word ∷ []) = id_in word >>= λ id. Ok (Reset id)
-resetting (word ∷ next ∷ more) = Err BadWords
+abbrev pub reset_command : List (List ℕ) → Result Command LineFault
+reset_command [] = Err BadWords
+reset_command (word ∷ []) = id_in word >>= λ id. Ok (Reset id)
+reset_command (word ∷ next ∷ more) = Err BadWords
 
 -- the words behind `feature`
-abbrev pub feature_name : List (List ℕ) → Result Command LineFault
-feature_name [] = Err BadWords
-feature_name (word ∷ []) = text_in word >>= λ name. Ok (Feature name)
-feature_name (word ∷ next ∷ more) = Err BadWords
+abbrev pub feature_command : List (List ℕ) → Result Command LineFault
+feature_command [] = Err BadWords
+feature_command (word ∷ []) = text_in word >>= λ name. Ok (Feature name)
+feature_command (word ∷ next ∷ more) = Err BadWords
 
 -- the name of what a user did, or of a preference
 abbrev pub name_in : List ℕ → Result (List ℕ) LineFault
@@ -139,11 +139,11 @@ unfoldable pub count_in : List ℕ → Result ℕ LineFault
 count_in word = if is_count (digits_value 10 word) word then Ok (digits_value 10 word) else Err BadWords
 
 -- the words behind `event`: the name is told first
-abbrev pub event_count : List (List ℕ) → Result Command LineFault
-event_count [] = Err BadWords
-event_count (word ∷ []) = Err BadWords
-event_count (word ∷ next ∷ []) = name_in word >>= λ name. count_in next >>= λ count. Ok (Event name count)
-event_count (word ∷ next ∷ more ∷ rest) = Err BadWords
+abbrev pub event_command : List (List ℕ) → Result Command LineFault
+event_command [] = Err BadWords
+event_command (word ∷ []) = Err BadWords
+event_command (word ∷ next ∷ []) = name_in word >>= λ name. count_in next >>= λ count. Ok (Event name count)
+event_command (word ∷ next ∷ more ∷ rest) = Err BadWords
 
 -- the word is this number in decimal, and the number is below 2 to the 64
 abbrev pub is_number : ℕ → List ℕ → Bool
@@ -154,16 +154,16 @@ unfoldable pub number_in : List ℕ → Result ℕ LineFault
 number_in word = if is_number (digits_value 10 word) word then Ok (digits_value 10 word) else Err BadWords
 
 -- the words behind `confirm`
-abbrev pub confirming : List (List ℕ) → Result Command LineFault
-confirming [] = Err BadWords
-confirming (word ∷ []) = number_in word >>= λ number. Ok (Confirm number)
-confirming (word ∷ next ∷ more) = Err BadWords
+abbrev pub confirm_command : List (List ℕ) → Result Command LineFault
+confirm_command [] = Err BadWords
+confirm_command (word ∷ []) = number_in word >>= λ number. Ok (Confirm number)
+confirm_command (word ∷ next ∷ more) = Err BadWords
 
 -- the words behind `bind`
-abbrev pub bindings_file : List (List ℕ) → Result Command LineFault
-bindings_file [] = Err BadWords
-bindings_file (word ∷ []) = text_in word >>= λ file. Ok (Bind file)
-bindings_file (word ∷ next ∷ more) = Err BadWords
+abbrev pub bind_command : List (List ℕ) → Result Command LineFault
+bind_command [] = Err BadWords
+bind_command (word ∷ []) = text_in word >>= λ file. Ok (Bind file)
+bind_command (word ∷ next ∷ more) = Err BadWords
 
 -- a truth value, a whole number of 64 bits or a text
 abbrev pub preference_value : Json → Result Tree LineFault
@@ -181,38 +181,38 @@ unfoldable pub value_in : List ℕ → Result Tree LineFault
 value_in word = value_read (tree_of word)
 
 -- the words behind `set-pref`
-abbrev pub setting_preference : List (List ℕ) → Result Command LineFault
-setting_preference [] = Err BadWords
-setting_preference (word ∷ []) = Err BadWords
-setting_preference (word ∷ next ∷ []) = name_in word >>= λ name. value_in next >>= λ value. Ok (SetPreference name value)
-setting_preference (word ∷ next ∷ more ∷ rest) = Err BadWords
+abbrev pub set_preference_command : List (List ℕ) → Result Command LineFault
+set_preference_command [] = Err BadWords
+set_preference_command (word ∷ []) = Err BadWords
+set_preference_command (word ∷ next ∷ []) = name_in word >>= λ name. value_in next >>= λ value. Ok (SetPreference name value)
+set_preference_command (word ∷ next ∷ more ∷ rest) = Err BadWords
 
 -- the words behind `clear-pref`
-abbrev pub clearing_preference : List (List ℕ) → Result Command LineFault
-clearing_preference [] = Err BadWords
-clearing_preference (word ∷ []) = name_in word >>= λ name. Ok (ClearPreference name)
-clearing_preference (word ∷ next ∷ more) = Err BadWords
+abbrev pub clear_preference_command : List (List ℕ) → Result Command LineFault
+clear_preference_command [] = Err BadWords
+clear_preference_command (word ∷ []) = name_in word >>= λ name. Ok (ClearPreference name)
+clear_preference_command (word ∷ next ∷ more) = Err BadWords
 
 -- the command of this name, with the words behind it
 abbrev pub command_named : List ℕ → List (List ℕ) → Result Command LineFault
 command_named name arguments =
-    if bytes_eq name (codes "manifest") then manifest_file arguments
-    else if bytes_eq name (codes "context") then context_file arguments
-    else if bytes_eq name (codes "fetch") then fetching arguments
+    if bytes_eq name (codes "manifest") then manifest_command arguments
+    else if bytes_eq name (codes "context") then context_command arguments
+    else if bytes_eq name (codes "fetch") then fetch_command arguments
     else if bytes_eq name (codes "apply") then alone Apply arguments
-    else if bytes_eq name (codes "participate") then participation arguments
-    else if bytes_eq name (codes "opt-out") then opting_out arguments
-    else if bytes_eq name (codes "opt-in") then opting_in arguments
-    else if bytes_eq name (codes "reset") then resetting arguments
+    else if bytes_eq name (codes "participate") then participate_command arguments
+    else if bytes_eq name (codes "opt-out") then opt_out_command arguments
+    else if bytes_eq name (codes "opt-in") then opt_in_command arguments
+    else if bytes_eq name (codes "reset") then reset_command arguments
     else if bytes_eq name (codes "show") then alone Show arguments
-    else if bytes_eq name (codes "feature") then feature_name arguments
+    else if bytes_eq name (codes "feature") then feature_command arguments
     else if bytes_eq name (codes "write-manifest") then alone WriteManifest arguments
-    else if bytes_eq name (codes "event") then event_count arguments
+    else if bytes_eq name (codes "event") then event_command arguments
     else if bytes_eq name (codes "changes") then alone Changes arguments
-    else if bytes_eq name (codes "confirm") then confirming arguments
-    else if bytes_eq name (codes "bind") then bindings_file arguments
-    else if bytes_eq name (codes "set-pref") then setting_preference arguments
-    else if bytes_eq name (codes "clear-pref") then clearing_preference arguments
+    else if bytes_eq name (codes "confirm") then confirm_command arguments
+    else if bytes_eq name (codes "bind") then bind_command arguments
+    else if bytes_eq name (codes "set-pref") then set_preference_command arguments
+    else if bytes_eq name (codes "clear-pref") then clear_preference_command arguments
     else if bytes_eq name (codes "prefs") then alone Preferences arguments
     else Err UnknownCommand
 

@@ -1,6 +1,6 @@
 // The words behind the name of a command.
 ghost use Rattle.std.specs.Prelude.{◌≡◌, ◌⊎◌, List, ℕ, Err, All, map, length};
-ghost use Rattle.client_words.specs.Commands.{yes_or_no_in, kinds_in, text_in, name_in, count_in, number_in, slug_in, id_in, manifest_file, context_file, fetching, feature_name, participation, opting_out, opting_in, resetting, event_count, confirming, bytes_at, IsWithin};
+ghost use Rattle.client_words.specs.Commands.{yes_or_no_in, kinds_in, text_in, name_in, count_in, number_in, slug_in, id_in, manifest_command, context_command, fetch_command, feature_command, participate_command, opt_out_command, opt_in_command, reset_command, event_command, confirm_command, bytes_at, IsWithin};
 ghost use Rattle.client_words.specs.Commands as spec;
 
 use crate::command::Command;
@@ -16,13 +16,13 @@ use uuid::Uuid;
 const MAX_COUNT: u64 = 1_000_000;
 
 /// The words behind `manifest`: the name of its first file, and the channel, both in UTF-8.
-pub(crate) fn manifest_file(
+pub(crate) fn manifest_command(
     alloc: Global,
     line: &[u8],
     arguments: &[(usize, usize)],
 ) -> Result<Command, LineFault>
     requires { All (IsWithin (length line.now)) arguments.now }
-    ensures { (result ≡ manifest_file (map (bytes_at line.now) arguments.now)) ⊎ (result ≡ Err LineFault.OutOfMemory) }
+    ensures { (result ≡ manifest_command (map (bytes_at line.now) arguments.now)) ⊎ (result ≡ Err LineFault.OutOfMemory) }
 {
     let [word, next] = arguments else {
         return Err(LineFault::BadWords);
@@ -33,13 +33,13 @@ pub(crate) fn manifest_file(
 }
 
 /// The words behind `context`: the one name of a file, in UTF-8.
-pub(crate) fn context_file(
+pub(crate) fn context_command(
     alloc: Global,
     line: &[u8],
     arguments: &[(usize, usize)],
 ) -> Result<Command, LineFault>
     requires { All (IsWithin (length line.now)) arguments.now }
-    ensures { (result ≡ context_file (map (bytes_at line.now) arguments.now)) ⊎ (result ≡ Err LineFault.OutOfMemory) }
+    ensures { (result ≡ context_command (map (bytes_at line.now) arguments.now)) ⊎ (result ≡ Err LineFault.OutOfMemory) }
 {
     let [word] = arguments else {
         return Err(LineFault::BadWords);
@@ -49,13 +49,13 @@ pub(crate) fn context_file(
 }
 
 /// The words behind `fetch`: the one name of a file, in UTF-8.
-pub(crate) fn fetching(
+pub(crate) fn fetch_command(
     alloc: Global,
     line: &[u8],
     arguments: &[(usize, usize)],
 ) -> Result<Command, LineFault>
     requires { All (IsWithin (length line.now)) arguments.now }
-    ensures { (result ≡ fetching (map (bytes_at line.now) arguments.now)) ⊎ (result ≡ Err LineFault.OutOfMemory) }
+    ensures { (result ≡ fetch_command (map (bytes_at line.now) arguments.now)) ⊎ (result ≡ Err LineFault.OutOfMemory) }
 {
     let [word] = arguments else {
         return Err(LineFault::BadWords);
@@ -76,9 +76,12 @@ pub(crate) fn alone(command: Command, arguments: &[(usize, usize)]) -> Result<Co
 
 /// The words behind `participate`: `yes` or `no`, for the recipes of both kinds, or behind `experiments` or `rollouts`
 /// for those of one.
-pub(crate) fn participation(line: &[u8], arguments: &[(usize, usize)]) -> Result<Command, LineFault>
+pub(crate) fn participate_command(
+    line: &[u8],
+    arguments: &[(usize, usize)],
+) -> Result<Command, LineFault>
     requires { All (IsWithin (length line.now)) arguments.now }
-    ensures { result ≡ participation (map (bytes_at line.now) arguments.now) }
+    ensures { result ≡ participate_command (map (bytes_at line.now) arguments.now) }
 {
     match arguments {
         [word] => {
@@ -98,13 +101,13 @@ pub(crate) fn participation(line: &[u8], arguments: &[(usize, usize)]) -> Result
 }
 
 /// The words behind `opt-out`: the one slug.
-pub(crate) fn opting_out(
+pub(crate) fn opt_out_command(
     alloc: Global,
     line: &[u8],
     arguments: &[(usize, usize)],
 ) -> Result<Command, LineFault>
     requires { All (IsWithin (length line.now)) arguments.now }
-    ensures { (result ≡ opting_out (map (bytes_at line.now) arguments.now)) ⊎ (result ≡ Err LineFault.OutOfMemory) }
+    ensures { (result ≡ opt_out_command (map (bytes_at line.now) arguments.now)) ⊎ (result ≡ Err LineFault.OutOfMemory) }
 {
     let [word] = arguments else {
         return Err(LineFault::BadWords);
@@ -114,13 +117,13 @@ pub(crate) fn opting_out(
 }
 
 /// The words behind `opt-in`: the slug, and the slug of a branch.
-pub(crate) fn opting_in(
+pub(crate) fn opt_in_command(
     alloc: Global,
     line: &[u8],
     arguments: &[(usize, usize)],
 ) -> Result<Command, LineFault>
     requires { All (IsWithin (length line.now)) arguments.now }
-    ensures { (result ≡ opting_in (map (bytes_at line.now) arguments.now)) ⊎ (result ≡ Err LineFault.OutOfMemory) }
+    ensures { (result ≡ opt_in_command (map (bytes_at line.now) arguments.now)) ⊎ (result ≡ Err LineFault.OutOfMemory) }
 {
     let [word, next] = arguments else {
         return Err(LineFault::BadWords);
@@ -131,9 +134,9 @@ pub(crate) fn opting_in(
 }
 
 /// The words behind `reset`: the one id.
-pub(crate) fn resetting(line: &[u8], arguments: &[(usize, usize)]) -> Result<Command, LineFault>
+pub(crate) fn reset_command(line: &[u8], arguments: &[(usize, usize)]) -> Result<Command, LineFault>
     requires { All (IsWithin (length line.now)) arguments.now }
-    ensures { result ≡ resetting (map (bytes_at line.now) arguments.now) }
+    ensures { result ≡ reset_command (map (bytes_at line.now) arguments.now) }
 {
     let [word] = arguments else {
         return Err(LineFault::BadWords);
@@ -143,13 +146,13 @@ pub(crate) fn resetting(line: &[u8], arguments: &[(usize, usize)]) -> Result<Com
 }
 
 /// The words behind `feature`: the one name of a feature, in UTF-8.
-pub(crate) fn feature_name(
+pub(crate) fn feature_command(
     alloc: Global,
     line: &[u8],
     arguments: &[(usize, usize)],
 ) -> Result<Command, LineFault>
     requires { All (IsWithin (length line.now)) arguments.now }
-    ensures { (result ≡ feature_name (map (bytes_at line.now) arguments.now)) ⊎ (result ≡ Err LineFault.OutOfMemory) }
+    ensures { (result ≡ feature_command (map (bytes_at line.now) arguments.now)) ⊎ (result ≡ Err LineFault.OutOfMemory) }
 {
     let [word] = arguments else {
         return Err(LineFault::BadWords);
@@ -159,13 +162,13 @@ pub(crate) fn feature_name(
 }
 
 /// The words behind `event`: the name of what the user did, and how many times.
-pub(crate) fn event_count(
+pub(crate) fn event_command(
     alloc: Global,
     line: &[u8],
     arguments: &[(usize, usize)],
 ) -> Result<Command, LineFault>
     requires { All (IsWithin (length line.now)) arguments.now }
-    ensures { (result ≡ event_count (map (bytes_at line.now) arguments.now)) ⊎ (result ≡ Err LineFault.OutOfMemory) }
+    ensures { (result ≡ event_command (map (bytes_at line.now) arguments.now)) ⊎ (result ≡ Err LineFault.OutOfMemory) }
 {
     let [word, next] = arguments else {
         return Err(LineFault::BadWords);
@@ -176,9 +179,12 @@ pub(crate) fn event_count(
 }
 
 /// The words behind `confirm`: the one number.
-pub(crate) fn confirming(line: &[u8], arguments: &[(usize, usize)]) -> Result<Command, LineFault>
+pub(crate) fn confirm_command(
+    line: &[u8],
+    arguments: &[(usize, usize)],
+) -> Result<Command, LineFault>
     requires { All (IsWithin (length line.now)) arguments.now }
-    ensures { result ≡ confirming (map (bytes_at line.now) arguments.now) }
+    ensures { result ≡ confirm_command (map (bytes_at line.now) arguments.now) }
 {
     let [word] = arguments else {
         return Err(LineFault::BadWords);

@@ -4,11 +4,11 @@ ghost use Rattle.plain_text.specs.Spans.{words};
 ghost use Rattle.client_words.specs.Commands.{command_of, command_of_words, words_of, bytes_at, IsCommand, IsWithin};
 
 use crate::arguments::{
-    alone, confirming, context_file, event_count, feature_name, fetching, manifest_file, opting_in,
-    opting_out, participation, resetting,
+    alone, confirm_command, context_command, event_command, feature_command, fetch_command,
+    manifest_command, opt_in_command, opt_out_command, participate_command, reset_command,
 };
 use crate::command::Command;
-use crate::preferences::{bindings_file, clearing_preference, setting_preference};
+use crate::preferences::{bind_command, clear_preference_command, set_preference_command};
 use plain_text::words;
 use std::alloc::{AllocError, Global};
 
@@ -89,39 +89,39 @@ fn named(
     ensures { (result ≡ command_of_words (name.now ∷ map (bytes_at line.now) arguments.now)) ⊎ (result ≡ Err LineFault.OutOfMemory) }
 {
     if name == b"manifest".as_slice() {
-        manifest_file(alloc, line, arguments)
+        manifest_command(alloc, line, arguments)
     } else if name == b"context".as_slice() {
-        context_file(alloc, line, arguments)
+        context_command(alloc, line, arguments)
     } else if name == b"fetch".as_slice() {
-        fetching(alloc, line, arguments)
+        fetch_command(alloc, line, arguments)
     } else if name == b"apply".as_slice() {
         alone(Command::Apply, arguments)
     } else if name == b"participate".as_slice() {
-        participation(line, arguments)
+        participate_command(line, arguments)
     } else if name == b"opt-out".as_slice() {
-        opting_out(alloc, line, arguments)
+        opt_out_command(alloc, line, arguments)
     } else if name == b"opt-in".as_slice() {
-        opting_in(alloc, line, arguments)
+        opt_in_command(alloc, line, arguments)
     } else if name == b"reset".as_slice() {
-        resetting(line, arguments)
+        reset_command(line, arguments)
     } else if name == b"show".as_slice() {
         alone(Command::Show, arguments)
     } else if name == b"feature".as_slice() {
-        feature_name(alloc, line, arguments)
+        feature_command(alloc, line, arguments)
     } else if name == b"write-manifest".as_slice() {
         alone(Command::WriteManifest, arguments)
     } else if name == b"event".as_slice() {
-        event_count(alloc, line, arguments)
+        event_command(alloc, line, arguments)
     } else if name == b"changes".as_slice() {
         alone(Command::Changes, arguments)
     } else if name == b"confirm".as_slice() {
-        confirming(line, arguments)
+        confirm_command(line, arguments)
     } else if name == b"bind".as_slice() {
-        bindings_file(alloc, line, arguments)
+        bind_command(alloc, line, arguments)
     } else if name == b"set-pref".as_slice() {
-        setting_preference(alloc, line, arguments)
+        set_preference_command(alloc, line, arguments)
     } else if name == b"clear-pref".as_slice() {
-        clearing_preference(alloc, line, arguments)
+        clear_preference_command(alloc, line, arguments)
     } else if name == b"prefs".as_slice() {
         alone(Command::Preferences, arguments)
     } else {

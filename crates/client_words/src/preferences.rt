@@ -1,7 +1,7 @@
 // The words behind the commands of preferences.
 ghost use Rattle.std.specs.Prelude.{◌≡◌, ◌⊎◌, Err, All, map, length};
 ghost use Rattle.json_tree.specs.Tree.{json_of};
-ghost use Rattle.client_words.specs.Commands.{bindings_file, setting_preference, clearing_preference, value_in, preference_value, bytes_at, IsWithin};
+ghost use Rattle.client_words.specs.Commands.{bind_command, set_preference_command, clear_preference_command, value_in, preference_value, bytes_at, IsWithin};
 
 use crate::arguments::{name_in, text_in};
 use crate::command::Command;
@@ -11,13 +11,13 @@ use pref_bindings::is_value;
 use std::alloc::Global;
 
 /// The words behind `bind`: the one name of a file, in UTF-8.
-pub(crate) fn bindings_file(
+pub(crate) fn bind_command(
     alloc: Global,
     line: &[u8],
     arguments: &[(usize, usize)],
 ) -> Result<Command, LineFault>
     requires { All (IsWithin (length line.now)) arguments.now }
-    ensures { (result ≡ bindings_file (map (bytes_at line.now) arguments.now)) ⊎ (result ≡ Err LineFault.OutOfMemory) }
+    ensures { (result ≡ bind_command (map (bytes_at line.now) arguments.now)) ⊎ (result ≡ Err LineFault.OutOfMemory) }
 {
     let [word] = arguments else {
         return Err(LineFault::BadWords);
@@ -27,13 +27,13 @@ pub(crate) fn bindings_file(
 }
 
 /// The words behind `set-pref`: the name of a preference, and its value.
-pub(crate) fn setting_preference(
+pub(crate) fn set_preference_command(
     alloc: Global,
     line: &[u8],
     arguments: &[(usize, usize)],
 ) -> Result<Command, LineFault>
     requires { All (IsWithin (length line.now)) arguments.now }
-    ensures { (result ≡ setting_preference (map (bytes_at line.now) arguments.now)) ⊎ (result ≡ Err LineFault.OutOfMemory) }
+    ensures { (result ≡ set_preference_command (map (bytes_at line.now) arguments.now)) ⊎ (result ≡ Err LineFault.OutOfMemory) }
 {
     let [name_word, value_word] = arguments else {
         return Err(LineFault::BadWords);
@@ -44,13 +44,13 @@ pub(crate) fn setting_preference(
 }
 
 /// The words behind `clear-pref`: the one name of a preference.
-pub(crate) fn clearing_preference(
+pub(crate) fn clear_preference_command(
     alloc: Global,
     line: &[u8],
     arguments: &[(usize, usize)],
 ) -> Result<Command, LineFault>
     requires { All (IsWithin (length line.now)) arguments.now }
-    ensures { (result ≡ clearing_preference (map (bytes_at line.now) arguments.now)) ⊎ (result ≡ Err LineFault.OutOfMemory) }
+    ensures { (result ≡ clear_preference_command (map (bytes_at line.now) arguments.now)) ⊎ (result ≡ Err LineFault.OutOfMemory) }
 {
     let [word] = arguments else {
         return Err(LineFault::BadWords);
