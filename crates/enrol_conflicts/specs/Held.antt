@@ -10,12 +10,12 @@ use Rattle.enrol_conflicts.specs.declared.candidate.Candidate.{Candidate}
 use Rattle.enrol_conflicts.specs.declared.held.HeldFeatures.{HeldFeatures}
 
 -- the features that are held by wishes of the kind
-abbrev pub of_kind : HeldFeatures → Kind → BTreeSet (Bor (List ℕ))
-of_kind held Experiment = held.experiments
-of_kind held Rollout = held.rollouts
+abbrev pub features_of_kind : HeldFeatures → Kind → BTreeSet (Bor (List ℕ))
+features_of_kind held Experiment = held.experiments
+features_of_kind held Rollout = held.rollouts
 
 abbrev pub is_held : HeldFeatures → Kind → List ℕ → Bool
-is_held held kind f = has_text (of_kind held kind) f
+is_held held kind f = has_text (features_of_kind held kind) f
 
 -- whether a feature of the wish is held by a wish of its kind
 abbrev pub is_taken : HeldFeatures → Candidate → Bool

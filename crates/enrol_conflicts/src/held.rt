@@ -3,7 +3,7 @@ ghost use Rattle.std.specs.Prelude.{◌≡◌, ◌||◌, ◌&&◌, ℕ, List, fa
 ghost use Rattle.recipe_reader.specs.Kinds.{kind_eq};
 ghost use Rattle.enrol_states.specs.Order.{is_in};
 ghost use Rattle.enrol_states.specs.TextSets.{has_text};
-ghost use Rattle.enrol_conflicts.specs.Held.{of_kind, is_held, is_taken};
+ghost use Rattle.enrol_conflicts.specs.Held.{features_of_kind, is_held, is_taken};
 
 use crate::Candidate;
 use crate::names::has_text;
@@ -31,8 +31,8 @@ impl<'a> HeldFeatures<'a> {
     }
 
     /// The features that are held by wishes of the kind.
-    fn of_kind(&self, kind: Kind) -> &BTreeSet<&'a str>
-        ensures { result.now ≡ of_kind self.now kind }
+    fn features_of_kind(&self, kind: Kind) -> &BTreeSet<&'a str>
+        ensures { result.now ≡ features_of_kind self.now kind }
     {
         match kind {
             Kind::Experiment => &self.experiments,
@@ -44,7 +44,7 @@ impl<'a> HeldFeatures<'a> {
     pub(crate) fn are_taken_from(&self, wish: &'a Candidate) -> bool
         ensures { result ≡ is_taken self.now wish.now }
     {
-        let held = self.of_kind(wish.kind);
+        let held = self.features_of_kind(wish.kind);
         let features = wish.features.as_slice();
         for feature in features {
             if has_text(held, feature.as_str()) {

@@ -24,7 +24,7 @@ use Rattle.enrol_states.specs.State.{slugs_of, status_of}
 use Rattle.enrol_states.specs.Recipes.{has_feature, share}
 use Rattle.enrol_states.specs.Exclusive.{AreExclusive}
 use Rattle.enrol_states.specs.TextSets.{has_text}
-use Rattle.enrol_states.specs.Least.{IsLeast, of_kind}
+use Rattle.enrol_states.specs.Least.{IsLeast, recipe_of_kind}
 use Rattle.enrol_states.specs.Holding.{has_alone, recipe_holds, enrolled_recipe, holds, is_held, AreApartBefore, AreApart}
 use Rattle.enrol_states.specs.declared.state.State.{State}
 use Rattle.enrol_states.specs.declared.state.Row.{Row}
@@ -46,12 +46,12 @@ holding_of_kind s kind row f r true same_kind enrolled found h = (r, record { en
 holding_of_kind s kind row f r false same_kind enrolled found h = absurd cc
 
 holding_found : (s : State) (kind : Kind) (row : Row) (f : List ℕ) (o : Option Recipe) → IsTrue (is_enrolled row.status) → recipe_with row.slug s.live ≡ o
-    → recipe_holds s.coenrolling (of_kind kind o) f ≡ true → (q : Recipe) × IsHolding s kind row f q
+    → recipe_holds s.coenrolling (recipe_of_kind kind o) f ≡ true → (q : Recipe) × IsHolding s kind row f q
 holding_found s kind row f None enrolled found h = absurd cc
 holding_found s kind row f (Some r) enrolled found h = holding_of_kind s kind row f r (kind_eq kind (kind_of r)) refl enrolled found h
 
 holding_at : (s : State) (kind : Kind) (row : Row) (f : List ℕ) (b : Bool) → is_enrolled row.status ≡ b
-    → recipe_holds s.coenrolling (if b then of_kind kind (recipe_with row.slug s.live) else None) f ≡ true → (q : Recipe) × IsHolding s kind row f q
+    → recipe_holds s.coenrolling (if b then recipe_of_kind kind (recipe_with row.slug s.live) else None) f ≡ true → (q : Recipe) × IsHolding s kind row f q
 holding_at s kind row f true enrolled h = holding_found s kind row f (recipe_with row.slug s.live) enrolled refl h
 holding_at s kind row f false enrolled h = absurd cc
 
@@ -61,8 +61,8 @@ holding s kind row f h = holding_at s kind row f (is_enrolled row.status) refl h
 
 held_by : (s : State) (kind : Kind) (row : Row) (f : List ℕ) (r : Recipe) → IsHolding s kind row f r → holds s kind row f ≡ true
 held_by s kind row f r is =
-    ap (λ b. recipe_holds s.coenrolling (if b then of_kind kind (recipe_with row.slug s.live) else None) f) is.enrolled
-    ∙ ap (λ o. recipe_holds s.coenrolling (of_kind kind o) f) is.found
+    ap (λ b. recipe_holds s.coenrolling (if b then recipe_of_kind kind (recipe_with row.slug s.live) else None) f) is.enrolled
+    ∙ ap (λ o. recipe_holds s.coenrolling (recipe_of_kind kind o) f) is.found
     ∙ ap (λ b. recipe_holds s.coenrolling (if b then Some r else None) f) is.same_kind
     ∙ is.alone
 

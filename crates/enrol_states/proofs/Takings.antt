@@ -16,7 +16,7 @@ use Rattle.enrol_states.specs.Recipes.{has_feature}
 use Rattle.enrol_states.specs.Features.{shares_with, takes}
 use Rattle.enrol_states.specs.Choices.{IsTaken}
 use Rattle.enrol_states.specs.TextSets.{has_text}
-use Rattle.enrol_states.specs.Least.{IsLeast, of_kind, rival_of}
+use Rattle.enrol_states.specs.Least.{IsLeast, recipe_of_kind, rival_of}
 use Rattle.enrol_states.specs.declared.state.State.{State}
 use Rattle.enrol_states.specs.declared.state.Row.{Row}
 use Rattle.enrol_states.proofs.Ordered.{rises_by}
@@ -32,7 +32,7 @@ kind_at : (coenrolling : List (List ℕ)) (r q : Recipe) (f : List ℕ) (same : 
 kind_at coenrolling r q f true = refl
 kind_at coenrolling r q f false = refl
 
-rival_at : (coenrolling : List (List ℕ)) (r : Recipe) (f : List ℕ) (other enrolled : Bool) (q : Option Recipe) → (other && (enrolled && shares_with coenrolling r q f)) ≡ sharing coenrolling r (if other && enrolled then of_kind (kind_of r) q else None) f
+rival_at : (coenrolling : List (List ℕ)) (r : Recipe) (f : List ℕ) (other enrolled : Bool) (q : Option Recipe) → (other && (enrolled && shares_with coenrolling r q f)) ≡ sharing coenrolling r (if other && enrolled then recipe_of_kind (kind_of r) q else None) f
 rival_at coenrolling r f true true None = refl
 rival_at coenrolling r f true true (Some q) = kind_at coenrolling r q f (kind_eq (kind_of r) (kind_of q))
 rival_at coenrolling r f true false q = refl

@@ -7,7 +7,7 @@ use Rattle.recipe_reader.specs.declared.recipe.Recipe.{Recipe}
 use Rattle.enrol_states.specs.Order.{is_in}
 use Rattle.enrol_states.specs.Statuses.{is_enrolled}
 use Rattle.enrol_states.specs.Recipes.{has_feature}
-use Rattle.enrol_states.specs.Least.{of_kind}
+use Rattle.enrol_states.specs.Least.{recipe_of_kind}
 use Rattle.enrol_states.specs.declared.state.State.{State}
 use Rattle.enrol_states.specs.declared.state.Row.{Row}
 
@@ -17,7 +17,7 @@ has_alone coenrolling r feature = has_feature r feature && not (is_in coenrollin
 
 -- the live recipe of the kind in which the client is enrolled by the row
 abbrev pub enrolled_recipe : State → Kind → Row → Option Recipe
-enrolled_recipe s kind row = if is_enrolled row.status then of_kind kind (recipe_with row.slug s.live) else None
+enrolled_recipe s kind row = if is_enrolled row.status then recipe_of_kind kind (recipe_with row.slug s.live) else None
 
 abbrev pub recipe_holds : List (List ℕ) → Option Recipe → List ℕ → Bool
 recipe_holds coenrolling None feature = false

@@ -19,10 +19,10 @@ lesser_of None t = t
 lesser_of (Some s) None = Some s
 lesser_of (Some s) (Some t) = if is_lt (slug_cmp t s) then Some t else Some s
 
-abbrev pub of_kind : Kind → Option Recipe → Option Recipe
-of_kind kind None = None
-of_kind kind (Some q) = if kind_eq kind (kind_of q) then Some q else None
+abbrev pub recipe_of_kind : Kind → Option Recipe → Option Recipe
+recipe_of_kind kind None = None
+recipe_of_kind kind (Some q) = if kind_eq kind (kind_of q) then Some q else None
 
 -- another recipe of the same kind that the client is enrolled in by the row
 abbrev pub rival_of : State → Recipe → Row → Option Recipe
-rival_of s r row = if not (bytes_eq row.slug r.slug) && is_enrolled row.status then of_kind (kind_of r) (recipe_with row.slug s.live) else None
+rival_of s r row = if not (bytes_eq row.slug r.slug) && is_enrolled row.status then recipe_of_kind (kind_of r) (recipe_with row.slug s.live) else None

@@ -26,7 +26,7 @@ use Rattle.enrol_states.specs.declared.status.ErrorCause.TheVariants as error
 use Rattle.state_values.specs.Outcome.{◌>>=◌}
 use Rattle.state_values.specs.Statuses.{number, status_bytes}
 use Rattle.state_values.specs.Values.{hyphenated, recipe_text, bit}
-use Rattle.state_values.specs.Reading.{slug_in, text_in, number_in, flag_in, id_in, kept, recipe_in, enrolled_in, not_enrolled_in, disqualified_in, was_enrolled_in, error_in, of_kind, status_in}
+use Rattle.state_values.specs.Reading.{slug_in, text_in, number_in, flag_in, id_in, kept, recipe_in, enrolled_in, not_enrolled_in, disqualified_in, was_enrolled_in, error_in, status_of_kind, status_in}
 
 pub slug_read : (s : List ℕ) → IsSlug s → slug_in s ≡ Some s
 unfolding slug_in
@@ -68,7 +68,7 @@ recipe_read r valid sound =
 -- ---- statuses
 
 pub status_read : (s : Status) → IsStatus s → status_in (status_bytes s) ≡ Some s
-unfolding status_in of_kind enrolled_in not_enrolled_in disqualified_in was_enrolled_in error_in
+unfolding status_in status_of_kind enrolled_in not_enrolled_in disqualified_in was_enrolled_in error_in
 status_read (Enrolled enrolled.Qualified branch) slug = rw (slug_read branch slug) refl
 status_read (Enrolled enrolled.OptIn branch) slug = rw (slug_read branch slug) refl
 status_read (NotEnrolled not_enrolled.DifferentAppName) slug = refl

@@ -137,8 +137,8 @@ error_in bytes = do
   cause ← error_cause p.0
   Some (Error cause)
 
-unfoldable pub of_kind : ℕ → List ℕ → Option Status
-of_kind kind rest =
+unfoldable pub status_of_kind : ℕ → List ℕ → Option Status
+status_of_kind kind rest =
     if kind == 69 then enrolled_in rest
     else if kind == 78 then not_enrolled_in rest
     else if kind == 68 then disqualified_in rest
@@ -149,4 +149,4 @@ of_kind kind rest =
 unfoldable pub status_in : List ℕ → Option Status
 status_in bytes = do
   p ← first bytes
-  of_kind p.0 p.1
+  status_of_kind p.0 p.1

@@ -1,7 +1,7 @@
 // A status, read from bytes.
 ghost use Rattle.std.specs.Prelude.{◌≡◌};
 ghost use Rattle.state_values.specs.Outcome.{Gives};
-ghost use Rattle.state_values.specs.Reading.{first, enrolled_reason, not_enrolled_reason, disqualified_reason, error_cause, enrolled_in, not_enrolled_in, disqualified_in, was_enrolled_in, error_in, of_kind, status_in};
+ghost use Rattle.state_values.specs.Reading.{first, enrolled_reason, not_enrolled_reason, disqualified_reason, error_cause, enrolled_in, not_enrolled_in, disqualified_in, was_enrolled_in, error_in, status_of_kind, status_in};
 
 use crate::fault::CodecFault;
 use crate::values::{number_in, slug_in};
@@ -15,7 +15,7 @@ pub fn status_in(alloc: Global, bytes: &[u8]) -> Result<Status, CodecFault>
     ensures { Gives (λ s. s) result (status_in bytes.now) }
 {
     let (kind, rest) = first(bytes)?;
-    of_kind(alloc, kind, rest)
+    status_of_kind(alloc, kind, rest)
 }
 
 fn first(bytes: &[u8]) -> Result<(u8, &[u8]), CodecFault>
@@ -27,9 +27,9 @@ fn first(bytes: &[u8]) -> Result<(u8, &[u8]), CodecFault>
     }
 }
 
-#[tactic(auto, unfolding(crate::specs::Reading::of_kind))]
-fn of_kind(alloc: Global, kind: u8, rest: &[u8]) -> Result<Status, CodecFault>
-    ensures { Gives (λ s. s) result (of_kind kind rest.now) }
+#[tactic(auto, unfolding(crate::specs::Reading::status_of_kind))]
+fn status_of_kind(alloc: Global, kind: u8, rest: &[u8]) -> Result<Status, CodecFault>
+    ensures { Gives (λ s. s) result (status_of_kind kind rest.now) }
 {
     match kind {
         b'E' => enrolled_in(alloc, rest),
