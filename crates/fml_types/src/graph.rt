@@ -16,7 +16,7 @@ use sequences::{Sequence, Text};
 use std::alloc::{AllocError, Global};
 
 /// One above the greatest weight that an object may have. Greater numbers count as this one.
-pub const CAP: u64 = 16_385;
+pub(crate) const CAP: u64 = 16_385;
 
 /// Which objects a field needs.
 #[derive(Clone, Copy, Debug, PartialEq, Eq)]
@@ -41,7 +41,7 @@ pub struct Part {
 }
 
 /// The fields of each object, with weights that count up to the cap.
-pub fn graph_of(
+pub(crate) fn graph_of(
     alloc: Global,
     objects: &ByName<ObjectDefinition>,
 ) -> Result<Sequence<Sequence<Part>>, AllocError>
@@ -255,7 +255,7 @@ fn objects_in_members(members: &Members) -> u64
 }
 
 /// The sum, which counts up to the cap.
-pub fn capped_sum(left: u64, right: u64) -> u64
+pub(crate) fn capped_sum(left: u64, right: u64) -> u64
     ensures { result ≡ cap (left + right) }
 {
     left.saturating_add(right).min(CAP)

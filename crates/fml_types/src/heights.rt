@@ -17,7 +17,7 @@ const HEIGHT_CAP: u64 = 33;
 
 /// The heights of the objects, which count up to the cap. A round finds those that are one higher
 /// than the round before, so there are as many rounds as the greatest height, and one more.
-pub fn heights(
+pub(crate) fn heights(
     alloc: Global,
     graph: &[Sequence<Part>],
     mentioned_by: &[Sequence<usize>],
@@ -37,7 +37,7 @@ pub fn heights(
 }
 
 /// As many zeros.
-pub fn zeros(alloc: Global, count: usize) -> Result<Vec<u64>, AllocError>
+pub(crate) fn zeros(alloc: Global, count: usize) -> Result<Vec<u64>, AllocError>
     ensures { IfOk result (λ zeros. length zeros.items ≡ count) }
 {
     vec![in alloc; 0; count]
@@ -59,7 +59,7 @@ fn next_heights(
     Ok(next)
 }
 
-pub fn same(left: &[u64], right: &[u64]) -> bool
+pub(crate) fn same(left: &[u64], right: &[u64]) -> bool
     ensures { result ≡ bytes_eq left.now right.now }
 {
     left == right
@@ -101,7 +101,7 @@ fn greatest_needed(values: &[u64], reached: &[u64], parts: &[Part]) -> u64
 }
 
 /// The greatest value of the objects that a field needs.
-pub fn needed(values: &[u64], reached: &[u64], part: &Part) -> u64
+pub(crate) fn needed(values: &[u64], reached: &[u64], part: &Part) -> u64
     ensures { result ≡ needed (value_in values.now) (value_in reached.now) part.now }
 {
     match part.need {
@@ -120,7 +120,7 @@ fn value_at(values: &[u64], place: Option<usize>) -> u64
     }
 }
 
-pub fn value_in(values: &[u64], place: usize) -> u64
+pub(crate) fn value_in(values: &[u64], place: usize) -> u64
     ensures { result ≡ value_in values.now place }
 {
     match values.get(place) {

@@ -12,7 +12,7 @@ use std::alloc::{AllocError, Global};
 use std::cmp::Reverse;
 
 /// For each object, the places of the objects that mention it.
-pub fn mentioned_by(
+pub(crate) fn mentioned_by(
     alloc: Global,
     graph: &[Sequence<Part>],
 ) -> Result<Vec<Sequence<usize>>, AllocError>
@@ -62,7 +62,7 @@ fn add(rows: &mut Vec<Sequence<usize>>, place: usize, number: usize) -> Result<(
 /// The greatest value of the objects that each object reaches.
 ///
 /// The greatest value goes first to all that reach it, so each object is raised at most once.
-pub fn reached(
+pub(crate) fn reached(
     alloc: Global,
     graph: &[Sequence<Part>],
     mentioned_by: &[Sequence<usize>],

@@ -53,7 +53,12 @@ fn push_call(calls: &mut Vec<Call>, call: Call)
 
 impl CallLog {
     /// Both sides with these bytes, nothing said, and room for as much as `room` allows.
-    pub fn new(alloc: Global, left: &[u8], right: &[u8], room: usize) -> Result<CallLog, AllocError>
+    pub(crate) fn new(
+        alloc: Global,
+        left: &[u8],
+        right: &[u8],
+        room: usize,
+    ) -> Result<CallLog, AllocError>
         requires left { length left.now ≤ room }
         requires right { length right.now ≤ room }
         ensures { IfOk result (λ log. log ≡ record { left = left.now; right = right.now; past = []; room = room }) }
@@ -74,7 +79,7 @@ impl CallLog {
     }
 
     /// What reads give.
-    pub fn read(&self, side: Side) -> &[u8]
+    pub(crate) fn read(&self, side: Side) -> &[u8]
         ensures bytes { result.now ≡ (side_of (state_of self.now) side).read }
     {
         match side {
@@ -84,7 +89,7 @@ impl CallLog {
     }
 
     /// What was synced last.
-    pub fn synced(&self, side: Side) -> &[u8]
+    pub(crate) fn synced(&self, side: Side) -> &[u8]
         ensures bytes { result.now ≡ (side_of (state_of self.now) side).synced }
     {
         match side {
@@ -94,7 +99,7 @@ impl CallLog {
     }
 
     /// What reads give, with 255 for each byte that was written since the last sync.
-    pub fn torn(&self, side: Side) -> &[u8]
+    pub(crate) fn torn(&self, side: Side) -> &[u8]
         ensures bytes { result.now ≡ marked (side_of (state_of self.now) side).read (side_of (state_of self.now) side).pending }
     {
         match side {
@@ -104,14 +109,14 @@ impl CallLog {
     }
 
     /// The text said.
-    pub fn said(&self) -> &[u8]
+    pub(crate) fn said(&self) -> &[u8]
         ensures { result.now ≡ (state_of self.now).text }
     {
         &self.said
     }
 
     /// Whether a write of this length at `at` ends within the room.
-    pub fn ends_within(&self, at: u64, len: usize) -> bool
+    pub(crate) fn ends_within(&self, at: u64, len: usize) -> bool
         ensures { IsTrue result ↔ (at + len ≤ self.now.room) }
     {
         let room = self.room as u64;
@@ -119,21 +124,21 @@ impl CallLog {
     }
 
     /// Whether there is room for so many bytes more.
-    pub fn has_room(&self, len: usize) -> bool
+    pub(crate) fn has_room(&self, len: usize) -> bool
         ensures { IsTrue result ↔ (bytes_logged self.now.past + len ≤ self.now.room) }
     {
         len <= self.room - self.bytes.len()
     }
 
     /// Whether there is room for a call more.
-    pub fn has_room_for_call(&self) -> bool
+    pub(crate) fn has_room_for_call(&self) -> bool
         ensures { IsTrue result ↔ (length self.now.past < self.now.room / 32 + 64) }
     {
         self.calls.len() < self.room / 32 + 64
     }
 
     /// Writes, and logs the call.
-    pub fn write(&mut self, side: Side, at: usize, bytes: &[u8])
+    pub(crate) fn write(&mut self, side: Side, at: usize, bytes: &[u8])
         requires ends { at + length bytes.now ≤ self.old.room }
         requires bytes { bytes_logged self.old.past + length bytes.now ≤ self.old.room }
         requires calls { length self.old.past < self.old.room / 32 + 64 }
@@ -149,7 +154,7 @@ impl CallLog {
     }
 
     /// Syncs, and logs the call.
-    pub fn sync(&mut self, side: Side)
+    pub(crate) fn sync(&mut self, side: Side)
         requires { length self.old.past < self.old.room / 32 + 64 }
         ensures { self.new ≡ record self.old { past = self.old.past ++ Synced side ∷ [] } }
     {
@@ -161,7 +166,7 @@ impl CallLog {
     }
 
     /// Says, and logs the call.
-    pub fn say(&mut self, bytes: &[u8])
+    pub(crate) fn say(&mut self, bytes: &[u8])
         requires bytes { bytes_logged self.old.past + length bytes.now ≤ self.old.room }
         requires calls { length self.old.past < self.old.room / 32 + 64 }
         ensures { self.new ≡ record self.old { past = self.old.past ++ Said bytes.now ∷ [] } }

@@ -22,7 +22,7 @@ impl Model for FailingCalls {
 
 impl FailingCalls {
     /// No call is made yet, and those with these numbers fail.
-    pub fn new(alloc: Global, numbers: &[u64]) -> Result<FailingCalls, AllocError>
+    pub(crate) fn new(alloc: Global, numbers: &[u64]) -> Result<FailingCalls, AllocError>
         ensures { IfOk result (λ calls. calls ≡ none_made numbers.now) }
     {
         Ok(FailingCalls {
@@ -32,7 +32,7 @@ impl FailingCalls {
     }
 
     /// Counts a call, and tells whether it fails.
-    pub fn next_fails(&mut self) -> bool
+    pub(crate) fn next_fails(&mut self) -> bool
         ensures listed { IsTrue result ↔ IsNextFailing self.old }
         ensures counted { self.new ≡ counted self.old }
     {

@@ -3,7 +3,7 @@ ghost use Rattle.std.specs.Prelude.{◌≡◌, ◌≤◌, ◌+◌, ◌-◌, ◌+
 ghost use Rattle.host_model.specs.Images.{overwritten};
 
 /// Replaces the range from `at` on. A gap is filled with zeros.
-pub fn overwrite(read: &mut Vec<u8>, at: usize, bytes: &[u8])
+pub(crate) fn overwrite(read: &mut Vec<u8>, at: usize, bytes: &[u8])
     requires { at + length bytes.now ≤ vec_capacity read.old }
     ensures items { read.new.items ≡ overwritten read.old.items at bytes.now }
     ensures capacity { vec_capacity read.old ≤ vec_capacity read.new }
@@ -34,7 +34,7 @@ fn put(into: &mut [u8], at: usize, bytes: &[u8])
 }
 
 /// Puts 255 in each place of a range. A gap is filled with zeros.
-pub fn mark(bytes: &mut Vec<u8>, at: usize, len: usize)
+pub(crate) fn mark(bytes: &mut Vec<u8>, at: usize, len: usize)
     requires { at + len ≤ vec_capacity bytes.old }
     ensures items { bytes.new.items ≡ overwritten bytes.old.items at (replicate len 255) }
     ensures capacity { vec_capacity bytes.old ≤ vec_capacity bytes.new }
@@ -52,7 +52,7 @@ fn fill_range(into: &mut [u8], at: usize, len: usize)
 }
 
 /// Puts these bytes in the place of all that is there.
-pub fn replace(bytes: &mut Vec<u8>, by: &[u8])
+pub(crate) fn replace(bytes: &mut Vec<u8>, by: &[u8])
     requires { length by.now ≤ vec_capacity bytes.old }
     ensures items { bytes.new.items ≡ by.now }
     ensures capacity { vec_capacity bytes.old ≤ vec_capacity bytes.new }
@@ -62,7 +62,7 @@ pub fn replace(bytes: &mut Vec<u8>, by: &[u8])
 }
 
 /// Adds these bytes at the end.
-pub fn extend(bytes: &mut Vec<u8>, by: &[u8])
+pub(crate) fn extend(bytes: &mut Vec<u8>, by: &[u8])
     requires { length bytes.old.items + length by.now ≤ vec_capacity bytes.old }
     ensures items { bytes.new.items ≡ bytes.old.items ++ by.now }
     ensures capacity { vec_capacity bytes.old ≤ vec_capacity bytes.new }

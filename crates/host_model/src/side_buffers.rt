@@ -39,7 +39,7 @@ fn copy_with_room(alloc: Global, bytes: &[u8], room: usize) -> Result<Vec<u8>, A
 
 impl SideBuffers {
     /// A side of these bytes, all of them synced, with room for more.
-    pub fn new(alloc: Global, bytes: &[u8], room: usize) -> Result<SideBuffers, AllocError>
+    pub(crate) fn new(alloc: Global, bytes: &[u8], room: usize) -> Result<SideBuffers, AllocError>
         requires { length bytes.now ≤ room }
         ensures { IfOk result (λ side. side ≡ new_side bytes.now room) }
     {
@@ -53,28 +53,28 @@ impl SideBuffers {
     }
 
     /// What was synced last.
-    pub fn synced(&self) -> &[u8]
+    pub(crate) fn synced(&self) -> &[u8]
         ensures { result.now ≡ self.now.synced }
     {
         &self.synced
     }
 
     /// What reads give.
-    pub fn read(&self) -> &[u8]
+    pub(crate) fn read(&self) -> &[u8]
         ensures { result.now ≡ self.now.read }
     {
         &self.read
     }
 
     /// What reads give, with 255 for each byte that was written since the last sync.
-    pub fn torn(&self) -> &[u8]
+    pub(crate) fn torn(&self) -> &[u8]
         ensures { result.now ≡ self.now.torn }
     {
         &self.torn
     }
 
     /// Writes.
-    pub fn write(&mut self, at: usize, bytes: &[u8])
+    pub(crate) fn write(&mut self, at: usize, bytes: &[u8])
         requires { at + length bytes.now ≤ self.old.room }
         ensures { self.new ≡ with_write self.old at bytes.now }
     {
@@ -83,7 +83,7 @@ impl SideBuffers {
     }
 
     /// Syncs.
-    pub fn sync(&mut self)
+    pub(crate) fn sync(&mut self)
         ensures { self.new ≡ with_sync self.old }
     {
         replace(&mut self.synced, &self.read);
