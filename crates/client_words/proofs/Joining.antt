@@ -15,13 +15,6 @@ module _ {A : Type 0} (line : A → List ℕ) where
       pushed ∙ ap (λ (u : List ℕ). u ++ line item) placed ∙ append_assoc start (lines_for line (take i items)) (line item)
       ∙ ap (λ (u : List ℕ). start ++ u) (sym (ap (lines_for line) more ∙ lines_for-push (take i items) item))
 
-  -- the same where the item is named by its place
-  pub line_more_at : (items : List A) (i : ℕ) (other : A) (start before later : List ℕ) → i < length items → before ≡ start ++ lines_for line (take i items) → later ≡ before ++ line (get_or items i other) → later ≡ start ++ lines_for line (take (i + 1) items)
-  line_more_at items i other start before later within placed pushed =
-      let item = get_or items i other in
-      pushed ∙ ap (λ (u : List ℕ). u ++ line item) placed ∙ append_assoc start (lines_for line (take i items)) (line item)
-      ∙ ap (λ (u : List ℕ). start ++ u) (sym (ap (lines_for line) (take_more items i other within) ∙ lines_for-push (take i items) item))
-
   -- all of them
   pub lines_all : (items : List A) (i : ℕ) (start later : List ℕ) → length items ≤ i → later ≡ start ++ lines_for line (take i items) → later ≡ start ++ lines_for line items
   lines_all items i start later whole placed = placed ∙ ap (λ (some : List A). start ++ lines_for line some) (take_all i items whole)

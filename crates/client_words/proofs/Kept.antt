@@ -13,7 +13,7 @@ use Rattle.client_words.specs.declared.command.Command.{Command}
 use Rattle.client_words.specs.declared.command.Command.TheVariants.{Apply, Show, WriteManifest, Changes, Preferences}
 use Rattle.client_words.specs.declared.line.LineFault.{LineFault}
 use Rattle.client_words.specs.declared.line.LineFault.TheVariants.{BadWords}
-use Rattle.client_words.specs.Commands.{IsCommand, words_of, ◌>>=◌, yes_or_no_in, kinds_in, text_in, unless_bad, slug_in, id_read, id_in, manifest_command, context_command, fetch_command, alone, participate_command, opt_out_command, opt_in_command, reset_command, feature_command, name_in, is_count, count_in, event_command, number_in, confirm_command, bind_command, value_in, set_preference_command, clear_preference_command, command_named, command_of_words, command_of}
+use Rattle.client_words.specs.Commands.{IsCommand, words_of, ◌>>=◌, yes_or_no_in, kinds_in, text_in, unless_bad, slug_in, id_read, id_in, of_one, of_two, manifest_command, context_command, fetch_command, alone, participate_command, opt_out_command, opt_in_command, reset_command, feature_command, name_in, is_count, count_in, event_command, number_in, confirm_command, bind_command, value_in, set_preference_command, clear_preference_command, command_named, command_of_words, command_of}
 use Rattle.client_words.proofs.Ids.{IsIdIn, id_in_text}
 use Rattle.client_words.proofs.Values.{is_value_in}
 
@@ -77,21 +77,25 @@ is_counted word = counted_where (digits_value 10 word) word (is_count (digits_va
 
 -- ---- the words of a command
 
+one-kept : (made : List ℕ → Result Command LineFault) → ((word : List ℕ) → Kept (made word)) → (words : List (List ℕ)) → Kept (of_one made words)
+one-kept made follows [] = tt
+one-kept made follows (word ∷ []) = follows word
+one-kept made follows (word ∷ next ∷ more) = tt
+
+two-kept : (made : List ℕ → List ℕ → Result Command LineFault) → ((word next : List ℕ) → Kept (made word next)) → (words : List (List ℕ)) → Kept (of_two made words)
+two-kept made follows [] = tt
+two-kept made follows (word ∷ []) = tt
+two-kept made follows (word ∷ next ∷ []) = follows word next
+two-kept made follows (word ∷ next ∷ more ∷ rest) = tt
+
 manifest-kept : (words : List (List ℕ)) → Kept (manifest_command words)
-manifest-kept [] = tt
-manifest-kept (word ∷ []) = tt
-manifest-kept (word ∷ next ∷ []) = free (text_in word) _ (λ file. free (text_in next) _ (λ channel. tt))
-manifest-kept (word ∷ next ∷ more ∷ rest) = tt
+manifest-kept words = two-kept _ (λ word next. free (text_in word) _ (λ file. free (text_in next) _ (λ channel. tt))) words
 
 context-kept : (words : List (List ℕ)) → Kept (context_command words)
-context-kept [] = tt
-context-kept (word ∷ []) = free (text_in word) _ (λ file. tt)
-context-kept (word ∷ next ∷ more) = tt
+context-kept words = one-kept _ (λ word. free (text_in word) _ (λ file. tt)) words
 
 fetch-kept : (words : List (List ℕ)) → Kept (fetch_command words)
-fetch-kept [] = tt
-fetch-kept (word ∷ []) = free (text_in word) _ (λ file. tt)
-fetch-kept (word ∷ next ∷ more) = tt
+fetch-kept words = one-kept _ (λ word. free (text_in word) _ (λ file. tt)) words
 
 alone-kept : (command : Command) (words : List (List ℕ)) → IsCommand command → Kept (alone command words)
 alone-kept command [] is = is
@@ -104,55 +108,34 @@ participate-kept (word ∷ next ∷ []) = free (kinds_in word) _ (λ kinds. free
 participate-kept (word ∷ next ∷ more ∷ rest) = tt
 
 opt_out-kept : (words : List (List ℕ)) → Kept (opt_out_command words)
-opt_out-kept [] = tt
-opt_out-kept (word ∷ []) = bound IsSlug (slug_in word) _ (is_slug word) (λ slug is. is)
-opt_out-kept (word ∷ next ∷ more) = tt
+opt_out-kept words = one-kept _ (λ word. bound IsSlug (slug_in word) _ (is_slug word) (λ slug is. is)) words
 
 opt_in-kept : (words : List (List ℕ)) → Kept (opt_in_command words)
-opt_in-kept [] = tt
-opt_in-kept (word ∷ []) = tt
-opt_in-kept (word ∷ next ∷ []) = bound IsSlug (slug_in word) _ (is_slug word) (λ slug is. bound IsSlug (slug_in next) _ (is_slug next) (λ branch also. (is, also)))
-opt_in-kept (word ∷ next ∷ more ∷ rest) = tt
+opt_in-kept words = two-kept _ (λ word next. bound IsSlug (slug_in word) _ (is_slug word) (λ slug is. bound IsSlug (slug_in next) _ (is_slug next) (λ branch also. (is, also)))) words
 
 reset-kept : (words : List (List ℕ)) → Kept (reset_command words)
-reset-kept [] = tt
-reset-kept (word ∷ []) = bound IsId (id_in word) _ (is_id word) (λ id is. is)
-reset-kept (word ∷ next ∷ more) = tt
+reset-kept words = one-kept _ (λ word. bound IsId (id_in word) _ (is_id word) (λ id is. is)) words
 
 feature-kept : (words : List (List ℕ)) → Kept (feature_command words)
-feature-kept [] = tt
-feature-kept (word ∷ []) = free (text_in word) _ (λ name. tt)
-feature-kept (word ∷ next ∷ more) = tt
+feature-kept words = one-kept _ (λ word. free (text_in word) _ (λ name. tt)) words
 
 event-kept : (words : List (List ℕ)) → Kept (event_command words)
-event-kept [] = tt
-event-kept (word ∷ []) = tt
-event-kept (word ∷ next ∷ []) =
+event-kept words = two-kept _ (λ word next.
     bound (λ name. IsTrue (is_name name)) (name_in word) _ (is_named word) (λ name named.
-    bound IsCounted (count_in next) _ (is_counted next) (λ count counted. record { name = named; least = counted.0; most = counted.1 }))
-event-kept (word ∷ next ∷ more ∷ rest) = tt
+    bound IsCounted (count_in next) _ (is_counted next) (λ count counted. record { name = named; least = counted.0; most = counted.1 }))) words
 
 confirm-kept : (words : List (List ℕ)) → Kept (confirm_command words)
-confirm-kept [] = tt
-confirm-kept (word ∷ []) = free (number_in word) _ (λ number. tt)
-confirm-kept (word ∷ next ∷ more) = tt
+confirm-kept words = one-kept _ (λ word. free (number_in word) _ (λ number. tt)) words
 
 bind-kept : (words : List (List ℕ)) → Kept (bind_command words)
-bind-kept [] = tt
-bind-kept (word ∷ []) = free (text_in word) _ (λ file. tt)
-bind-kept (word ∷ next ∷ more) = tt
+bind-kept words = one-kept _ (λ word. free (text_in word) _ (λ file. tt)) words
 
 set_preference-kept : (words : List (List ℕ)) → Kept (set_preference_command words)
-set_preference-kept [] = tt
-set_preference-kept (word ∷ []) = tt
-set_preference-kept (word ∷ next ∷ []) =
-    bound (λ name. IsTrue (is_name name)) (name_in word) _ (is_named word) (λ name named. bound IsValue (value_in next) _ (is_value_in next) (λ value is. (named, is)))
-set_preference-kept (word ∷ next ∷ more ∷ rest) = tt
+set_preference-kept words = two-kept _ (λ word next.
+    bound (λ name. IsTrue (is_name name)) (name_in word) _ (is_named word) (λ name named. bound IsValue (value_in next) _ (is_value_in next) (λ value is. (named, is)))) words
 
 clear_preference-kept : (words : List (List ℕ)) → Kept (clear_preference_command words)
-clear_preference-kept [] = tt
-clear_preference-kept (word ∷ []) = bound (λ name. IsTrue (is_name name)) (name_in word) _ (is_named word) (λ name named. named)
-clear_preference-kept (word ∷ next ∷ more) = tt
+clear_preference-kept words = one-kept _ (λ word. bound (λ name. IsTrue (is_name name)) (name_in word) _ (is_named word) (λ name named. named)) words
 
 named-kept : (name : List ℕ) (words : List (List ℕ)) → Kept (command_named name words)
 named-kept name words =

@@ -62,24 +62,30 @@ id_read (Some id) = Ok id
 unfoldable pub id_in : List ℕ → Result (List ℕ) LineFault
 id_in word = id_read (parsed word)
 
+-- what the one word behind a command's name makes
+abbrev pub of_one : (List ℕ → Result Command LineFault) → List (List ℕ) → Result Command LineFault
+of_one made [] = Err BadWords
+of_one made (word ∷ []) = made word
+of_one made (word ∷ next ∷ more) = Err BadWords
+
+-- what the two words behind it make
+abbrev pub of_two : (List ℕ → List ℕ → Result Command LineFault) → List (List ℕ) → Result Command LineFault
+of_two made [] = Err BadWords
+of_two made (word ∷ []) = Err BadWords
+of_two made (word ∷ next ∷ []) = made word next
+of_two made (word ∷ next ∷ more ∷ rest) = Err BadWords
+
 -- the words behind `manifest`: the name of the first file, and the channel
 abbrev pub manifest_command : List (List ℕ) → Result Command LineFault
-manifest_command [] = Err BadWords
-manifest_command (word ∷ []) = Err BadWords
-manifest_command (word ∷ next ∷ []) = text_in word >>= λ file. text_in next >>= λ channel. Ok (Manifest file channel)
-manifest_command (word ∷ next ∷ more ∷ rest) = Err BadWords
+manifest_command arguments = of_two (λ word next. text_in word >>= λ file. text_in next >>= λ channel. Ok (Manifest file channel)) arguments
 
 -- the words behind `context`
 abbrev pub context_command : List (List ℕ) → Result Command LineFault
-context_command [] = Err BadWords
-context_command (word ∷ []) = text_in word >>= λ file. Ok (Context file)
-context_command (word ∷ next ∷ more) = Err BadWords
+context_command arguments = of_one (λ word. text_in word >>= λ file. Ok (Context file)) arguments
 
 -- the words behind `fetch`
 abbrev pub fetch_command : List (List ℕ) → Result Command LineFault
-fetch_command [] = Err BadWords
-fetch_command (word ∷ []) = text_in word >>= λ file. Ok (Fetch file)
-fetch_command (word ∷ next ∷ more) = Err BadWords
+fetch_command arguments = of_one (λ word. text_in word >>= λ file. Ok (Fetch file)) arguments
 
 -- the words behind a command that has none
 abbrev pub alone : Command → List (List ℕ) → Result Command LineFault
@@ -103,28 +109,19 @@ participate_command (word ∷ next ∷ more ∷ rest) = Err BadWords
 
 -- the words behind `opt-out`
 abbrev pub opt_out_command : List (List ℕ) → Result Command LineFault
-opt_out_command [] = Err BadWords
-opt_out_command (word ∷ []) = slug_in word >>= λ slug. Ok (OptOut slug)
-opt_out_command (word ∷ next ∷ more) = Err BadWords
+opt_out_command arguments = of_one (λ word. slug_in word >>= λ slug. Ok (OptOut slug)) arguments
 
 -- the words behind `opt-in`: the slug's place is told first
 abbrev pub opt_in_command : List (List ℕ) → Result Command LineFault
-opt_in_command [] = Err BadWords
-opt_in_command (word ∷ []) = Err BadWords
-opt_in_command (word ∷ next ∷ []) = slug_in word >>= λ slug. slug_in next >>= λ branch. Ok (OptIn slug branch)
-opt_in_command (word ∷ next ∷ more ∷ rest) = Err BadWords
+opt_in_command arguments = of_two (λ word next. slug_in word >>= λ slug. slug_in next >>= λ branch. Ok (OptIn slug branch)) arguments
 
 -- the words behind `reset`
 abbrev pub reset_command : List (List ℕ) → Result Command LineFault
-reset_command [] = Err BadWords
-reset_command (word ∷ []) = id_in word >>= λ id. Ok (Reset id)
-reset_command (word ∷ next ∷ more) = Err BadWords
+reset_command arguments = of_one (λ word. id_in word >>= λ id. Ok (Reset id)) arguments
 
 -- the words behind `feature`
 abbrev pub feature_command : List (List ℕ) → Result Command LineFault
-feature_command [] = Err BadWords
-feature_command (word ∷ []) = text_in word >>= λ name. Ok (Feature name)
-feature_command (word ∷ next ∷ more) = Err BadWords
+feature_command arguments = of_one (λ word. text_in word >>= λ name. Ok (Feature name)) arguments
 
 -- the name of what a user did, or of a preference
 abbrev pub name_in : List ℕ → Result (List ℕ) LineFault
@@ -140,10 +137,7 @@ count_in word = if is_count (digits_value 10 word) word then Ok (digits_value 10
 
 -- the words behind `event`: the name is told first
 abbrev pub event_command : List (List ℕ) → Result Command LineFault
-event_command [] = Err BadWords
-event_command (word ∷ []) = Err BadWords
-event_command (word ∷ next ∷ []) = name_in word >>= λ name. count_in next >>= λ count. Ok (Event name count)
-event_command (word ∷ next ∷ more ∷ rest) = Err BadWords
+event_command arguments = of_two (λ word next. name_in word >>= λ name. count_in next >>= λ count. Ok (Event name count)) arguments
 
 -- the word is this number in decimal, and the number is below 2 to the 64
 abbrev pub is_number : ℕ → List ℕ → Bool
@@ -155,15 +149,11 @@ number_in word = if is_number (digits_value 10 word) word then Ok (digits_value 
 
 -- the words behind `confirm`
 abbrev pub confirm_command : List (List ℕ) → Result Command LineFault
-confirm_command [] = Err BadWords
-confirm_command (word ∷ []) = number_in word >>= λ number. Ok (Confirm number)
-confirm_command (word ∷ next ∷ more) = Err BadWords
+confirm_command arguments = of_one (λ word. number_in word >>= λ number. Ok (Confirm number)) arguments
 
 -- the words behind `bind`
 abbrev pub bind_command : List (List ℕ) → Result Command LineFault
-bind_command [] = Err BadWords
-bind_command (word ∷ []) = text_in word >>= λ file. Ok (Bind file)
-bind_command (word ∷ next ∷ more) = Err BadWords
+bind_command arguments = of_one (λ word. text_in word >>= λ file. Ok (Bind file)) arguments
 
 -- a truth value, a whole number of 64 bits or a text
 abbrev pub preference_value : Json → Result Tree LineFault
@@ -182,16 +172,11 @@ value_in word = value_read (tree_of word)
 
 -- the words behind `set-pref`
 abbrev pub set_preference_command : List (List ℕ) → Result Command LineFault
-set_preference_command [] = Err BadWords
-set_preference_command (word ∷ []) = Err BadWords
-set_preference_command (word ∷ next ∷ []) = name_in word >>= λ name. value_in next >>= λ value. Ok (SetPreference name value)
-set_preference_command (word ∷ next ∷ more ∷ rest) = Err BadWords
+set_preference_command arguments = of_two (λ word next. name_in word >>= λ name. value_in next >>= λ value. Ok (SetPreference name value)) arguments
 
 -- the words behind `clear-pref`
 abbrev pub clear_preference_command : List (List ℕ) → Result Command LineFault
-clear_preference_command [] = Err BadWords
-clear_preference_command (word ∷ []) = name_in word >>= λ name. Ok (ClearPreference name)
-clear_preference_command (word ∷ next ∷ more) = Err BadWords
+clear_preference_command arguments = of_one (λ word. name_in word >>= λ name. Ok (ClearPreference name)) arguments
 
 -- the command of this name, with the words behind it
 abbrev pub command_named : List ℕ → List (List ℕ) → Result Command LineFault

@@ -14,116 +14,87 @@ use pref_bindings::Preference;
 use recipe_reader::SkipReason;
 use std::alloc::{AllocError, Global};
 
-/// A line for each record that was skipped.
-pub(crate) fn push_skipped_lines(
-    text: &mut String,
-    skipped: &[(u32, SkipReason)],
-) -> Result<(), AllocError>
-    ensures { OnOk result (string_bytes text.new ≡ string_bytes text.old ++ lines_for skipped_line skipped.now) }
-{
-    for skip in skipped {
-        push_skipped_line(text, *skip)?;
-    }
-    Ok(())
+/// What stands as a line of an answer.
+pub(crate) trait Listed {
+    ghost use Rattle.std.specs.Prelude.{◌≡◌, ◌++◌, ℕ, List, OnOk, string_bytes};
+
+    /// The line.
+    ghost line: { Self → List ℕ };
+
+    /// Puts the line behind a text. The one error is want of memory.
+    fn push_line(&self, alloc: Global, text: &mut String) -> Result<(), AllocError>
+        ensures { OnOk result (string_bytes text.new ≡ string_bytes text.old ++ line self.now) };
 }
 
-#[tactic(auto, unfolding(crate::specs::Answers::skipped_line))]
-fn push_skipped_line(text: &mut String, skip: (u32, SkipReason)) -> Result<(), AllocError>
-    ensures { OnOk result (string_bytes text.new ≡ string_bytes text.old ++ skipped_line skip) }
-{
-    let (index, reason) = skip;
-    text.push_str("skipped ")?;
-    text.push_str(Buffer::new().format(index))?;
-    text.push_str(" ")?;
-    text.push_str(skip_name(reason))?;
-    text.push_str("\n")
-}
-
-/// A line for each slug that is opted out.
-pub(crate) fn push_out_lines(text: &mut String, slugs: &[Slug]) -> Result<(), AllocError>
-    ensures { OnOk result (string_bytes text.new ≡ string_bytes text.old ++ lines_for out_line slugs.now) }
-{
-    for slug in slugs {
-        push_out_line(text, slug)?;
-    }
-    Ok(())
-}
-
-fn push_out_line(text: &mut String, slug: &Slug) -> Result<(), AllocError>
-    ensures { OnOk result (string_bytes text.new ≡ string_bytes text.old ++ out_line slug.now) }
-{
-    text.push_str("out ")?;
-    text.push_str(slug.text())?;
-    text.push_str("\n")
-}
-
-/// A line for each row.
-pub(crate) fn push_row_lines(text: &mut String, rows: &[Row]) -> Result<(), AllocError>
-    ensures { OnOk result (string_bytes text.new ≡ string_bytes text.old ++ lines_for row_line rows.now) }
-{
-    for row in rows {
-        push_row_line(text, row)?;
-    }
-    Ok(())
-}
-
-fn push_row_line(text: &mut String, row: &Row) -> Result<(), AllocError>
-    ensures { OnOk result (string_bytes text.new ≡ string_bytes text.old ++ row_line row.now) }
-{
-    text.push_str(row.slug.text())?;
-    text.push_str(" ")?;
-    push_status(text, &row.status)?;
-    text.push_str("\n")
-}
-
-/// A line for each change.
-pub(crate) fn push_change_lines(text: &mut String, changes: &[Change]) -> Result<(), AllocError>
-    ensures { OnOk result (string_bytes text.new ≡ string_bytes text.old ++ lines_for change_line changes.now) }
-{
-    for change in changes {
-        push_change_line(text, change)?;
-    }
-    Ok(())
-}
-
-#[tactic(auto, unfolding(crate::specs::Answers::change_line))]
-fn push_change_line(text: &mut String, change: &Change) -> Result<(), AllocError>
-    ensures { OnOk result (string_bytes text.new ≡ string_bytes text.old ++ change_line change.now) }
-{
-    push_words(text, "change ", Buffer::new().format(change.number))?;
-    push_words(text, " ", kind_word(change.kind))?;
-    push_words(text, " ", change.slug.text())?;
-    push_words(text, " ", change.branch.text())?;
-    text.push_str("\n")
-}
-
-/// A line for each preference.
-pub(crate) fn push_preference_lines(
-    text: &mut String,
+/// A line for each item.
+pub(crate) fn push_lines<T: Listed>(
     alloc: Global,
-    preferences: &[Preference],
+    text: &mut String,
+    items: &[T],
 ) -> Result<(), AllocError>
-    ensures { OnOk result (string_bytes text.new ≡ string_bytes text.old ++ lines_for preference_line preferences.now) }
+    ensures { OnOk result (string_bytes text.new ≡ string_bytes text.old ++ lines_for T.line items.now) }
 {
-    for preference in preferences {
-        push_preference_line(text, alloc, preference)?;
+    for item in items {
+        item.push_line(alloc, text)?;
     }
     Ok(())
 }
 
-#[tactic(auto, unfolding(crate::specs::Answers::preference_line))]
-fn push_preference_line(
-    text: &mut String,
-    alloc: Global,
-    preference: &Preference,
-) -> Result<(), AllocError>
-    ensures { OnOk result (string_bytes text.new ≡ string_bytes text.old ++ preference_line preference.now) }
-{
-    text.push_str("pref ")?;
-    text.push_str(preference.name.as_str())?;
-    text.push_str(" ")?;
-    text.push_str(write(alloc, &preference.value)?.as_str())?;
-    text.push_str("\n")
+/// A record that was skipped.
+impl Listed for (u32, SkipReason) {
+    ghost line = { skipped_line };
+
+    #[tactic(auto, unfolding(crate::specs::Answers::skipped_line))]
+    fn push_line(&self, _alloc: Global, text: &mut String) -> Result<(), AllocError> {
+        let (index, reason) = *self;
+        push_words(text, "skipped ", Buffer::new().format(index))?;
+        push_words(text, " ", skip_name(reason))?;
+        text.push_str("\n")
+    }
+}
+
+/// A slug that is opted out.
+impl Listed for Slug {
+    ghost line = { out_line };
+
+    fn push_line(&self, _alloc: Global, text: &mut String) -> Result<(), AllocError> {
+        push_words(text, "out ", self.text())?;
+        text.push_str("\n")
+    }
+}
+
+impl Listed for Row {
+    ghost line = { row_line };
+
+    fn push_line(&self, _alloc: Global, text: &mut String) -> Result<(), AllocError> {
+        push_words(text, self.slug.text(), " ")?;
+        push_status(text, &self.status)?;
+        text.push_str("\n")
+    }
+}
+
+impl Listed for Change {
+    ghost line = { change_line };
+
+    #[tactic(auto, unfolding(crate::specs::Answers::change_line))]
+    fn push_line(&self, _alloc: Global, text: &mut String) -> Result<(), AllocError> {
+        push_words(text, "change ", Buffer::new().format(self.number))?;
+        push_words(text, " ", kind_word(self.kind))?;
+        push_words(text, " ", self.slug.text())?;
+        push_words(text, " ", self.branch.text())?;
+        text.push_str("\n")
+    }
+}
+
+impl Listed for Preference {
+    ghost line = { preference_line };
+
+    #[tactic(auto, unfolding(crate::specs::Answers::preference_line))]
+    fn push_line(&self, alloc: Global, text: &mut String) -> Result<(), AllocError> {
+        push_words(text, "pref ", self.name.as_str())?;
+        push_words(text, " ", write(alloc, &self.value)?.as_str())?;
+        text.push_str("\n")
+    }
 }
 
 fn kind_word(kind: ChangeKind) -> &'static str

@@ -8,9 +8,7 @@ ghost use Rattle.client_words.specs.Answers as spec;
 use crate::answer::Answer;
 use crate::line::LineFault;
 use crate::refusal_texts::refusal_text;
-use crate::rows::{
-    push_change_lines, push_out_lines, push_preference_lines, push_row_lines, push_skipped_lines,
-};
+use crate::rows::push_lines;
 use change_outbox::Entries;
 use enrol_states::Row;
 use itoa::Buffer;
@@ -104,7 +102,7 @@ fn fetched_text(
     text.push_str(" skipped ")?;
     text.push_str(Buffer::new().format(skipped.len()))?;
     text.push_str("\n")?;
-    push_skipped_lines(&mut text, skipped.as_slice())?;
+    push_lines(alloc, &mut text, skipped.as_slice())?;
     Ok(Text::from_string(text))
 }
 
@@ -137,7 +135,7 @@ fn changes_text(alloc: Global, changes: &Entries) -> Result<Text, AllocError>
     ensures { IfOk result (λ text. text ≡ changes_lines changes.now) }
 {
     let mut text = String::from_str(alloc, "")?;
-    push_change_lines(&mut text, changes.as_slice())?;
+    push_lines(alloc, &mut text, changes.as_slice())?;
     text.push_str("end\n")?;
     Ok(Text::from_string(text))
 }
@@ -148,7 +146,7 @@ fn preferences_text(alloc: Global, preferences: &Prefs) -> Result<Text, AllocErr
     ensures { IfOk result (λ text. text ≡ preferences_lines preferences.now) }
 {
     let mut text = String::from_str(alloc, "")?;
-    push_preference_lines(&mut text, alloc, preferences.as_slice())?;
+    push_lines(alloc, &mut text, preferences.as_slice())?;
     text.push_str("end\n")?;
     Ok(Text::from_string(text))
 }
@@ -173,8 +171,8 @@ fn shown_text(
     text.push_str("\npending ")?;
     text.push_str(yes_or_no(pending))?;
     text.push_str("\n")?;
-    push_out_lines(&mut text, opted_out.as_slice())?;
-    push_row_lines(&mut text, rows.as_slice())?;
+    push_lines(alloc, &mut text, opted_out.as_slice())?;
+    push_lines(alloc, &mut text, rows.as_slice())?;
     text.push_str("end\n")?;
     Ok(Text::from_string(text))
 }
