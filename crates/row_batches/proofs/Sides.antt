@@ -1,14 +1,16 @@
 -- A row of sorted rows, and those on both sides of it.
-use Rattle.std.proofs.Common.{Ordering, Less, Equal, Greater, ◌≡◌, ◌≢◌, ◌≤◌, ◌+◌, ℕ, zero, suc, Bool, true, false, List, [], ◌∷◌, ◌++◌, Option, Some, None, map, length, eqb, refl, sym, ap, ◌∙◌, subst, arith, append_assoc}
+use Rattle.std.proofs.Common.{Less, Equal, Greater, ◌≡◌, ◌≢◌, ◌+◌, ℕ, true, false, List, [], ◌∷◌, ◌++◌, Some, None, map, length, eqb, refl, sym, ap, ◌∙◌, subst, arith}
 use Rattle.std.proofs.lemmas.Bool.{eqb-true, eqb-false}
 use Rattle.std.proofs.lemmas.List.{length-append, append-nil}
 use Rattle.std.specs.List.Sorted.{IsStrictlySortedBy}
 use Rattle.std.specs.Ordering.{match_ordering}
 use Rattle.row_batches.specs.Places.{AreAbove, AreBelow}
-use Rattle.row_batches.specs.Rows.{AreRows, key_cmp, key_of, value_of, with_row, without_key}
+use Rattle.row_batches.specs.Rows.{AreRows, key_cmp, key_of, value_of, with_row, without_key, after_change, key_in}
+use Rattle.row_batches.specs.declared.change.RowChange.{RowChange}
+use Rattle.row_batches.specs.declared.change.RowChange.TheVariants.{Put, Delete}
 use Rattle.row_batches.specs.declared.store_row.StoreRow.{StoreRow}
 use Rattle.row_batches.proofs.Found.{valued, picked, dropped}
-use Rattle.sequences.proofs.Texts.{same_texts, turned_up, turned_down, turned_even, less_trans}
+use Rattle.sequences.proofs.Texts.{same_texts, turned_up, turned_down, less_trans}
 use Rattle.sequences.proofs.Rising.{behind_rises, front_rises}
 
 pub length_around : (below : List StoreRow) (q : StoreRow) (above : List StoreRow) → length (below ++ q ∷ above) ≡ length below + (length above + 1)
@@ -94,6 +96,16 @@ without_here key below q above rise even =
 pub without_above : (key : List ℕ) (below : List StoreRow) (q : StoreRow) (above : List StoreRow) → AreRows (below ++ q ∷ above) → key_cmp key q.key ≡ Greater → below ++ q ∷ without_key key above ≡ without_key key (below ++ q ∷ above)
 without_above key below q above rise more =
     sym (without_past key below (q ∷ above) (below_less key below q above rise more) ∙ ap (λ l. below ++ l) (dropped key q above Greater more))
+
+-- ---- a change is taken on a side
+
+pub change_below : (c : RowChange) (below : List StoreRow) (q : StoreRow) (above : List StoreRow) → key_cmp (key_in c) q.key ≡ Less → after_change c below ++ q ∷ above ≡ after_change c (below ++ q ∷ above)
+change_below (Put r) below q above less = with_below r below q above less
+change_below (Delete key) below q above less = without_below key below q above less
+
+pub change_above : (c : RowChange) (below : List StoreRow) (q : StoreRow) (above : List StoreRow) → AreRows (below ++ q ∷ above) → key_cmp (key_in c) q.key ≡ Greater → below ++ q ∷ after_change c above ≡ after_change c (below ++ q ∷ above)
+change_above (Put r) below q above rise more = with_above r below q above rise more
+change_above (Delete key) below q above rise more = without_above key below q above rise more
 
 -- ---- a value is looked for on a side, or here
 

@@ -32,8 +32,9 @@ pub(crate) fn apply_batch(
     ensures same_spare_room { vec_capacity spare.new ≡ vec_capacity spare.old }
 {
     let tree = clear_where(alloc, listed, tree, spare, batch.is_clear());
-    let tree = stand(listed, tree, spare);
-    take_changes(alloc, tree, spare, batch.into_changes())
+    let mut tree = stand(listed, tree, spare);
+    take_changes(alloc, &mut tree, spare, batch.into_changes());
+    tree
 }
 
 // Takes all rows away, or none.

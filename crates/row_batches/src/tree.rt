@@ -29,8 +29,8 @@ pub(crate) struct Fork {
     pub(crate) height: u8,
 }
 
-// How many forks stand over one another in a tree.
-fn height(tree: &Tree) -> u8 {
+/// How many forks stand over one another in a tree.
+pub(crate) fn height(tree: &Tree) -> u8 {
     match tree {
         Tree::Leaf => 0,
         Tree::Fork(fork) => fork.height,
@@ -44,6 +44,15 @@ pub(crate) fn closed(mut fork: Box<Fork>) -> Tree
     let highest = height(&fork.below).max(height(&fork.above));
     fork.height = highest.saturating_add(1);
     Tree::Fork(fork)
+}
+
+/// Turns the top fork, where one side is higher than the other by two, and sets its height by those of its sides.
+pub(crate) fn balance(tree: &mut Tree)
+    ensures { rows_in tree.new ≡ rows_in tree.old }
+{
+    if let Tree::Fork(fork) = mem::replace(tree, Tree::Leaf) {
+        *tree = balanced(fork);
+    }
 }
 
 /// A fork as a tree, turned where one side is higher than the other by two.

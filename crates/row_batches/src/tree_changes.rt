@@ -1,11 +1,11 @@
 // Changes of the rows in a tree.
 ghost use Rattle.std.specs.Prelude.{◌≡◌, ◌≤◌, ◌<◌, ◌+◌, ◌++◌, ◌∷◌, [], length, vec_capacity};
-ghost use Rattle.row_batches.specs.Rows.{AreRows, with_row, without_key, after_change, after_changes};
+ghost use Rattle.row_batches.specs.Rows.{AreRows, after_change, after_changes};
 ghost use Rattle.row_batches.specs.Trees.{rows_in, rows_at};
 
 use crate::change::RowChange;
 use crate::store_row::StoreRow;
-use crate::tree::{Fork, Tree, balanced, closed};
+use crate::tree::{Fork, Tree, balance, balanced, closed, height};
 use sequences::Sequence;
 use std::alloc::Global;
 use std::cmp::Ordering;
@@ -14,78 +14,85 @@ use std::mem;
 /// Takes the changes, one after the other. Each is a search from the top of the tree on.
 pub(crate) fn take_changes(
     alloc: Global,
-    tree: Tree,
+    tree: &mut Tree,
     spare: &mut Vec<Box<Fork>>,
     changes: Sequence<RowChange>,
-) -> Tree
-    requires rise { AreRows (rows_in tree) }
+)
+    requires rise { AreRows (rows_in tree.old) }
     requires enough { length changes ≤ length spare.old.items }
-    requires room { length (rows_in tree) + length spare.old.items ≤ vec_capacity spare.old }
-    ensures rows { rows_in result ≡ after_changes changes (rows_in tree) }
-    ensures count { length (rows_in result) + length spare.new.items ≡ length (rows_in tree) + length spare.old.items }
+    requires room { length (rows_in tree.old) + length spare.old.items ≤ vec_capacity spare.old }
+    ensures rows { rows_in tree.new ≡ after_changes changes (rows_in tree.old) }
+    ensures count { length (rows_in tree.new) + length spare.new.items ≡ length (rows_in tree.old) + length spare.old.items }
     ensures same_room { vec_capacity spare.new ≡ vec_capacity spare.old }
 {
-    let mut tree = tree;
     for change in changes.into_vec() {
-        tree = take_change(alloc, tree, spare, change);
-    }
-    tree
-}
-
-// Takes one change.
-fn take_change(alloc: Global, tree: Tree, spare: &mut Vec<Box<Fork>>, change: RowChange) -> Tree
-    requires rise { AreRows (rows_in tree) }
-    requires enough { 0 < length spare.old.items }
-    requires room { length (rows_in tree) + length spare.old.items ≤ vec_capacity spare.old }
-    ensures rows { rows_in result ≡ after_change change (rows_in tree) }
-    ensures count { length (rows_in result) + length spare.new.items ≡ length (rows_in tree) + length spare.old.items }
-    ensures most { length spare.old.items ≤ length spare.new.items + 1 }
-    ensures same_room { vec_capacity spare.new ≡ vec_capacity spare.old }
-{
-    match change {
-        RowChange::Put(row) => put_row(tree, spare, row),
-        RowChange::Delete(key) => delete_row(alloc, tree, spare, key.as_slice()),
+        take_change(alloc, tree, spare, change);
     }
 }
 
-// Puts a row in its place.
-fn put_row(tree: Tree, spare: &mut Vec<Box<Fork>>, row: StoreRow) -> Tree
-    requires rise { AreRows (rows_in tree) }
+// Takes one change where its key belongs. The forks over that place are turned where the height of a side has become another.
+fn take_change(alloc: Global, tree: &mut Tree, spare: &mut Vec<Box<Fork>>, change: RowChange)
+    requires rise { AreRows (rows_in tree.old) }
     requires enough { 0 < length spare.old.items }
-    ensures rows { rows_in result ≡ with_row row (rows_in tree) }
-    ensures count { length (rows_in result) + length spare.new.items ≡ length (rows_in tree) + length spare.old.items }
+    requires room { length (rows_in tree.old) + length spare.old.items ≤ vec_capacity spare.old }
+    ensures rows { rows_in tree.new ≡ after_change change (rows_in tree.old) }
+    ensures count { length (rows_in tree.new) + length spare.new.items ≡ length (rows_in tree.old) + length spare.old.items }
     ensures most { length spare.old.items ≤ length spare.new.items + 1 }
     ensures same_room { vec_capacity spare.new ≡ vec_capacity spare.old }
 {
     match tree {
-        Tree::Leaf => lone_row(spare, row),
-        Tree::Fork(mut fork) => match row.key.as_slice().cmp(fork.row.key.as_slice()) {
+        Tree::Leaf => *tree = lone_change(spare, change),
+        Tree::Fork(fork) => match change.key().cmp(fork.row.key.as_slice()) {
             Ordering::Less => {
-                let below = mem::replace(&mut fork.below, Tree::Leaf);
-                fork.below = put_row(below, spare, row);
-                balanced(fork)
+                let before = height(&fork.below);
+                take_change(alloc, &mut fork.below, spare, change);
+                if height(&fork.below) != before {
+                    balance(tree);
+                }
             }
-            Ordering::Equal => {
-                fork.row = row;
-                Tree::Fork(fork)
-            }
+            Ordering::Equal => match change {
+                RowChange::Put(row) => fork.row = row,
+                RowChange::Delete(_key) => {
+                    if let Tree::Fork(fork) = mem::replace(tree, Tree::Leaf) {
+                        *tree = without_row(alloc, spare, fork);
+                    }
+                }
+            },
             Ordering::Greater => {
-                let above = mem::replace(&mut fork.above, Tree::Leaf);
-                fork.above = put_row(above, spare, row);
-                balanced(fork)
+                let before = height(&fork.above);
+                take_change(alloc, &mut fork.above, spare, change);
+                if height(&fork.above) != before {
+                    balance(tree);
+                }
             }
         },
     }
 }
 
-// The tree of one row, in a spare fork.
-fn lone_row(spare: &mut Vec<Box<Fork>>, row: StoreRow) -> Tree
+// What a change makes of no row.
+fn lone_change(spare: &mut Vec<Box<Fork>>, change: RowChange) -> Tree
     requires { 0 < length spare.old.items }
-    ensures rows { rows_in result ≡ row ∷ [] }
-    ensures count { length spare.old.items ≡ length spare.new.items + 1 }
+    ensures rows { rows_in result ≡ after_change change [] }
+    ensures count { length (rows_in result) + length spare.new.items ≡ length spare.old.items }
     ensures same_room { vec_capacity spare.new ≡ vec_capacity spare.old }
 {
-    fork_of(spare, Tree::Leaf, row, Tree::Leaf)
+    match change {
+        RowChange::Put(row) => fork_of(spare, Tree::Leaf, row, Tree::Leaf),
+        RowChange::Delete(_key) => Tree::Leaf,
+    }
+}
+
+// The rows of a fork without its own. The fork is spare then.
+fn without_row(alloc: Global, spare: &mut Vec<Box<Fork>>, mut fork: Box<Fork>) -> Tree
+    requires { length spare.old.items < vec_capacity spare.old }
+    ensures rows { rows_in result ≡ rows_in fork.value.below ++ rows_in fork.value.above }
+    ensures count { length spare.new.items ≡ length spare.old.items + 1 }
+    ensures same_room { vec_capacity spare.new ≡ vec_capacity spare.old }
+{
+    let below = mem::replace(&mut fork.below, Tree::Leaf);
+    let above = mem::replace(&mut fork.above, Tree::Leaf);
+    drop(put_fork(alloc, spare, fork));
+    joined(below, above)
 }
 
 /// A row with those below it and those above, in a spare fork.
@@ -111,38 +118,6 @@ fn take_fork(spare: &mut Vec<Box<Fork>>) -> Box<Fork>
     match spare.pop() {
         Some(fork) => fork,
         None => unreachable!(),
-    }
-}
-
-// Deletes the row of a key, where there is one.
-fn delete_row(alloc: Global, tree: Tree, spare: &mut Vec<Box<Fork>>, key: &[u8]) -> Tree
-    requires rise { AreRows (rows_in tree) }
-    requires room { length (rows_in tree) + length spare.old.items ≤ vec_capacity spare.old }
-    ensures rows { rows_in result ≡ without_key key.now (rows_in tree) }
-    ensures count { length (rows_in result) + length spare.new.items ≡ length (rows_in tree) + length spare.old.items }
-    ensures most { length spare.old.items ≤ length spare.new.items }
-    ensures same_room { vec_capacity spare.new ≡ vec_capacity spare.old }
-{
-    match tree {
-        Tree::Leaf => Tree::Leaf,
-        Tree::Fork(mut fork) => match key.cmp(fork.row.key.as_slice()) {
-            Ordering::Less => {
-                let below = mem::replace(&mut fork.below, Tree::Leaf);
-                fork.below = delete_row(alloc, below, spare, key);
-                balanced(fork)
-            }
-            Ordering::Equal => {
-                let below = mem::replace(&mut fork.below, Tree::Leaf);
-                let above = mem::replace(&mut fork.above, Tree::Leaf);
-                drop(put_fork(alloc, spare, fork));
-                joined(below, above)
-            }
-            Ordering::Greater => {
-                let above = mem::replace(&mut fork.above, Tree::Leaf);
-                fork.above = delete_row(alloc, above, spare, key);
-                balanced(fork)
-            }
-        },
     }
 }
 

@@ -44,6 +44,6 @@ returns-clause-sound c =
     let rows = c.take_changes.ensures.rows ∙ ap (λ cs. after_changes cs (rows_in c.stand-tree.result)) c.into_changes.ensures.changes
     ∙ ap (λ rs. after_changes c.args.batch.changes rs) (c.stand-tree.ensures.rows ∙ c.clear_where-tree.ensures.rows ∙ ap (λ b. if b then [] else before) c.is_clear.ensures) in
     record {
-      rise = rise_given_batch c.args.batch before (rows_in c.take_changes.result) c.requires.sound.rise rows;
-      fields = room_given c.args.batch before (rows_in c.take_changes.result) c.into_changes.ensures.rules c.requires.sound.fields rows;
+      rise = rise_given_batch c.args.batch before (rows_in c.take_changes.new.tree) c.requires.sound.rise rows;
+      fields = room_given c.args.batch before (rows_in c.take_changes.new.tree) c.into_changes.ensures.rules c.requires.sound.fields rows;
     }

@@ -10,18 +10,18 @@ pub loop-change-preserved : goal.loop-change-preserved
 loop-change-preserved c =
     let change : RowChange = c.in-Some.change in
     let before : List StoreRow = rows_in c.loop-change.tree in
-    let after : List StoreRow = rows_in c.take_change-tree.result in
+    let after : List StoreRow = rows_in c.take_change.new.tree in
     let left : List RowChange = c.loop-change.change-iterator.rest.items in
     let rest : List RowChange = c.next.new.self.rest.items in
     let first : left ≡ change ∷ rest = search rules in
-    let taken : after ≡ after_change change before = c.take_change-tree.ensures.rows in
+    let taken : after ≡ after_change change before = c.take_change.ensures.rows in
     let fewer = ap length first in
-    let most = c.take_change-tree.ensures.most in
+    let most = c.take_change.ensures.most in
     let enough = c.loop-change.invariant.enough in
     record {
       same = ap (λ (l : List StoreRow). after_changes rest l) taken ∙ ap (λ (l : List RowChange). after_changes l before) (sym first) ∙ c.loop-change.invariant.same;
       rise = rise_given change before after c.loop-change.invariant.rise taken;
       enough = omega (arith, fewer, most, enough);
-      count = c.take_change-tree.ensures.count ∙ c.loop-change.invariant.count;
-      same_room = c.take_change-tree.ensures.same_room ∙ c.loop-change.invariant.same_room;
+      count = c.take_change.ensures.count ∙ c.loop-change.invariant.count;
+      same_room = c.take_change.ensures.same_room ∙ c.loop-change.invariant.same_room;
     }
