@@ -1,8 +1,7 @@
--- The row of a key, found by a search, and rows with one more or without one.
-use Rattle.std.proofs.Common.{Ordering, ◌≡◌, ℕ, zero, suc, ◌+◌, ◌<◌, ◌≤◌, List, [], ◌∷◌, ◌++◌, map, length, get_or, take, drop, Some, None, Less, Equal, Greater, refl, sym, ap, ◌∙◌, subst, arith}
-use Rattle.std.proofs.lemmas.List.{take_at}
-use Rattle.std.specs.Prelude.{slice_set, Bool, true, false, if◌then◌else◌}
-use Rattle.std.specs.List.{AllByRecursion, insert, remove}
+-- The value of a key, found by a search, and rows with one more or without one.
+use Rattle.std.proofs.Common.{Ordering, ◌≡◌, ℕ, zero, suc, ◌<◌, ◌≤◌, List, [], ◌∷◌, map, length, get_or, take, drop, Some, None, Less, Equal, Greater, refl, sym, ap, ◌∙◌, subst, arith}
+use Rattle.std.specs.Prelude.{Bool, true, false, if◌then◌else◌}
+use Rattle.std.specs.List.{AllByRecursion}
 use Rattle.std.specs.List.Sorted.{IsStrictlySortedBy}
 use Rattle.std.specs.Ordering.{match_ordering}
 use Rattle.row_batches.specs.Batch.{ChangeList, IsBatch, FitsFields, applied}
@@ -39,26 +38,8 @@ value-at key [] i d less rise e = absurd (omega arith)
 value-at key (r ∷ rs) zero d less rise e = valued key r rs Equal (turned_even r.key key e)
 value-at key (r ∷ rs) (suc i) d less rise e = valued key r rs Greater (below_it key r rs i d (omega arith) rise.0 e) ∙ value-at key rs i d (omega arith) rise.1 e
 
-with-at : (r : StoreRow) (rows : List StoreRow) (i : ℕ) (d : StoreRow) → i < length rows → AreRows rows → key_cmp (get_or rows i d).key r.key ≡ Equal → slice_set rows i r ≡ with_row r rows
-unfolding IsStrictlySortedBy
-with-at r [] i d less rise e = absurd (omega arith)
-with-at r (q ∷ qs) zero d less rise e = sym (picked r q qs Equal (turned_even q.key r.key e))
-with-at r (q ∷ qs) (suc i) d less rise e = ap (λ rs. q ∷ rs) (with-at r qs i d (omega arith) rise.1 e) ∙ sym (picked r q qs Greater (below_it r.key q qs i d (omega arith) rise.0 e))
-
-without-at : (key : List ℕ) (rows : List StoreRow) (i : ℕ) (d : StoreRow) → i < length rows → AreRows rows → key_cmp (get_or rows i d).key key ≡ Equal → remove rows i ≡ without_key key rows
-unfolding IsStrictlySortedBy
-without-at key [] i d less rise e = absurd (omega arith)
-without-at key (q ∷ qs) zero d less rise e = sym (dropped key q qs Equal (turned_even q.key key e))
-without-at key (q ∷ qs) (suc i) d less rise e = ap (λ rs. q ∷ rs) (without-at key qs i d (omega arith) rise.1 e) ∙ sym (dropped key q qs Greater (below_it key q qs i d (omega arith) rise.0 e))
-
 pub value_there : (key : List ℕ) (rows : List StoreRow) (i : ℕ) (r : StoreRow) → AreRows rows → HasKeyAt key rows i → value_of key rows ≡ Some (get_or rows i r).value
 value_there key rows i r rise at = value-at key rows i r at.within rise (at.same r)
-
-pub with_there : (r : StoreRow) (rows : List StoreRow) (i : ℕ) → AreRows rows → HasKeyAt r.key rows i → slice_set rows i r ≡ with_row r rows
-with_there r rows i rise at = with-at r rows i r at.within rise (at.same r)
-
-pub without_there : (key : List ℕ) (rows : List StoreRow) (i : ℕ) → AreRows rows → HasKeyAt key rows i → remove rows i ≡ without_key key rows
-without_there key rows i rise at = let d : StoreRow = record { key = []; value = [] } in without-at key rows i d at.within rise (at.same d)
 
 -- ---- no row has the key
 
@@ -67,25 +48,8 @@ value-not key [] i below above = refl
 value-not key (r ∷ rs) zero below above = valued key r rs Less above.0
 value-not key (r ∷ rs) (suc i) below above = valued key r rs Greater (turned_up r.key key below.0) ∙ value-not key rs i below.1 above
 
-with-not : (r : StoreRow) (rows : List StoreRow) (i : ℕ) → AreBelow r.key (take i (map key_of rows)) → AreAbove r.key (drop i (map key_of rows)) → insert rows i r ≡ with_row r rows
-with-not r [] zero below above = refl
-with-not r [] (suc i) below above = refl
-with-not r (q ∷ qs) zero below above = sym (picked r q qs Less above.0)
-with-not r (q ∷ qs) (suc i) below above = ap (λ rs. q ∷ rs) (with-not r qs i below.1 above) ∙ sym (picked r q qs Greater (turned_up q.key r.key below.0))
-
-without-not : (key : List ℕ) (rows : List StoreRow) (i : ℕ) → AreBelow key (take i (map key_of rows)) → AreAbove key (drop i (map key_of rows)) → rows ≡ without_key key rows
-without-not key [] i below above = refl
-without-not key (q ∷ qs) zero below above = sym (dropped key q qs Less above.0)
-without-not key (q ∷ qs) (suc i) below above = ap (λ rs. q ∷ rs) (without-not key qs i below.1 above) ∙ sym (dropped key q qs Greater (turned_up q.key key below.0))
-
 pub value_nowhere : (key : List ℕ) (rows : List StoreRow) (i : ℕ) → BelongsAt key rows i → value_of key rows ≡ None
 value_nowhere key rows i at = value-not key rows i at.below at.above
-
-pub with_nowhere : (r : StoreRow) (rows : List StoreRow) (i : ℕ) → BelongsAt r.key rows i → insert rows i r ≡ with_row r rows
-with_nowhere r rows i at = with-not r rows i at.below at.above
-
-pub without_nowhere : (key : List ℕ) (rows : List StoreRow) (i : ℕ) → BelongsAt key rows i → rows ≡ without_key key rows
-without_nowhere key rows i at = without-not key rows i at.below at.above
 
 -- ---- rows stay rows
 
@@ -133,34 +97,9 @@ pub rise_after : (c : RowChange) (rows : List StoreRow) → AreRows rows → Are
 rise_after (Put r) rows rise = rise-with r rows rise
 rise_after (Delete key) rows rise = rise-without key rows rise
 
-most-with : (r : StoreRow) (rows : List StoreRow) → length (with_row r rows) ≤ length rows + 1
-most-with r [] = omega arith
-most-with r (q ∷ qs) =
-    elim (key_cmp r.key q.key) as (λ o. length (match_ordering o (r ∷ q ∷ qs) (r ∷ qs) (q ∷ with_row r qs)) ≤ length (q ∷ qs) + 1) [
-      | Less ↦ omega arith
-      | Equal ↦ omega arith
-      | Greater ↦ let rest = most-with r qs in omega (arith, rest)
-    ]
-
-most-without : (key : List ℕ) (rows : List StoreRow) → length (without_key key rows) ≤ length rows + 1
-most-without key [] = omega arith
-most-without key (q ∷ qs) =
-    elim (key_cmp key q.key) as (λ o. length (match_ordering o (q ∷ qs) qs (q ∷ without_key key qs)) ≤ length (q ∷ qs) + 1) [
-      | Less ↦ omega arith
-      | Equal ↦ omega arith
-      | Greater ↦ let rest = most-without key qs in omega (arith, rest)
-    ]
-
-pub most_after : (c : RowChange) (rows : List StoreRow) → length (after_change c rows) ≤ length rows + 1
-most_after (Put r) rows = most-with r rows
-most_after (Delete key) rows = most-without key rows
-
 -- the same of what a call gives
 pub rise_given : (c : RowChange) (rows given : List StoreRow) → AreRows rows → given ≡ after_change c rows → AreRows given
 rise_given c rows given rise is = subst AreRows (sym is) (rise_after c rows rise)
-
-pub most_given : (c : RowChange) (rows given : List StoreRow) → given ≡ after_change c rows → length given ≤ length rows + 1
-most_given c rows given is = subst (λ (g : List StoreRow). length g ≤ length rows + 1) (sym is) (most_after c rows)
 
 -- ---- their fields have room
 
@@ -225,10 +164,6 @@ room_given batch rows given rules room is = subst HaveRoom (sym is) (room_applie
 pub no_rows : (rows : List StoreRow) → rows ≡ [] → AreRows rows
 unfolding IsStrictlySortedBy
 no_rows rows none = subst AreRows (sym none) tt
-
--- a list that was written over from its front on, to its end
-pub written_whole : {A : Type 0} (len : ℕ) (new items : List A) → len ≡ length items → length new ≡ length items → take len (new ++ drop (length new) items) ≡ new
-written_whole len new items is even = take_at new (drop (length new) items) len (even ∙ sym is)
 
 pub rise_given_batch : (batch : ChangeList) (rows given : List StoreRow) → AreRows rows → given ≡ applied batch rows → AreRows given
 rise_given_batch batch rows given rise is = subst AreRows (sym is) (rise_applied batch rows rise)

@@ -1,8 +1,7 @@
 -- The steps of a walk over changes and the rows that they change.
-use Rattle.std.proofs.Common.{Less, Equal, Greater, ◌≡◌, ℕ, List, [], ◌∷◌, ◌++◌, map, refl, sym, ap, ◌∙◌, subst, arith, append_assoc}
+use Rattle.std.proofs.Common.{Less, Equal, Greater, ◌≡◌, ℕ, List, [], ◌∷◌, map, refl, sym, ap, ◌∙◌, subst, arith}
 use Rattle.std.specs.List.Sorted.{IsStrictlySortedBy}
 use Rattle.std.specs.Ordering.{match_ordering}
-use Rattle.row_batches.specs.Batch.{change_text, changes_text}
 use Rattle.row_batches.specs.Merging.{AreInOrder, ComesBefore, IsMerged, IsMerge}
 use Rattle.row_batches.specs.Places.{AreAbove}
 use Rattle.row_batches.specs.Rows.{key_cmp, key_in, key_of, with_row, without_key, after_change, after_changes}
@@ -98,15 +97,6 @@ row_before c changes r rows greater order =
       fewer = omega arith;
       order = record { changes_rise = order.changes_rise; rows_rise = order.rows_rise.1 };
     }
-
--- ---- what is written
-
-pub written_row : (front after : List ℕ) (whole_text : List ℕ) (row : StoreRow) (changes_left : List RowChange) (rows_left : List StoreRow) (changes : List RowChange) (rows : List StoreRow)
-    → front ++ changes_text (map Put (after_changes changes rows)) ≡ whole_text → IsMerged (row ∷ []) changes_left rows_left changes rows → after ≡ front ++ change_text (Put row)
-    → after ++ changes_text (map Put (after_changes changes_left rows_left)) ≡ whole_text
-written_row front after whole_text row changes_left rows_left changes rows so_far merged grows =
-    let rest = changes_text (map Put (after_changes changes_left rows_left)) in
-    ap (λ (l : List ℕ). l ++ rest) grows ∙ append_assoc front (change_text (Put row)) rest ∙ ap (λ (l : List StoreRow). front ++ changes_text (map Put l)) (sym merged.split) ∙ so_far
 
 -- ---- the same of lists that are told by their first item and the rest
 

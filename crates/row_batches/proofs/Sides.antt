@@ -61,7 +61,7 @@ below_even key below q above rise even = subst (λ k. AreBelow k (map key_of bel
 
 -- ---- a row is put on a side, or in the place of this one
 
-pub with_below : (r : StoreRow) (below : List StoreRow) (q : StoreRow) (above : List StoreRow) → key_cmp r.key q.key ≡ Less → with_row r below ++ q ∷ above ≡ with_row r (below ++ q ∷ above)
+with_below : (r : StoreRow) (below : List StoreRow) (q : StoreRow) (above : List StoreRow) → key_cmp r.key q.key ≡ Less → with_row r below ++ q ∷ above ≡ with_row r (below ++ q ∷ above)
 with_below r [] q above less = sym (picked r q above Less less)
 with_below r (b ∷ below) q above less =
     elim (key_cmp r.key b.key) as (λ o. match_ordering o (r ∷ b ∷ below) (r ∷ below) (b ∷ with_row r below) ++ q ∷ above ≡ match_ordering o (r ∷ b ∷ (below ++ q ∷ above)) (r ∷ (below ++ q ∷ above)) (b ∷ with_row r (below ++ q ∷ above))) [
@@ -74,13 +74,13 @@ pub with_here : (r : StoreRow) (below : List StoreRow) (q : StoreRow) (above : L
 with_here r below q above rise even =
     sym (with_past r below (q ∷ above) (below_even r.key below q above rise even) ∙ ap (λ l. below ++ l) (picked r q above Equal even))
 
-pub with_above : (r : StoreRow) (below : List StoreRow) (q : StoreRow) (above : List StoreRow) → AreRows (below ++ q ∷ above) → key_cmp r.key q.key ≡ Greater → below ++ q ∷ with_row r above ≡ with_row r (below ++ q ∷ above)
+with_above : (r : StoreRow) (below : List StoreRow) (q : StoreRow) (above : List StoreRow) → AreRows (below ++ q ∷ above) → key_cmp r.key q.key ≡ Greater → below ++ q ∷ with_row r above ≡ with_row r (below ++ q ∷ above)
 with_above r below q above rise more =
     sym (with_past r below (q ∷ above) (below_less r.key below q above rise more) ∙ ap (λ l. below ++ l) (picked r q above Greater more))
 
 -- ---- a row is deleted on a side, or this one
 
-pub without_below : (key : List ℕ) (below : List StoreRow) (q : StoreRow) (above : List StoreRow) → key_cmp key q.key ≡ Less → without_key key below ++ q ∷ above ≡ without_key key (below ++ q ∷ above)
+without_below : (key : List ℕ) (below : List StoreRow) (q : StoreRow) (above : List StoreRow) → key_cmp key q.key ≡ Less → without_key key below ++ q ∷ above ≡ without_key key (below ++ q ∷ above)
 without_below key [] q above less = sym (dropped key q above Less less)
 without_below key (b ∷ below) q above less =
     elim (key_cmp key b.key) as (λ o. match_ordering o (b ∷ below) below (b ∷ without_key key below) ++ q ∷ above ≡ match_ordering o (b ∷ (below ++ q ∷ above)) (below ++ q ∷ above) (b ∷ without_key key (below ++ q ∷ above))) [
@@ -93,7 +93,7 @@ pub without_here : (key : List ℕ) (below : List StoreRow) (q : StoreRow) (abov
 without_here key below q above rise even =
     sym (without_past key below (q ∷ above) (below_even key below q above rise even) ∙ ap (λ l. below ++ l) (dropped key q above Equal even))
 
-pub without_above : (key : List ℕ) (below : List StoreRow) (q : StoreRow) (above : List StoreRow) → AreRows (below ++ q ∷ above) → key_cmp key q.key ≡ Greater → below ++ q ∷ without_key key above ≡ without_key key (below ++ q ∷ above)
+without_above : (key : List ℕ) (below : List StoreRow) (q : StoreRow) (above : List StoreRow) → AreRows (below ++ q ∷ above) → key_cmp key q.key ≡ Greater → below ++ q ∷ without_key key above ≡ without_key key (below ++ q ∷ above)
 without_above key below q above rise more =
     sym (without_past key below (q ∷ above) (below_less key below q above rise more) ∙ ap (λ l. below ++ l) (dropped key q above Greater more))
 
