@@ -1,10 +1,10 @@
 -- The rows of items, and the steps of a walk over two lists of them.
-use Rattle.std.proofs.Common.{Less, Equal, Greater, ◌≡◌, ◌≢◌, ◌+◌, ◌<◌, ◌≤◌, ◌++◌, ◌∷◌, [], List, ℕ, Bool, true, false, All, map, length, get_or, take, refl, sym, ap, ap₂, subst, ◌∙◌, append_assoc, arith}
+use Rattle.std.proofs.Common.{Less, Equal, Greater, ◌≡◌, ◌≢◌, ◌+◌, ◌<◌, ◌≤◌, ◌++◌, ◌∷◌, [], List, ℕ, Bool, true, false, All, map, length, get_or, take, refl, sym, ap, ap₂, ◌∙◌, append_assoc}
 use Rattle.std.specs.Prelude.{if◌then◌else◌}
 use Rattle.std.specs.List.{AllByRecursion}
 use Rattle.std.specs.Cmp.Lexicographic.{bytes_decides}
 use Rattle.std.proofs.lemmas.List.{map-append, take_all, take_more}
-use Rattle.std.proofs.lemmas.List.Elements.{All-cons, All-from_recursion, All-head, All-nil, All-tail}
+use Rattle.std.proofs.lemmas.List.Elements.{All-cons, All-from_recursion, All-nil}
 use Rattle.sequences.proofs.Texts.{other_bytes}
 use Rattle.row_batches.specs.Between.{changes_between}
 use Rattle.row_batches.specs.ItemRows.{IsFirst, item_row, item_rows}
@@ -22,12 +22,6 @@ module _ {A : Type 0} (has : A → Bool) (key value : A → List ℕ) where
 
   abbrev pub row : A → StoreRow
   row x = item_row key value x
-
-  pub first_row : (x : A) (xs : List A) → has x ≡ true → rows (x ∷ xs) ≡ row x ∷ rows xs
-  first_row x xs is = ap (λ (b : Bool). if b then row x ∷ rows xs else rows xs) is
-
-  pub no_row : (x : A) (xs : List A) → has x ≡ false → rows (x ∷ xs) ≡ rows xs
-  no_row x xs is = ap (λ (b : Bool). if b then row x ∷ rows xs else rows xs) is
 
   either_row : (b : Bool) (x : A) (rest others : List StoreRow) → (if b then row x ∷ (rest ++ others) else rest ++ others) ≡ (if b then row x ∷ rest else rest) ++ others
   either_row true x rest others = refl
@@ -132,25 +126,3 @@ all_are P xs each = All-from_recursion P xs each
 pub all_fit : {A : Type 0} (P : A → Type 0) (xs : List A) → ((x : A) → P x) → All P xs
 all_fit P [] each = All-nil P
 all_fit P (x ∷ xs) each = All-cons P x xs (each x) (all_fit P xs each)
-
--- ---- searches for a first item
-
-module _ {A : Type 0} (has : A → Bool) (key value : A → List ℕ) (Fits : A → Type 0) (items left : List A) (x : A) (xs : List A)
-    (is : left ≡ x ∷ xs) (so_far : item_rows has key value left ≡ item_rows has key value items) (each : All Fits left) (fewer : length left ≤ length items) where
-  fits : All Fits (x ∷ xs)
-  fits = subst (All Fits) is each
-
-  pub found : has x ≡ true → IsFirst has key value Fits items x xs
-  found held =
-      record {
-        rows = sym so_far ∙ ap (item_rows has key value) is ∙ first_row has key value x xs held;
-        first = All-head Fits x xs fits;
-        each = All-tail Fits x xs fits;
-        fewer = omega (arith, ap length is, fewer);
-      }
-
-  pub passed : has x ≡ false → item_rows has key value xs ≡ item_rows has key value items
-  passed bare = sym (no_row has key value x xs bare) ∙ sym (ap (item_rows has key value) is) ∙ so_far
-
-  pub left_fits : All Fits xs
-  left_fits = All-tail Fits x xs fits
