@@ -11,30 +11,29 @@ use sequences::Sequence;
 use std::alloc::{AllocError, Global};
 
 impl Outbox {
-    /// The changes that make the rows of the next outbox of this one's, in the order of their keys: a put for each row that is
+    /// Adds the changes that make the rows of the next outbox of this one's, in the order of their keys: a put for each row that is
     /// new or differs, a delete for each that is gone, and nothing else. The next one is made of this one by a confirmation and an
     /// append, and only the entries that these take away and add are looked at.
     #[tactic(auto, using(crate::proofs::RowsOfNext::joined, row_batches::proofs::ItemWalks::all_fit))]
-    pub fn changes_to(
+    pub fn add_changes_to(
         &self,
         alloc: Global,
+        changes: &mut Sequence<RowChange>,
         next: &Outbox,
-    ) -> Result<Sequence<RowChange>, AllocError>
+    ) -> Result<(), AllocError>
         requires { IsMadeOf self.now next.now }
-        ensures { IfOk result (λ changes. changes ≡ changes_between (rows_of self.now) (rows_of next.now)) }
+        ensures { OnOk result (changes.new ≡ changes.old ++ changes_between (rows_of self.now) (rows_of next.now)) }
     {
         let kept = self.kept_in(next);
         let gone = self.entries().len() - kept;
-        let mut changes = Sequence::new(alloc);
-        add_next_changes(alloc, &mut changes, self.next(), next.next())?;
+        add_next_changes(alloc, changes, self.next(), next.next())?;
         add_changes(
             alloc,
-            &mut changes,
+            changes,
             &EntryRows,
             &self.entries()[..gone],
             &next.entries()[kept..],
-        )?;
-        Ok(changes)
+        )
     }
 
     // How many entries the next outbox has of this one: the last ones here, and the first ones there.

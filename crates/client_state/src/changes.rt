@@ -1,6 +1,6 @@
 // The batches of a client state's rows: the one that makes them, whose bytes are the state's encoding, and the one that changes them
 // to the next state's.
-ghost use Rattle.std.specs.Prelude.{◌≡◌, ◌≤◌, ◌<◌, ◌+◌, ◌^◌, [], length, IfOk};
+ghost use Rattle.std.specs.Prelude.{◌≡◌, ◌≤◌, ◌<◌, ◌+◌, ◌^◌, ◌++◌, [], length, IfOk, OnOk};
 ghost use Rattle.std.specs.Option.{unwrap_or};
 ghost use Rattle.enrol_states.specs.Consistent as states;
 ghost use Rattle.row_batches.specs.Batch.{applied, batch_text, whole_of};
@@ -17,7 +17,7 @@ ghost use Rattle.client_state.specs.Sound.{IsConsistent};
 ghost use Rattle.client_state.specs.Encoding.{rows_of, encoding};
 
 use crate::client_state::ClientState;
-use crate::rows::{joined, rows_of};
+use crate::rows::rows_of;
 use crate::state_change::{NextEnrolment, NextEvents, StateChange};
 use change_outbox::Outbox;
 use enrol_states::State;
@@ -25,7 +25,7 @@ use event_counts::Counts;
 use pref_bindings::{NextPreferences, Prefs};
 use row_batches::{Batch, RowChange};
 use sequences::Sequence;
-use state_codec::{first_changes, later_changes};
+use state_codec::{add_first_changes, add_later_changes};
 use std::alloc::{AllocError, Global};
 
 /// The batch that makes the state's rows: a clear of all rows, and a put of each. Its bytes are the state's encoding.
@@ -66,7 +66,6 @@ pub fn changes_to(
 }
 
 // The changes from the rows of a state to those that it has after a change.
-#[tactic(auto, using(crate::proofs::Joined::all_between))]
 fn row_changes(
     alloc: Global,
     old: &ClientState,
@@ -76,123 +75,159 @@ fn row_changes(
     requires change { IsWholeChangeOf old.now change.now }
     ensures { IfOk result (λ changes. changes ≡ changes_between (rows_of old.now) (rows_of (state_after change.now old.now))) }
 {
-    let (first, later) = enrolment_changes(alloc, &old.enrolment, &change.enrolment)?;
-    let events = event_changes(alloc, &old.events, &change.events)?;
-    let outbox = outbox_changes(alloc, &old.outbox, &change.outbox)?;
-    let (holds, values) = preference_changes(alloc, &old.preferences, &change.preferences)?;
-    joined(first, events, holds, later, outbox, values)
+    let mut changes = Sequence::new(alloc);
+    add_first(alloc, &mut changes, &old.enrolment, &change.enrolment)?;
+    add_events(alloc, &mut changes, &old.events, &change.events)?;
+    add_holds(alloc, &mut changes, &old.preferences, &change.preferences)?;
+    add_later(alloc, &mut changes, &old.enrolment, &change.enrolment)?;
+    add_outbox(alloc, &mut changes, &old.outbox, &change.outbox)?;
+    add_values(alloc, &mut changes, &old.preferences, &change.preferences)?;
+    Ok(changes)
 }
 
-// The changes of the enrolment's first rows, and of its later ones.
-#[tactic(auto, using(state_codec::proofs::Joined::between_itself))]
-fn enrolment_changes(
+// Adds the changes of the enrolment's first rows.
+#[tactic(auto, using(state_codec::proofs::Joined::itself_added))]
+fn add_first(
     alloc: Global,
+    changes: &mut Sequence<RowChange>,
     old: &State,
     next: &Option<NextEnrolment>,
-) -> Result<(Sequence<RowChange>, Sequence<RowChange>), AllocError>
+) -> Result<(), AllocError>
+    ensures { OnOk result (changes.new ≡ changes.old ++ changes_between (first_rows old.now) (first_rows (enrolment_after next.now old.now))) }
+{
+    match next {
+        Some(next) => add_first_changes(alloc, changes, old, &next.state),
+        None => Ok(()),
+    }
+}
+
+// Adds the changes of the enrolment's later rows.
+#[tactic(auto, using(state_codec::proofs::Joined::itself_added))]
+fn add_later(
+    alloc: Global,
+    changes: &mut Sequence<RowChange>,
+    old: &State,
+    next: &Option<NextEnrolment>,
+) -> Result<(), AllocError>
     requires old_state { states.IsConsistent old.now }
     requires next { IsNextIf old.now next.now }
-    ensures first { IfOk result (λ changes. changes.0 ≡ changes_between (first_rows old.now) (first_rows (enrolment_after next.now old.now))) }
-    ensures later { IfOk result (λ changes. changes.1 ≡ changes_between (later_rows (participation_byte old.now) old.now) (later_rows (participation_byte (enrolment_after next.now old.now)) (enrolment_after next.now old.now))) }
+    ensures { OnOk result (changes.new ≡ changes.old ++ changes_between (later_rows (participation_byte old.now) old.now) (later_rows (participation_byte (enrolment_after next.now old.now)) (enrolment_after next.now old.now))) }
 {
     match next {
-        Some(next) => Ok((
-            first_changes(alloc, old, &next.state)?,
-            later_changes(alloc, old, &next.state, next.recipes)?,
-        )),
-        None => Ok((Sequence::new(alloc), Sequence::new(alloc))),
+        Some(next) => add_later_changes(alloc, changes, old, &next.state, next.recipes),
+        None => Ok(()),
     }
 }
 
-// The changes of the counts' rows.
-#[tactic(auto, using(state_codec::proofs::Joined::between_itself))]
-fn event_changes(
+// Adds the changes of the counts' rows.
+#[tactic(auto, using(state_codec::proofs::Joined::itself_added))]
+fn add_events(
     alloc: Global,
+    changes: &mut Sequence<RowChange>,
     old: &Counts,
     next: &Option<NextEvents>,
-) -> Result<Sequence<RowChange>, AllocError>
+) -> Result<(), AllocError>
     requires old_counts { counts.IsSound old.now }
     requires next { IsNextEventsIf old.now next.now }
-    ensures { IfOk result (λ changes. changes ≡ changes_between (count_rows.rows_of old.now) (count_rows.rows_of (events_after next.now old.now))) }
+    ensures { OnOk result (changes.new ≡ changes.old ++ changes_between (count_rows.rows_of old.now) (count_rows.rows_of (events_after next.now old.now))) }
 {
     match next {
-        Some(next) => next_event_changes(alloc, old, next),
-        None => Ok(Sequence::new(alloc)),
+        Some(next) => add_next_events(alloc, changes, old, next),
+        None => Ok(()),
     }
 }
 
-// The changes to the next counts' rows. Of the names the part alone is looked at that may differ.
-fn next_event_changes(
+// Adds the changes to the next counts' rows. Of the names the part alone is looked at that may differ.
+fn add_next_events(
     alloc: Global,
+    changes: &mut Sequence<RowChange>,
     old: &Counts,
     next: &NextEvents,
-) -> Result<Sequence<RowChange>, AllocError>
+) -> Result<(), AllocError>
     requires old_counts { counts.IsSound old.now }
     requires next { IsNextEvents old.now next.now }
-    ensures { IfOk result (λ changes. changes ≡ changes_between (count_rows.rows_of old.now) (count_rows.rows_of next.now.counts)) }
+    ensures { OnOk result (changes.new ≡ changes.old ++ changes_between (count_rows.rows_of old.now) (count_rows.rows_of next.now.counts)) }
 {
-    old.changes_in(alloc, &next.counts, next.part)
+    old.add_changes_in(alloc, changes, &next.counts, next.part)
 }
 
-// The changes of the outbox's rows.
-#[tactic(auto, using(state_codec::proofs::Joined::between_itself))]
-fn outbox_changes(
+// Adds the changes of the outbox's rows.
+#[tactic(auto, using(state_codec::proofs::Joined::itself_added))]
+fn add_outbox(
     alloc: Global,
+    changes: &mut Sequence<RowChange>,
     old: &Outbox,
     next: &Option<Outbox>,
-) -> Result<Sequence<RowChange>, AllocError>
+) -> Result<(), AllocError>
     requires { IsNextOutboxIf old.now next.now }
-    ensures { IfOk result (λ changes. changes ≡ changes_between (change_rows.rows_of old.now) (change_rows.rows_of (unwrap_or next.now old.now))) }
+    ensures { OnOk result (changes.new ≡ changes.old ++ changes_between (change_rows.rows_of old.now) (change_rows.rows_of (unwrap_or next.now old.now))) }
 {
     match next {
-        Some(next) => old.changes_to(alloc, next),
-        None => Ok(Sequence::new(alloc)),
+        Some(next) => old.add_changes_to(alloc, changes, next),
+        None => Ok(()),
     }
 }
 
-// The changes of the rows of holds, and of those of values.
-#[tactic(auto, using(state_codec::proofs::Joined::between_itself))]
-fn preference_changes(
+// Adds the changes of the rows of holds.
+#[tactic(auto, using(state_codec::proofs::Joined::itself_added))]
+fn add_holds(
     alloc: Global,
+    changes: &mut Sequence<RowChange>,
     old: &Prefs,
     next: &Option<NextPreferences>,
-) -> Result<(Sequence<RowChange>, Sequence<RowChange>), AllocError>
+) -> Result<(), AllocError>
     requires old_preferences { preferences.IsSound old.now }
     requires next { IsNextPreferencesIf old.now next.now }
-    ensures holds { IfOk result (λ changes. changes.0 ≡ changes_between (hold_rows old.now) (hold_rows (preferences_or next.now old.now))) }
-    ensures values { IfOk result (λ changes. changes.1 ≡ changes_between (value_rows old.now) (value_rows (preferences_or next.now old.now))) }
+    ensures { OnOk result (changes.new ≡ changes.old ++ changes_between (hold_rows old.now) (hold_rows (preferences_or next.now old.now))) }
 {
     match next {
-        Some(next) => Ok((
-            hold_changes(alloc, old, next)?,
-            value_changes(alloc, old, next)?,
-        )),
-        None => Ok((Sequence::new(alloc), Sequence::new(alloc))),
+        Some(next) => add_next_holds(alloc, changes, old, next),
+        None => Ok(()),
     }
 }
 
-// The changes to the next rows of holds. Of the preferences the part alone is looked at that may differ.
-fn hold_changes(
+// Adds the changes to the next rows of holds. Of the preferences the part alone is looked at that may differ.
+fn add_next_holds(
     alloc: Global,
+    changes: &mut Sequence<RowChange>,
     old: &Prefs,
     next: &NextPreferences,
-) -> Result<Sequence<RowChange>, AllocError>
+) -> Result<(), AllocError>
     requires old_preferences { preferences.IsSound old.now }
     requires next { IsNextPreferences old.now next.now }
-    ensures { IfOk result (λ changes. changes ≡ changes_between (hold_rows old.now) (hold_rows next.now.preferences)) }
+    ensures { OnOk result (changes.new ≡ changes.old ++ changes_between (hold_rows old.now) (hold_rows next.now.preferences)) }
 {
-    old.hold_changes_in(alloc, &next.preferences, next.part)
+    old.add_hold_changes_in(alloc, changes, &next.preferences, next.part)
 }
 
-// The changes to the next rows of values. Of the preferences the part alone is looked at that may differ.
-fn value_changes(
+// Adds the changes of the rows of values.
+#[tactic(auto, using(state_codec::proofs::Joined::itself_added))]
+fn add_values(
     alloc: Global,
+    changes: &mut Sequence<RowChange>,
+    old: &Prefs,
+    next: &Option<NextPreferences>,
+) -> Result<(), AllocError>
+    requires old_preferences { preferences.IsSound old.now }
+    requires next { IsNextPreferencesIf old.now next.now }
+    ensures { OnOk result (changes.new ≡ changes.old ++ changes_between (value_rows old.now) (value_rows (preferences_or next.now old.now))) }
+{
+    match next {
+        Some(next) => add_next_values(alloc, changes, old, next),
+        None => Ok(()),
+    }
+}
+
+// Adds the changes to the next rows of values. Of the preferences the part alone is looked at that may differ.
+fn add_next_values(
+    alloc: Global,
+    changes: &mut Sequence<RowChange>,
     old: &Prefs,
     next: &NextPreferences,
-) -> Result<Sequence<RowChange>, AllocError>
+) -> Result<(), AllocError>
     requires old_preferences { preferences.IsSound old.now }
     requires next { IsNextPreferences old.now next.now }
-    ensures { IfOk result (λ changes. changes ≡ changes_between (value_rows old.now) (value_rows next.now.preferences)) }
+    ensures { OnOk result (changes.new ≡ changes.old ++ changes_between (value_rows old.now) (value_rows next.now.preferences)) }
 {
-    old.value_changes_in(alloc, &next.preferences, next.part)
+    old.add_value_changes_in(alloc, changes, &next.preferences, next.part)
 }

@@ -31,6 +31,10 @@ pub between_itself : (rows : List StoreRow) → changes_between rows rows ≡ []
 between_itself [] = refl
 between_itself (r ∷ rs) = (turns.same r r rs rs ((bytes_decides r.value r.value).1 refl) (tied_itself nat_list_cmp_total r.key)).split ∙ between_itself rs
 
+-- rows that stay as they are add nothing
+pub itself_added : (rows : List StoreRow) (c0 : List RowChange) → c0 ≡ c0 ++ changes_between rows rows
+itself_added rows c0 = sym (append-nil c0) ∙ ap (λ (l : List RowChange). c0 ++ l) (sym (between_itself rows))
+
 statuses_below : (byte : ℕ) (s t : State) → Precede (status_rows byte s) (last_rows t)
 statuses_below byte s t = ((refl, (refl, (refl, tt))), ((refl, (refl, (refl, tt))), all_below status_row s.rows (last_rows t) (λ w. client_rows_below byte t w.slug)))
 

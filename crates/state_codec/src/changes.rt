@@ -59,52 +59,35 @@ pub fn change_between(alloc: Global, old: &State, new: &State) -> Result<Batch, 
     ensures whole { IfOk result (λ batch. batch_text (whole_of (applied batch (rows_of old.now))) ≡ encoding new.now) }
     ensures size { IfOk result (λ batch. length (batch_text batch) ≤ length (encoding old.now) + length (encoding new.now)) }
 {
-    let mut changes = first_changes(alloc, old, new)?;
-    add_later(alloc, &mut changes, old, new, RecipeLists::MayDiffer)?;
+    let mut changes = Sequence::new(alloc);
+    add_first_changes(alloc, &mut changes, old, new)?;
+    add_later_changes(alloc, &mut changes, old, new, RecipeLists::MayDiffer)?;
     Ok(Batch::of_changes(changes))
 }
 
-/// The changes from the first rows of a state to those of the next, as `change_between` has them of all rows.
+/// Adds the changes from the first rows of a state to those of the next, as `change_between` has them of all rows.
 #[tactic(auto, using(row_batches::proofs::ItemWalks::all_fit), unfolding(crate::specs::Encoding::first_rows))]
-pub fn first_changes(
+pub fn add_first_changes(
     alloc: Global,
+    changes: &mut Sequence<RowChange>,
     old: &State,
     new: &State,
-) -> Result<Sequence<RowChange>, AllocError>
-    ensures { IfOk result (λ changes. changes ≡ changes_between (first_rows old.now) (first_rows new.now)) }
+) -> Result<(), AllocError>
+    ensures { OnOk result (changes.new ≡ changes.old ++ changes_between (first_rows old.now) (first_rows new.now)) }
 {
-    let mut changes = Sequence::new(alloc);
     add_changes(
         alloc,
-        &mut changes,
+        changes,
         &RowKind::Coenrolling,
         old.coenrolling.as_slice(),
         new.coenrolling.as_slice(),
-    )?;
-    Ok(changes)
+    )
 }
 
-/// The changes from the later rows of a state to those of the next, as `change_between` has them of all rows, where it is known
-/// which lists are as before, and in which parts others may differ. What is as before isn't looked at, so the cost is that of the
-/// rest, which is walked once.
-pub fn later_changes(
-    alloc: Global,
-    old: &State,
-    new: &State,
-    recipes: RecipeLists,
-) -> Result<Sequence<RowChange>, AllocError>
-    requires old_state { IsConsistent old.now }
-    requires new_state { IsConsistent new.now }
-    requires recipes { HasLists recipes old.now new.now }
-    ensures { IfOk result (λ changes. changes ≡ changes_between (later_rows (participation_byte old.now) old.now) (later_rows (participation_byte new.now) new.now)) }
-{
-    let mut changes = Sequence::new(alloc);
-    add_later(alloc, &mut changes, old, new, recipes)?;
-    Ok(changes)
-}
-
-// Adds the changes of the later rows.
-fn add_later(
+/// Adds the changes from the later rows of a state to those of the next, as `change_between` has them of all rows, where it is
+/// known which lists are as before, and in which parts others may differ. What is as before isn't looked at, so the cost is that
+/// of the rest, which is walked once.
+pub fn add_later_changes(
     alloc: Global,
     changes: &mut Sequence<RowChange>,
     old: &State,

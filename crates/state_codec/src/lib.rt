@@ -18,7 +18,7 @@ mod single_row;
 mod size;
 mod state_reading;
 
-pub use changes::{change_between, first_changes, later_changes, whole_batch, write_state};
+pub use changes::{add_first_changes, add_later_changes, change_between, whole_batch, write_state};
 pub use laws::{one_encoding, one_state};
 pub use old_form::{migration, needs_migration};
 pub use reading::read_state;

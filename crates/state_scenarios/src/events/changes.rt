@@ -3,7 +3,7 @@ use super::histories::{count_all, count_given};
 use crate::store_rows::{add_changes, add_size};
 use event_counts::Counts;
 use row_tables::{Fault, Found, parts};
-use sequences::ListPart;
+use sequences::{ListPart, Sequence};
 use std::alloc::{AllocError, Global};
 
 /// The rows that are put and the keys of those that are deleted, or `none`, and how many bytes the puts of the new rows have. Row:
@@ -53,7 +53,8 @@ fn add_changes_between(
     found: &mut Found,
 ) -> Result<(), AllocError> {
     let part = ListPart::whole(old.len(), new.len());
-    let changes = old.changes_in(alloc, new, part)?;
+    let mut changes = Sequence::new(alloc);
+    old.add_changes_in(alloc, &mut changes, new, part)?;
     add_changes(changes.as_slice(), found);
     add_size(new.size(), found);
     Ok(())

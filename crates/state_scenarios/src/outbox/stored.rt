@@ -8,6 +8,7 @@ use crate::store_rows::{add_changes, add_rows, add_size, read_rows};
 use change_outbox::{Outbox, OutboxFault, outbox_of};
 use row_batches::StoreRow;
 use row_tables::{Fault, Found, parts};
+use sequences::Sequence;
 use std::alloc::{AllocError, Global};
 
 /// The outbox of a store's rows, or `NotAnOutbox`. Row: the store's rows.
@@ -98,7 +99,8 @@ fn add_changes_to(
 ) -> Result<(), AllocError>
     requires { IsMadeOf outbox.now next.now }
 {
-    let changes = outbox.changes_to(alloc, next)?;
+    let mut changes = Sequence::new(alloc);
+    outbox.add_changes_to(alloc, &mut changes, next)?;
     add_changes(changes.as_slice(), found);
     add_size(next.size(), found);
     Ok(())

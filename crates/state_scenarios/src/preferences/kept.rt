@@ -6,7 +6,7 @@ use crate::store_rows::{add_changes, add_rows, add_rows_again, add_size, read_ro
 use pref_bindings::{Prefs, PrefsFault, prefs_of};
 use row_batches::StoreRow;
 use row_tables::{Fault, Found, parts};
-use sequences::ListPart;
+use sequences::{ListPart, Sequence};
 use std::alloc::{AllocError, Global};
 
 /// The rows of the preferences after steps, or `none`. Row: the steps.
@@ -96,7 +96,8 @@ fn add_hold_changes(
     new: &Prefs,
     found: &mut Found,
 ) -> Result<(), AllocError> {
-    let changes = old.hold_changes_in(alloc, new, whole(old, new))?;
+    let mut changes = Sequence::new(alloc);
+    old.add_hold_changes_in(alloc, &mut changes, new, whole(old, new))?;
     add_changes(changes.as_slice(), found);
     Ok(())
 }
@@ -107,7 +108,8 @@ fn add_value_changes(
     new: &Prefs,
     found: &mut Found,
 ) -> Result<(), AllocError> {
-    let changes = old.value_changes_in(alloc, new, whole(old, new))?;
+    let mut changes = Sequence::new(alloc);
+    old.add_value_changes_in(alloc, &mut changes, new, whole(old, new))?;
     add_changes(changes.as_slice(), found);
     add_size(new.size(), found);
     Ok(())

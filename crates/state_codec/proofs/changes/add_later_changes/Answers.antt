@@ -2,7 +2,7 @@
 use Rattle.std.proofs.lemmas.Result.{on_ok_weaker}
 use Rattle.state_values.specs.Values.{participation_byte}
 use Rattle.state_codec.proofs.Joined.{all_behind, last_added, later_added, statuses_added}
-use Rattle.state_codec.proofs.changes.add_later.Goals as goal
+use Rattle.state_codec.proofs.changes.add_later_changes.Goals as goal
 
 pub returns : goal.returns
 returns c =

@@ -1,0 +1,12 @@
+-- The rows of the part alone change.
+use Rattle.std.proofs.Common.{◌++◌, List, ◌∙◌, ap}
+use Rattle.std.proofs.lemmas.Result.{on_ok_weaker}
+use Rattle.row_batches.specs.declared.change.RowChange.{RowChange}
+use Rattle.client_state.proofs.EventParts.{part_told}
+use Rattle.client_state.proofs.changes.add_next_events.Goals as goal
+
+pub returns : goal.returns
+returns c =
+    on_ok_weaker c.add_changes_in.result
+    (λ added. added ∙ ap (λ (cs : List RowChange). c.args.changes.now ++ cs) (part_told c.args.old.now c.args.next.now c.requires.next c.requires.old_counts))
+    c.add_changes_in.ensures
