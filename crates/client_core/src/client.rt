@@ -35,7 +35,7 @@ pub struct Client {
 
 impl Client {
     ghost use Rattle.client_core.specs.Clients.{state_of, session_of, end_of, IsOpenOn, HasGateOn};
-    ghost use Rattle.client_store.specs.Changes.{IsChangeOf};
+    ghost use Rattle.client_store.specs.Changes.{IsReadyChangeOf, next_of};
     ghost use Rattle.client_core.specs.Prepared.{IsMadeOn, next_state, next_session, is_checkpoint};
 
     /// The state. It takes no memory.
@@ -134,7 +134,7 @@ impl Client {
         }
     }
 
-    // Writes a change, and takes its state and the session over.
+    // Writes a change, and takes its parts and the session over.
     fn write<H: Host>(
         &mut self,
         host: &mut H,
@@ -142,32 +142,32 @@ impl Client {
         session: SessionChange,
     ) -> Result<(), DiskFailed>
         requires holds { H.tells → IsOpenOn H.Host self.old host.old }
-        requires change { IsChangeOf self.old.store change }
+        requires change { IsReadyChangeOf self.old.store change }
 
         ensures any_moment { H.tells → HasGateOn H.Host self.old host.old
-            → MeetsAll H.Host host.old host.new (WhileWritten (H.said host.old) (state_of self.old) change.state) }
-        ensures kept_either { H.tells → HasGateOn H.Host self.old host.old → AllKeptEither H.Host host.new (state_of self.old) change.state }
+            → MeetsAll H.Host host.old host.new (WhileWritten (H.said host.old) (state_of self.old) (next_of (state_of self.old) change)) }
+        ensures kept_either { H.tells → HasGateOn H.Host self.old host.old → AllKeptEither H.Host host.new (state_of self.old) (next_of (state_of self.old) change) }
         ensures text { H.tells → H.said host.new ≡ H.said host.old }
 
         ensures any_rows { H.tells → HasGateOn H.Host self.old host.old
-            → MeetsAll H.Host host.old host.new (KeepsEitherRows H.Host host.old (rows_of (state_of self.old)) (rows_of change.state)) }
-        ensures rows { OnOk result (H.tells → HasRows (H.reads host.new Left) (H.reads host.new Right) (rows_of change.state)) }
+            → MeetsAll H.Host host.old host.new (KeepsEitherRows H.Host host.old (rows_of (state_of self.old)) (rows_of (next_of (state_of self.old) change))) }
+        ensures rows { OnOk result (H.tells → HasRows (H.reads host.new Left) (H.reads host.new Right) (rows_of (next_of (state_of self.old) change))) }
 
         ensures holds { OnOk result (H.tells → IsOpenOn H.Host self.new host.new) }
         ensures settled { OnOk result (H.tells → AreDurable H.Host host.new) }
-        ensures stands { OnOk result (H.tells → AllStand H.Host host.new change.state) }
-        ensures kept { OnOk result (H.tells → AllKept H.Host host.new change.state) }
+        ensures stands { OnOk result (H.tells → AllStand H.Host host.new (next_of (state_of self.old) change)) }
+        ensures kept { OnOk result (H.tells → AllKept H.Host host.new (next_of (state_of self.old) change)) }
         ensures gate { OnOk result (H.tells → HasGateOn H.Host self.new host.new) }
 
-        ensures state { OnOk result (state_of self.new ≡ change.state) }
+        ensures state { OnOk result (state_of self.new ≡ next_of (state_of self.old) change) }
         ensures session { OnOk result (session_of self.new ≡ changed_by self.old.session session) }
         ensures same { OnErr result (self.new ≡ self.old) }
 
-        ensures bytes { OnOk result (H.tells → IsChangedTo H.Host self.old.store change.state host.old host.new) }
-        ensures cost { H.tells → HasCost (bytes_for (end_of self.old) (state_of self.old) change.state) (H.written host.old) (H.written host.new) result }
-        ensures place { OnOk result (end_of self.new ≡ place_after (end_of self.old) (state_of self.old) change.state) }
+        ensures bytes { OnOk result (H.tells → IsChangedTo H.Host self.old.store (next_of (state_of self.old) change) host.old host.new) }
+        ensures cost { H.tells → HasCost (bytes_for (end_of self.old) (state_of self.old) (next_of (state_of self.old) change)) (H.written host.old) (H.written host.new) result }
+        ensures place { OnOk result (end_of self.new ≡ place_after (end_of self.old) (state_of self.old) (next_of (state_of self.old) change)) }
         ensures below { H.tells → MeetsAll H.Host host.old host.new (StaysBelow H.Host host.old) }
-        ensures checkpoint { change.ready.is_whole ≡ makes_checkpoint (end_of self.old) (state_of self.old) change.state }
+        ensures checkpoint { change.ready.is_whole ≡ makes_checkpoint (end_of self.old) (state_of self.old) (next_of (state_of self.old) change) }
         ensures cause { HasCause (H.disk_faults host.old) (H.disk_faults host.new) result }
         ensures disk_quiet { OnOk result (H.disk_faults host.new ≡ H.disk_faults host.old) }
         ensures say_faults { H.say_faults host.new ≡ H.say_faults host.old }

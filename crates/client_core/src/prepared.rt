@@ -5,7 +5,7 @@ use client_steps::SessionChange;
 use client_store::Change;
 use client_words::Answer;
 
-/// What a command leaves, and its answer. Where the state changes it holds the new one with the changed rows.
+/// What a command leaves, and its answer. Where the state changes it holds the parts that change, with the changed rows.
 #[derive(Drop)]
 pub struct Prepared {
     pub(crate) change: Option<Change>,

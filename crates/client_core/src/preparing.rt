@@ -1,4 +1,4 @@
-// A step is prepared: its new state, the changed rows and its answer are built before the first write.
+// A step is prepared: its new parts, the changed rows and its answer are built before the first write.
 ghost use Rattle.std.specs.Prelude.{◌≡◌, ◌≤◌, ◌<◌, List, ℕ, Option, None, IfOk, IfErr, IsErrOf, IsTrue, OnOk, false, length};
 ghost use Rattle.host_model.specs.Causes.{Rose};
 ghost use Rattle.enrol_states.specs.State.{last_moment};
@@ -7,7 +7,6 @@ ghost use Rattle.client_state.specs.Changes.{state_after, IsChangeOf, IsWholeCha
 ghost use Rattle.client_state.specs.Following.{followed, spends};
 ghost use Rattle.client_state.specs.Sound.{max_size};
 ghost use Rattle.client_state.specs.Encoding.{encoding};
-ghost use Rattle.client_store.specs.Changes.{changed, IsChange};
 ghost use Rattle.client_words.specs.Commands.{IsCommand};
 ghost use Rattle.client_steps.specs.Asked.{asked_outcome, answer_for, changed_outcome, FollowsFrom, IsAnswerOrRefused};
 ghost use Rattle.client_steps.specs.Commands.{names_file, HasAsked};
@@ -19,13 +18,12 @@ ghost use Rattle.client_steps.specs.Steps.{Accepted, outcome, done};
 use crate::client::Client;
 use crate::prepared::Prepared;
 use change_outbox::AppendChangesFault;
-use client_state::StateChange;
+use client_state::{BoxedChange, StateChange};
 use client_steps::{
     Asked, SessionChange, StepFault, applying, confirming, counting, fetching, listing_changes,
     listing_preferences, participating, reading_bindings, reading_context, resetting, serving,
     setting_manifest, showing, writing_manifest,
 };
-use client_store::Change;
 use client_words::{Answer, Command, Refusal};
 use host_model::Shelf;
 use jexl_transforms::TransformTable;
@@ -159,11 +157,8 @@ impl Client {
         ensures answer { IfOk result (λ prepared. IsAnswerOrRefused (answer_for asked) (answer_in prepared)) }
     {
         match asked {
-            Asked::NewState { change, answer } => {
-                let mut change = change.into_change();
-                self.changed(alloc, &mut change, answer)
-            }
-            Asked::Followed { change, answer } => self.changed_to(alloc, change.get(), answer),
+            Asked::NewState { change, answer } => self.changed(alloc, change, answer),
+            Asked::Followed { change, answer } => self.changed_to(alloc, change, answer),
             Asked::SameState { change, answer } => Ok(self.unchanged(change, answer)),
             Asked::Refused(refusal) => {
                 Ok(self.unchanged(SessionChange::Stays, Answer::Refused(refusal)))
@@ -175,17 +170,17 @@ impl Client {
     fn changed(
         &mut self,
         alloc: Global,
-        change: &mut StateChange,
+        mut change: BoxedChange,
         answer: Answer,
     ) -> Result<Prepared, AllocError>
-        requires change { IsChangeOf (state_of self.old) change.old }
-        requires preferences { change.old.preferences ≡ None }
+        requires change { IsChangeOf (state_of self.old) change }
+        requires preferences { change.preferences ≡ None }
         ensures same { IsSameClient self.old self.new }
         ensures made { IfOk result (λ prepared. IsMadeOn self.new prepared) }
-        ensures step { IfOk result (λ prepared. Leads self.new prepared (done (state_of self.old) (session_of self.old) (changed_outcome (state_of self.old) (session_of self.old) change.old answer))) }
+        ensures step { IfOk result (λ prepared. Leads self.new prepared (done (state_of self.old) (session_of self.old) (changed_outcome (state_of self.old) (session_of self.old) change answer))) }
         ensures answer { IfOk result (λ prepared. IsAnswerOrRefused answer (answer_in prepared)) }
     {
-        match self.followed(alloc, change) {
+        match self.followed(alloc, change.get_mut()) {
             Ok(()) => self.changed_to(alloc, change, answer),
             Err(AppendChangesFault::ChangesSpent) => {
                 Ok(self.unchanged(SessionChange::Stays, Answer::Refused(Refusal::ChangesSpent)))
@@ -220,16 +215,16 @@ impl Client {
     fn changed_to(
         &mut self,
         alloc: Global,
-        change: &StateChange,
+        change: BoxedChange,
         answer: Answer,
     ) -> Result<Prepared, AllocError>
-        requires { IsWholeChangeOf (state_of self.old) change.now }
+        requires { IsWholeChangeOf (state_of self.old) change }
         ensures same { IsSameClient self.old self.new }
         ensures made { IfOk result (λ prepared. IsMadeOn self.new prepared) }
-        ensures step { IfOk result (λ prepared. Leads self.new prepared (done (state_of self.old) (session_of self.old) (Accepted (state_after change.now (state_of self.old)) (session_of self.old) answer))) }
+        ensures step { IfOk result (λ prepared. Leads self.new prepared (done (state_of self.old) (session_of self.old) (Accepted (state_after change (state_of self.old)) (session_of self.old) answer))) }
         ensures answer { IfOk result (λ prepared. IsAnswerOrRefused answer (answer_in prepared)) }
     {
-        match self.next(alloc, change)? {
+        match self.store.prepare(alloc, change)? {
             Ok(change) => Ok(Prepared {
                 change,
                 session: SessionChange::Stays,
@@ -239,25 +234,6 @@ impl Client {
                 SessionChange::Stays,
                 Answer::Refused(Refusal::StateTooLarge(size)),
             )),
-        }
-    }
-
-    // The change to the next state, where that is another one, or else how many bytes its encoding has, which are too many.
-    fn next(
-        &mut self,
-        alloc: Global,
-        change: &StateChange,
-    ) -> Result<Result<Option<Change>, u128>, AllocError>
-        requires { IsWholeChangeOf (state_of self.old) change.now }
-        ensures same { IsSameClient self.old self.new }
-        ensures made { IfOk result (λ next. IfOk next (IsChange self.new.store)) }
-        ensures state { IfOk result (λ next. IfOk next (λ c. changed (state_of self.old) c ≡ state_after change.now (state_of self.old))) }
-        ensures fits { IfOk result (λ next. IfOk next (λ _. length (encoding (state_after change.now (state_of self.old))) ≤ max_size)) }
-        ensures large { IfOk result (λ next. IfErr next (λ size. (size ≡ length (encoding (state_after change.now (state_of self.old)))) × (max_size < size))) }
-    {
-        match self.store.sized(alloc, change)? {
-            Ok(next) => Ok(Ok(self.store.change_to(alloc, next, change)?)),
-            Err(size) => Ok(Err(size)),
         }
     }
 

@@ -13,8 +13,8 @@ ghost use Rattle.client_steps.specs.Steps.{Accepted, Refused, preferring, releas
 
 use crate::client::Client;
 use change_outbox::AppendChangesFault;
-use client_state::StateChange;
-use client_steps::{Asked, BoxedChange};
+use client_state::{BoxedChange, StateChange};
+use client_steps::Asked;
 use client_words::{Answer, Refusal};
 use enrol_states::{NextState, end_enrolment};
 use json_tree::Tree;

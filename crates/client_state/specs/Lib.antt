@@ -3,6 +3,7 @@ pub mod Encoding
 pub mod Forms
 pub mod Sound
 pub mod Changes
+pub mod Lending
 pub mod Following
 pub mod Sizes
 pub mod Sections

@@ -1,18 +1,20 @@
 // The state of a client.
-ghost use Rattle.std.specs.Prelude.{◌≡◌, IfOk};
-ghost use Rattle.client_state.specs.Changes.{state_after};
+ghost use Rattle.std.specs.Prelude.{◌≡◌};
+ghost use Rattle.std.specs.Option.{unwrap_or};
+ghost use Rattle.client_state.specs.Changes.{enrolment_after, events_after, preferences_or, state_after};
 ghost use Rattle.client_state.specs.Parts.{with_empty_parts};
 
-use crate::state_change::StateChange;
+use crate::boxed_change::BoxedChange;
+use crate::state_change::{NextEnrolment, NextEvents};
 use change_outbox::Outbox;
 use enrol_states::State;
 use event_counts::Counts;
-use pref_bindings::Prefs;
-use sequences::ExactClone;
-use std::alloc::{AllocError, Global};
+use pref_bindings::{NextPreferences, Prefs};
+use std::alloc::Global;
+use std::mem;
 
 /// What a client knows of itself, of the recipes and of what it is to each, what its user did, what it has to tell, and the values
-/// of preferences. A clone is the same state, and shares all that has a length.
+/// of preferences.
 #[derive(Drop)]
 pub struct ClientState {
     pub enrolment: State,
@@ -22,24 +24,6 @@ pub struct ClientState {
     pub outbox: Outbox,
     /// The preferences that have a value, with who holds them.
     pub preferences: Prefs,
-}
-
-/// The same state. It takes no memory.
-impl Clone for ClientState {
-    ghost is_clone = { λ s t. t ≡ s };
-
-    fn clone(&self) -> Result<ClientState, AllocError> {
-        Ok(ClientState {
-            enrolment: self.enrolment.clone()?,
-            events: self.events.clone()?,
-            outbox: self.outbox.clone()?,
-            preferences: self.preferences.clone()?,
-        })
-    }
-}
-
-impl ExactClone for ClientState {
-    ghost exact = { λ s t same. same };
 }
 
 impl ClientState {
@@ -56,15 +40,50 @@ impl ClientState {
         }
     }
 
-    /// The state with the parts that the change has. It shares them, and all others with this one.
-    pub fn with(&self, change: &StateChange) -> Result<ClientState, AllocError>
-        ensures { IfOk result (λ s. s ≡ state_after change.now self.now) }
+    /// Takes the parts over that the change has. It takes no memory.
+    pub fn take_over(&mut self, mut change: BoxedChange)
+        ensures { self.new ≡ state_after change self.old }
     {
-        Ok(ClientState {
-            enrolment: change.enrolment_or(&self.enrolment).clone()?,
-            events: change.events_or(&self.events).clone()?,
-            outbox: change.outbox.as_ref().unwrap_or(&self.outbox).clone()?,
-            preferences: change.preferences_or(&self.preferences).clone()?,
-        })
+        let change = change.get_mut();
+        take_enrolment(&mut self.enrolment, &mut change.enrolment);
+        take_events(&mut self.events, &mut change.events);
+        take_outbox(&mut self.outbox, &mut change.outbox);
+        take_preferences(&mut self.preferences, &mut change.preferences);
+    }
+}
+
+// Puts the next enrolment in the place of this one, where there is a next one.
+fn take_enrolment(enrolment: &mut State, next: &mut Option<NextEnrolment>)
+    ensures { enrolment.new ≡ enrolment_after next.old enrolment.old }
+{
+    if let Some(next) = next {
+        mem::swap(enrolment, &mut next.state);
+    }
+}
+
+// Puts the next counts in the place of these, where there are next ones.
+fn take_events(events: &mut Counts, next: &mut Option<NextEvents>)
+    ensures { events.new ≡ events_after next.old events.old }
+{
+    if let Some(next) = next {
+        mem::swap(events, &mut next.counts);
+    }
+}
+
+// Puts the next outbox in the place of this one, where there is a next one.
+fn take_outbox(outbox: &mut Outbox, next: &mut Option<Outbox>)
+    ensures { outbox.new ≡ unwrap_or next.old outbox.old }
+{
+    if let Some(next) = next {
+        mem::swap(outbox, next);
+    }
+}
+
+// Puts the next preferences in the place of these, where there are next ones.
+fn take_preferences(preferences: &mut Prefs, next: &mut Option<NextPreferences>)
+    ensures { preferences.new ≡ preferences_or next.old preferences.old }
+{
+    if let Some(next) = next {
+        mem::swap(preferences, &mut next.preferences);
     }
 }

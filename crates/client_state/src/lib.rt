@@ -3,6 +3,7 @@
 //! the enrolment, how many bytes it is encoded in, and the state of rows.
 #![tactic(auto)]
 
+mod boxed_change;
 mod changes;
 mod client_state;
 mod following;
@@ -17,6 +18,7 @@ mod sections;
 mod sizes;
 mod state_change;
 
+pub use boxed_change::BoxedChange;
 pub use changes::{changes_to, whole_batch};
 pub use client_state::ClientState;
 pub use following::follow;

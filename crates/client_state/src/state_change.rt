@@ -1,6 +1,6 @@
 // What a command makes of a client's state.
 ghost use Rattle.std.specs.Prelude.{◌≡◌};
-ghost use Rattle.client_state.specs.Changes.{enrolment_after, events_after, no_change, of_both, of_enrolment, of_events, of_next_state, of_outbox, preferences_or};
+ghost use Rattle.client_state.specs.Changes.{no_change, of_both, of_enrolment, of_events, of_next_state, of_outbox, preferences_or};
 
 use change_outbox::Outbox;
 use enrol_states::{NextState, State};
@@ -99,26 +99,6 @@ impl StateChange {
         StateChange {
             outbox: Some(outbox),
             ..StateChange::none()
-        }
-    }
-
-    /// The next enrolment, or that of before.
-    pub(crate) fn enrolment_or<'a>(&'a self, before: &'a State) -> &'a State
-        ensures { result.now ≡ enrolment_after self.now.enrolment before.now }
-    {
-        match &self.enrolment {
-            Some(next) => &next.state,
-            None => before,
-        }
-    }
-
-    /// The next counts of events, or those of before.
-    pub(crate) fn events_or<'a>(&'a self, before: &'a Counts) -> &'a Counts
-        ensures { result.now ≡ events_after self.now.events before.now }
-    {
-        match &self.events {
-            Some(next) => &next.counts,
-            None => before,
         }
     }
 

@@ -2,9 +2,8 @@
 ghost use Rattle.std.specs.Prelude.{◌≡◌, IfOk};
 ghost use Rattle.client_state.specs.Changes.{of_enrolment, of_next_state};
 
-use crate::boxed_change::BoxedChange;
 use crate::session::SessionChange;
-use client_state::StateChange;
+use client_state::{BoxedChange, StateChange};
 use client_words::{Answer, Refusal};
 use enrol_states::{NextState, State};
 use state_codec::RecipeLists;

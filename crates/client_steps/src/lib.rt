@@ -5,7 +5,6 @@
 mod apply;
 mod asked;
 mod bind;
-mod boxed_change;
 mod changes;
 mod confirm;
 mod context;
@@ -30,7 +29,6 @@ mod write_manifest;
 pub use apply::applying;
 pub use asked::Asked;
 pub use bind::reading_bindings;
-pub use boxed_change::BoxedChange;
 pub use changes::listing_changes;
 pub use confirm::confirming;
 pub use context::reading_context;

@@ -18,17 +18,17 @@ use Rattle.client_state.specs.Forms.{IsOldForm, old_rows, needs_migration}
 use Rattle.client_state.specs.Sound.{IsSound}
 use Rattle.client_state.specs.Encoding.{rows_of, encoding}
 use Rattle.client_store.specs.declared.found_store.FoundStore.{FoundStore}
-use Rattle.client_store.specs.Migrations.{passes_mark, migration_bytes, place_migrated, opening_bytes, place_opened, IsMigrationOf}
+use Rattle.client_store.specs.Migrations.{migration_passes_mark, migration_bytes, place_migrated, opening_bytes, place_opened, IsMigrationOf}
 use Rattle.client_store.specs.Moments.{IsLeftAs}
 use Rattle.client_store.specs.Stored.{IsFound}
 use Rattle.client_store.proofs.Holding.{rows_kept, stand_again, gated_again}
 
 -- what is written, of a batch of 9 bytes after which the rows encode the state
 module _ (store : StoredRows) (s : ClientState) (batch : ChangeList) (payload : List ℕ) (nine : length (batch_text batch) ≡ 9) (whole : batch_text (whole_of (applied batch store.rows)) ≡ encoding s) where
-  passes : IsWritten true store batch payload → passes_mark (place store) ≡ true
+  passes : IsWritten true store batch payload → migration_passes_mark (place store) ≡ true
   passes written = lt-ltb MAX_RECORD_END (place store + 15) (let past : MAX_RECORD_END < place store + length (batch_text batch) + 6 = written.1 in omega (arith, past, nine))
 
-  within : IsWritten false store batch payload → passes_mark (place store) ≡ false
+  within : IsWritten false store batch payload → migration_passes_mark (place store) ≡ false
   within written = le-ltb MAX_RECORD_END (place store + 15) (let below : place store + length (batch_text batch) + 6 ≤ MAX_RECORD_END = written.1 in omega (arith, below, nine))
 
   bytes_are : (is_whole : Bool) → IsWritten is_whole store batch payload → length payload + (if is_whole then 16 else 6) ≡ migration_bytes (place store) s

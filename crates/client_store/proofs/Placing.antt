@@ -19,7 +19,7 @@ use Rattle.client_state.proofs.OneState.{one_encoding}
 use Rattle.client_store.specs.declared.change.Change.{Change}
 use Rattle.client_store.specs.OpenStore.{IsChangedTo}
 use Rattle.client_store.specs.Places.{row_changes, change_size, passes_mark, makes_checkpoint, payload_for, bytes_for, place_after}
-use Rattle.client_store.specs.Changes.{IsChangeOf}
+use Rattle.client_store.specs.Changes.{IsReadyChangeOf, next_of}
 use Rattle.client_store.specs.Stored.{StoredState, IsStored}
 
 -- a state has its own encoding
@@ -107,25 +107,28 @@ module _ (stored : StoredState) (t : ClientState) (batch : ChangeList) (payload 
       subst (λ (b : Bool). at + length payload + 5 ≡ (if b then at else (if passes_mark at s t then length (encoding t) + 14 else at + change_size s t + 5))) (sym apart)
       (subst (λ (b : Bool). at + length payload + 5 ≡ (if b then length (encoding t) + 14 else at + change_size s t + 5)) (sym (within written)) (ap (λ (n : ℕ). at + n + 5) (part_length written)))
 
-module _ (stored : StoredState) (change : Change) (is_stored : IsStored stored) (is : IsChangeOf stored change) where
+module _ (stored : StoredState) (change : Change) (is_stored : IsStored stored) (is : IsReadyChangeOf stored change) where
+  abbrev next : ClientState
+  next = next_of stored.state change
+
   -- the rows with the batch are those of the new state
-  pub change_gives : applied change.ready.batch stored.rows.rows ≡ rows_of change.state
-  change_gives = ap (applied change.ready.batch) is_stored.same ∙ changes_give stored.state change.state change.ready.batch is_stored.sound is.sound is.batch
+  pub change_gives : applied change.ready.batch stored.rows.rows ≡ rows_of next
+  change_gives = ap (applied change.ready.batch) is_stored.same ∙ changes_give stored.state next change.ready.batch is_stored.sound is.sound is.batch
 
-  pub change_checkpoint : change.ready.is_whole ≡ makes_checkpoint (place stored.rows) stored.state change.state
-  change_checkpoint = checkpoint_is stored change.state change.ready.batch change.ready.payload is_stored.sound is.sound is.other is.batch change_gives change.ready.is_whole is.ready.written
+  pub change_checkpoint : change.ready.is_whole ≡ makes_checkpoint (place stored.rows) stored.state next
+  change_checkpoint = checkpoint_is stored next change.ready.batch change.ready.payload is_stored.sound is.sound is.other is.batch change_gives change.ready.is_whole is.ready.written
 
-  pub change_bytes : commit_cost change.ready ≡ bytes_for (place stored.rows) stored.state change.state
-  change_bytes = bytes_are stored change.state change.ready.batch change.ready.payload is_stored.sound is.sound is.other is.batch change_gives change.ready.is_whole is.ready.written
+  pub change_bytes : commit_cost change.ready ≡ bytes_for (place stored.rows) stored.state next
+  change_bytes = bytes_are stored next change.ready.batch change.ready.payload is_stored.sound is.sound is.other is.batch change_gives change.ready.is_whole is.ready.written
 
-  pub change_place : rows.place_after change.ready (place stored.rows) ≡ place_after (place stored.rows) stored.state change.state
-  change_place = place_is stored change.state change.ready.batch change.ready.payload is_stored.sound is.sound is.other is.batch change_gives change.ready.is_whole is.ready.written
+  pub change_place : rows.place_after change.ready (place stored.rows) ≡ place_after (place stored.rows) stored.state next
+  change_place = place_is stored next change.ready.batch change.ready.payload is_stored.sound is.sound is.other is.batch change_gives change.ready.is_whole is.ready.written
 
-  change_payload : change.ready.payload ≡ payload_for (place stored.rows) stored.state change.state
-  change_payload = payload_is stored change.state change.ready.batch change.ready.payload is_stored.sound is.sound is.other is.batch change_gives change.ready.is_whole is.ready.written
+  change_payload : change.ready.payload ≡ payload_for (place stored.rows) stored.state next
+  change_payload = payload_is stored next change.ready.batch change.ready.payload is_stored.sound is.sound is.other is.batch change_gives change.ready.is_whole is.ready.written
 
   -- what is written of it
-  pub change_written : {H : Type 0} (h : Ghosts H) (old new : H) → IsCommitted h change.ready.is_whole stored.rows.records change.ready.payload old new → IsChangedTo h stored change.state old new
+  pub change_written : {H : Type 0} (h : Ghosts H) (old new : H) → IsCommitted h change.ready.is_whole stored.rows.records change.ready.payload old new → IsChangedTo h stored next old new
   change_written h old new fact =
-      subst (λ (b : Bool). IsCommitted h b stored.rows.records (payload_for (place stored.rows) stored.state change.state) old new) change_checkpoint
+      subst (λ (b : Bool). IsCommitted h b stored.rows.records (payload_for (place stored.rows) stored.state next) old new) change_checkpoint
       (subst (λ (payload : List ℕ). IsCommitted h change.ready.is_whole stored.rows.records payload old new) change_payload fact)

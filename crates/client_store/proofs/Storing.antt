@@ -13,13 +13,14 @@ use Rattle.row_batches.proofs.Walks.{empty_between}
 use Rattle.row_store.specs.Moments.{KeepsEitherRows}
 use Rattle.row_store.specs.Store.{StoredRows, RowsStandWithGate}
 use Rattle.client_state.specs.declared.client_state.ClientState.{ClientState}
+use Rattle.client_state.specs.Sizes.{IsSizeOf}
 use Rattle.client_state.specs.Sound.{IsSound}
 use Rattle.client_state.specs.Encoding.{rows_of}
 use Rattle.client_state.proofs.KeyOrder.{rows_rise}
 use Rattle.client_store.specs.declared.change.Change.{Change}
 use Rattle.client_store.specs.declared.found_store.FoundStore.{FoundStore}
 use Rattle.client_store.specs.Places.{row_changes}
-use Rattle.client_store.specs.Changes.{IsChangeOf}
+use Rattle.client_store.specs.Changes.{IsReadyChangeOf, next_of}
 use Rattle.client_store.specs.Stored.{StoredState, IsStored}
 use Rattle.client_store.proofs.Placing.{change_gives}
 use Rattle.client_store.proofs.Uniqueness.{one_of_rows}
@@ -58,18 +59,31 @@ module _ (s t : ClientState) (s_sound : IsSound s) (t_sound : IsSound t) (batch 
 
 -- ---- a commit, where the store was opened as `inside`
 
-module _ (inside now : StoredState) (view : inside ≡ now) (kept : IsStored inside) (change : Change) (is : IsChangeOf now change) where
-  rows_after : applied change.ready.batch inside.rows.rows ≡ rows_of change.state
-  rows_after = change_gives inside change kept (subst (λ (x : StoredState). IsChangeOf x change) (sym view) is)
+module _ (inside now : StoredState) (view : inside ≡ now) (kept : IsStored inside) (change : Change) (is : IsReadyChangeOf now change) where
+  abbrev next : ClientState
+  next = next_of now.state change
 
-  pub stored_after : (new : StoredRows) → new.rows ≡ applied change.ready.batch inside.rows.rows → IsStored (record { rows = new; state = change.state })
-  stored_after new made = record { sound = is.sound; same = made ∙ rows_after }
+  -- the state of the fields with the parts of the change
+  pub next_same : next_of inside.state change ≡ next
+  next_same = ap (λ (x : StoredState). next_of x.state change) view
+
+  rows_after : applied change.ready.batch inside.rows.rows ≡ rows_of next
+  rows_after = ap (λ (x : StoredState). applied change.ready.batch x.rows.rows) view ∙ change_gives now change (subst IsStored view kept) is
+
+  pub sound_after : IsSound (next_of inside.state change)
+  sound_after = subst IsSound (sym next_same) is.sound
+
+  pub sizes_after : IsSizeOf (next_of inside.state change) change.sizes.value
+  sizes_after = subst (λ (s : ClientState). IsSizeOf s change.sizes.value) (sym next_same) is.sizes
+
+  pub stored_after : (new : StoredRows) (t : ClientState) → new.rows ≡ applied change.ready.batch inside.rows.rows → t ≡ next_of inside.state change → IsStored (record { rows = new; state = t })
+  stored_after new t made taken = record { sound = subst IsSound (sym taken) sound_after; same = made ∙ rows_after ∙ sym (ap rows_of (taken ∙ next_same)) }
 
   module _ {H : Type 0} (h : Ghosts H) (old new : H) where
     pub met_as_states : (RowsStandWithGate h inside.rows old → MeetsAll h old new (KeepsEitherRows h old inside.rows.rows (applied change.ready.batch inside.rows.rows)))
-        → RowsStandWithGate h now.rows old → MeetsAll h old new (KeepsEitherRows h old (rows_of now.state) (rows_of change.state))
+        → RowsStandWithGate h now.rows old → MeetsAll h old new (KeepsEitherRows h old (rows_of now.state) (rows_of next))
     met_as_states run gated =
         let met = run (subst (λ (x : StoredState). RowsStandWithGate h x.rows old) (sym view) gated) in
         let before : inside.rows.rows ≡ rows_of now.state = kept.same ∙ ap (λ (x : StoredState). rows_of x.state) view in
-        subst (λ (rows : List StoreRow). MeetsAll h old new (KeepsEitherRows h old rows (rows_of change.state))) before
+        subst (λ (rows : List StoreRow). MeetsAll h old new (KeepsEitherRows h old rows (rows_of next))) before
         (subst (λ (rows : List StoreRow). MeetsAll h old new (KeepsEitherRows h old inside.rows.rows rows)) rows_after met)

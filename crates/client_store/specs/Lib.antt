@@ -8,7 +8,6 @@ pub mod NewStates
 pub mod OpenStore
 pub mod Openings
 pub mod Places
-pub mod Sized
 pub mod Store
 pub mod Stored
 pub mod WholeStates

@@ -14,16 +14,16 @@ use Rattle.client_state.specs.Encoding.{rows_of, encoding}
 use Rattle.client_store.specs.Store.{StandsFor}
 
 -- the record of a migration, of 9 bytes, would end at this place, with the gate behind it, past the mark: byte 33,554,432. Then the whole state is written, on the other side
-abbrev pub passes_mark : ℕ → Bool
-passes_mark place = nat_lt MAX_RECORD_END (place + 15)
+abbrev pub migration_passes_mark : ℕ → Bool
+migration_passes_mark place = nat_lt MAX_RECORD_END (place + 15)
 
 -- how many bytes the migration to this state writes, where the next record begins at this place
 unfoldable pub migration_bytes : ℕ → ClientState → ℕ
-migration_bytes place s = if passes_mark place then length (encoding s) + 16 else 15
+migration_bytes place s = if migration_passes_mark place then length (encoding s) + 16 else 15
 
 -- where the next record begins then
 unfoldable pub place_migrated : ℕ → ClientState → ℕ
-place_migrated place s = if passes_mark place then length (encoding s) + 14 else place + 14
+place_migrated place s = if migration_passes_mark place then length (encoding s) + 14 else place + 14
 
 -- the same of an opening, where a migration is needed or not
 abbrev pub opening_bytes : Bool → ℕ → ClientState → ℕ

@@ -1,10 +1,11 @@
 // A change of a state, built before anything of it is written.
-use crate::sized_state::SizedState;
+use client_state::{BoxedChange, ClientSizes};
 use row_store::Ready;
 
-/// A new state, and the changed rows, ready to be committed.
+/// The parts that change, with the sizes of the state after it, and the changed rows, ready to be committed.
 #[derive(Drop)]
 pub struct Change {
-    pub(crate) state: SizedState,
+    pub(crate) parts: BoxedChange,
+    pub(crate) sizes: Box<ClientSizes>,
     pub(crate) ready: Ready,
 }

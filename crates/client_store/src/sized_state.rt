@@ -7,21 +7,20 @@ ghost use Rattle.row_batches.specs.Batch.{applied, batch_text, whole_of};
 ghost use Rattle.client_state.specs.Changes.{state_after, with_users_value, HasHoldersOfBefore, IsChangeOf, IsWholeChangeOf};
 ghost use Rattle.client_state.specs.Following.{followed, spends};
 ghost use Rattle.client_state.specs.Sizes.{IsSizeOf};
-ghost use Rattle.client_state.specs.Sound.{IsSound};
+ghost use Rattle.client_state.specs.Sound.{IsSound, max_size};
 ghost use Rattle.client_state.specs.Encoding.{rows_of, encoding};
 ghost use Rattle.client_store.specs.Places.{row_changes};
 
 use change_outbox::AppendChangesFault;
 use client_state::{
-    ClientSizes, ClientState, StateChange, changes_to, follow, set_preference, sizes_after,
-    sizes_of,
+    BoxedChange, ClientSizes, ClientState, StateChange, changes_to, follow, set_preference,
+    sizes_after, sizes_of,
 };
 use fml_types::Manifest;
 use json_tree::Tree;
 use pref_bindings::Bindings;
 use row_batches::Batch;
 use sequences::Text;
-use state_codec::MAX_STATE_BYTES;
 use std::alloc::{AllocError, Global};
 use std::marker::Model;
 
@@ -58,27 +57,12 @@ impl Model for SizedState {
 }
 
 impl SizedState {
-    ghost use Rattle.client_store.specs.Sized.{IsSized};
-
     /// A sound state, whose encoding is counted.
     pub(crate) fn new(alloc: Global, state: ClientState) -> Result<SizedState, AllocError>
         requires { IsSound state }
         ensures { IfOk result (λ sized. sized ≡ state) }
     {
         let sizes = sizes_of(&state);
-        SizedState::with_sizes(alloc, state, sizes)
-    }
-
-    // A sound state whose encoding has these sizes.
-    fn with_sizes(
-        alloc: Global,
-        state: ClientState,
-        sizes: ClientSizes,
-    ) -> Result<SizedState, AllocError>
-        requires sound { IsSound state }
-        requires sizes { IsSizeOf state sizes }
-        ensures { IfOk result (λ sized. sized ≡ state) }
-    {
         Ok(SizedState {
             counted: Box::new(alloc, CountedState { state, sizes })?,
         })
@@ -142,40 +126,49 @@ impl SizedState {
         set_preference(&mut self.counted.state, change, name, value)
     }
 
-    /// The state after a change, or else how many bytes its encoding has, which are too many.
-    pub(crate) fn next(
-        &self,
-        alloc: Global,
-        change: &StateChange,
-    ) -> Result<Result<SizedState, u128>, AllocError>
+    /// How many bytes the state after a change is encoded in. It takes no memory.
+    pub(crate) fn sizes_after(&self, change: &StateChange) -> ClientSizes
         requires { IsWholeChangeOf self.now change.now }
-        ensures { IfOk result (λ next. IsSized (state_after change.now self.now) next) }
+        ensures sizes { IsSizeOf (state_after change.now self.now) result }
+        ensures sound { result.total ≤ max_size → IsSound (state_after change.now self.now) }
     {
-        let sizes = sizes_after(self.counted.sizes, &self.counted.state, change);
-        if sizes.total > MAX_STATE_BYTES as u128 {
-            return Ok(Err(sizes.total));
-        }
-        let state = self.counted.state.with(change)?;
-        Ok(Ok(SizedState::with_sizes(alloc, state, sizes)?))
+        sizes_after(self.counted.sizes, &self.counted.state, change)
     }
 
-    /// The rows that change from this state to the next.
+    /// The rows that change from this state to that after a change.
     pub(crate) fn changes_to(
         &self,
         alloc: Global,
-        next: &SizedState,
         change: &StateChange,
     ) -> Result<Batch, AllocError>
         requires change { IsWholeChangeOf self.now change.now }
-        requires next { next.now ≡ state_after change.now self.now }
-        ensures sound { IsSound self.now × IsSound next.now }
-        ensures changes { IfOk result (λ batch. batch ≡ row_changes self.now next.now) }
-        ensures gives { IfOk result (λ batch. applied batch (rows_of self.now) ≡ rows_of next.now) }
-        ensures whole { IfOk result (λ batch. batch_text (whole_of (applied batch (rows_of self.now))) ≡ encoding next.now) }
-        ensures size { IfOk result (λ batch. length (batch_text batch) ≤ length (encoding self.now) + length (encoding next.now)) }
+        requires next { IsSound (state_after change.now self.now) }
+        ensures sound { IsSound self.now }
+        ensures changes { IfOk result (λ batch. batch ≡ row_changes self.now (state_after change.now self.now)) }
+        ensures gives { IfOk result (λ batch. applied batch (rows_of self.now) ≡ rows_of (state_after change.now self.now)) }
+        ensures whole { IfOk result (λ batch. batch_text (whole_of (applied batch (rows_of self.now))) ≡ encoding (state_after change.now self.now)) }
+        ensures size { IfOk result (λ batch. length (batch_text batch) ≤ length (encoding self.now) + length (encoding (state_after change.now self.now))) }
     {
-        // Its contract says that the next state is sound.
-        next.state();
         changes_to(alloc, &self.counted.state, change)
+    }
+
+    /// Takes the parts of a change over, after which the state has these sizes. It takes no memory.
+    pub(crate) fn take_over(&mut self, change: BoxedChange, sizes: ClientSizes)
+        requires sound { IsSound (state_after change self.old) }
+        requires sizes { IsSizeOf (state_after change self.old) sizes }
+        ensures { self.new ≡ state_after change self.old }
+    {
+        self.counted.take_over(change, sizes);
+    }
+}
+
+impl CountedState {
+    // Takes the parts of a change over, and these sizes.
+    fn take_over(&mut self, change: BoxedChange, sizes: ClientSizes)
+        ensures state { self.new.state ≡ state_after change self.old.state }
+        ensures sizes { self.new.sizes ≡ sizes }
+    {
+        self.state.take_over(change);
+        self.sizes = sizes;
     }
 }

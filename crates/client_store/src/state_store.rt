@@ -1,5 +1,5 @@
 // A state and the store that holds it.
-ghost use Rattle.std.specs.Prelude.{◌≡◌, false, IfOk, IsErrOf, IsTrue, OnOk, OnErr, option_map, ⊤, MatchOption, None};
+ghost use Rattle.std.specs.Prelude.{◌≡◌, ◌≤◌, ◌<◌, false, IfErr, IfOk, IsErrOf, IsTrue, OnOk, OnErr, length, option_map, ⊤, MatchOption, None};
 ghost use Rattle.std.specs.Fn.{FnOnceReturnsAtMut, FnOnceTakesAtMut};
 ghost use Rattle.plain_text.specs.Names.{is_name};
 ghost use Rattle.pref_bindings.specs.Preferences.{IsValue, holder_of};
@@ -10,22 +10,23 @@ ghost use Rattle.pair_store.specs.Moments.{StaysBelow};
 ghost use Rattle.row_store.specs.Moments.{KeepsEitherRows};
 ghost use Rattle.row_store.specs.Ready.{IsCommitted, commit_cost, place_after};
 ghost use Rattle.row_store.specs.Store.{RowsStand, RowsStandWithGate, place};
-ghost use Rattle.client_state.specs.Changes as changes;
-ghost use Rattle.client_state.specs.Changes.{state_after, with_users_value, HasHoldersOfBefore, IsWholeChangeOf};
+ghost use Rattle.client_state.specs.Changes.{state_after, with_users_value, HasHoldersOfBefore, IsChangeOf, IsWholeChangeOf};
 ghost use Rattle.client_state.specs.Following.{followed, spends};
-ghost use Rattle.client_state.specs.Encoding.{rows_of};
-ghost use Rattle.client_store.specs.Sized.{IsSized};
+ghost use Rattle.client_state.specs.Sizes.{IsSizeOf};
+ghost use Rattle.client_state.specs.Sound.{IsSound, max_size};
+ghost use Rattle.client_state.specs.Encoding.{rows_of, encoding};
 
 use crate::change::Change;
 use crate::sized_state::SizedState;
 use change_outbox::AppendChangesFault;
-use client_state::{ClientState, StateChange};
+use client_state::{BoxedChange, ClientSizes, ClientState, StateChange};
 use fml_types::Manifest;
 use host_model::{DiskFailed, Host};
 use json_tree::Tree;
 use pref_bindings::Bindings;
 use row_store::RowStore;
 use sequences::Text;
+use state_codec::MAX_STATE_BYTES;
 use std::alloc::{AllocError, Global};
 use std::marker::Model;
 
@@ -51,7 +52,7 @@ impl Model for StateStore {
 }
 
 impl StateStore {
-    ghost use Rattle.client_store.specs.Changes.{changed, IsChange, IsChangeOf};
+    ghost use Rattle.client_store.specs.Changes.{changed, next_of, IsChange, IsReadyChangeOf};
     ghost use Rattle.client_store.specs.Stored.{IsStored, IsSameStored};
 
     /// A sound state with the store of its rows.
@@ -92,7 +93,7 @@ impl StateStore {
         manifest: Option<&Manifest>,
         bindings: Option<&Bindings>,
     ) -> Result<(), AppendChangesFault>
-        requires change { changes.IsChangeOf self.old.state change.old }
+        requires change { IsChangeOf self.old.state change.old }
         requires holders { HasHoldersOfBefore self.old.state change.old }
         ensures same { self.new ≡ self.old }
         ensures followed { OnOk result (state_after change.new self.old.state ≡ followed (option_map (λ m. m.now) manifest.entry) (option_map (λ b. b.now) bindings.entry) change.old self.old.state) }
@@ -124,54 +125,69 @@ impl StateStore {
         self.state.set_preference(change, name, value)
     }
 
-    /// The state after a change, or else how many bytes its encoding has, which are too many.
-    pub fn sized(
-        &self,
-        alloc: Global,
-        change: &StateChange,
-    ) -> Result<Result<SizedState, u128>, AllocError>
-        requires { IsWholeChangeOf self.now.state change.now }
-        ensures { IfOk result (λ next. IsSized (state_after change.now self.now.state) next) }
-    {
-        self.state.next(alloc, change)
-    }
-
-    /// Makes the change to a state ready to be committed, where it is another one, and reserves the room for it. Neither the
-    /// state nor its rows are changed.
-    pub fn change_to(
+    /// Makes a change ready to be committed, where the state after it is another one, and reserves the room for it; or else says
+    /// how many bytes the encoding of that state has, which are too many. Neither the state nor its rows are changed.
+    pub fn prepare(
         &mut self,
         alloc: Global,
-        next: SizedState,
-        change: &StateChange,
-    ) -> Result<Option<Change>, AllocError>
-        requires change { IsWholeChangeOf self.old.state change.now }
-        requires next { next ≡ state_after change.now self.old.state }
+        parts: BoxedChange,
+    ) -> Result<Result<Option<Change>, u128>, AllocError>
+        requires { IsWholeChangeOf self.old.state parts }
         ensures same { IsSameStored self.old self.new }
-        ensures change { IfOk result (λ change. IsChange self.new change) }
-        ensures next { IfOk result (λ change. changed self.old.state change ≡ next) }
+        ensures change { IfOk result (λ prepared. IfOk prepared (IsChange self.new)) }
+        ensures next { IfOk result (λ prepared. IfOk prepared (λ change. changed self.new.state change ≡ state_after parts self.old.state)) }
+        ensures fits { IfOk result (λ prepared. IfOk prepared (λ _. length (encoding (state_after parts self.old.state)) ≤ max_size)) }
+        ensures large { IfOk result (λ prepared. IfErr prepared (λ size. (size ≡ length (encoding (state_after parts self.old.state))) × (max_size < size))) }
     {
-        let batch = self.state.changes_to(alloc, &next, change)?;
+        let sizes = self.state.sizes_after(parts.get());
+        if sizes.total > MAX_STATE_BYTES as u128 {
+            return Ok(Err(sizes.total));
+        }
+        Ok(Ok(self.ready(alloc, parts, sizes)?))
+    }
+
+    // Makes a change ready to be committed, where the state after it is another one, and reserves the room for it. That state is
+    // sound, and has these sizes.
+    fn ready(
+        &mut self,
+        alloc: Global,
+        parts: BoxedChange,
+        sizes: ClientSizes,
+    ) -> Result<Option<Change>, AllocError>
+        requires change { IsWholeChangeOf self.old.state parts }
+        requires sound { IsSound (state_after parts self.old.state) }
+        requires sizes { IsSizeOf (state_after parts self.old.state) sizes }
+        ensures same { IsSameStored self.old self.new }
+        ensures change { IfOk result (IsChange self.new) }
+        ensures next { IfOk result (λ change. changed self.new.state change ≡ state_after parts self.old.state) }
+    {
+        let batch = self.state.changes_to(alloc, parts.get())?;
         if batch.changes().is_empty() {
             return Ok(None);
         }
+        let boxed = Box::new(alloc, sizes)?;
         let ready = self.rows.prepare(alloc, &batch)?;
-        Ok(Some(Change { state: next, ready }))
+        Ok(Some(Change {
+            parts,
+            sizes: boxed,
+            ready,
+        }))
     }
 
-    /// Writes a change, and takes its state.
+    /// Writes a change, and takes its parts over.
     pub fn commit<H: Host>(&mut self, host: &mut H, change: Change) -> Result<(), DiskFailed>
-        requires change { IsChangeOf self.old change }
+        requires change { IsReadyChangeOf self.old change }
         requires stands { H.tells → RowsStand H.Host self.old.rows host.old }
 
         ensures acknowledged { H.tells → OnOk result (RowsStandWithGate H.Host self.new.rows host.new) }
         ensures bytes { H.tells → OnOk result (IsCommitted H.Host change.ready.is_whole self.old.rows.records change.ready.payload host.old host.new) }
-        ensures state { OnOk result (self.new.state ≡ change.state) }
+        ensures state { OnOk result (self.new.state ≡ next_of self.old.state change) }
         ensures same { OnErr result (self.new ≡ self.old) }
         ensures was { IsStored self.old }
         ensures stored { IsStored self.new }
 
         ensures any_moment { H.tells → RowsStandWithGate H.Host self.old.rows host.old
-            → MeetsAll H.Host host.old host.new (KeepsEitherRows H.Host host.old (rows_of self.old.state) (rows_of change.state)) }
+            → MeetsAll H.Host host.old host.new (KeepsEitherRows H.Host host.old (rows_of self.old.state) (rows_of (next_of self.old.state change))) }
         ensures below { H.tells → MeetsAll H.Host host.old host.new (StaysBelow H.Host host.old) }
 
         ensures place { OnOk result (place self.new.rows ≡ place_after change.ready (place self.old.rows)) }
@@ -180,9 +196,13 @@ impl StateStore {
         ensures disk_quiet { OnOk result (H.disk_faults host.new ≡ H.disk_faults host.old) }
         ensures say_faults { H.say_faults host.new ≡ H.say_faults host.old }
     {
-        let Change { state, ready } = change;
+        let Change {
+            parts,
+            sizes,
+            ready,
+        } = change;
         self.rows.commit(host, ready)?;
-        self.state = state;
+        self.state.take_over(parts, Box::into_inner(sizes));
         Ok(())
     }
 }

@@ -1,20 +1,17 @@
--- What changes the state is done as the change out of its box, and what is followed already as it is.
+-- What is asked for is done as it was found.
 use Rattle.std.proofs.Common.{sym, subst}
 use Rattle.std.specs.Prelude.{IfOk}
-use Rattle.client_state.specs.Changes.{state_after}
-use Rattle.client_state.specs.declared.state_change.StateChange.{StateChange}
 use Rattle.client_steps.specs.declared.asked.Asked.{Asked}
-use Rattle.client_steps.specs.Asked.{asked_outcome, answer_for, changed_outcome, IsAnswerOrRefused}
+use Rattle.client_steps.specs.Asked.{asked_outcome, answer_for, IsAnswerOrRefused}
 use Rattle.client_core.specs.Prepared.{Leads, answer_in}
-use Rattle.client_steps.specs.Steps.{Accepted, done}
+use Rattle.client_steps.specs.Steps.{done}
 use Rattle.client_core.proofs.client.Client.done.Goals as goal
 
 pub returns-in-NewState-clause-step : goal.returns-in-NewState-clause-step
 returns-in-NewState-clause-step c =
     let s = c.args.self.now.store.state in
     let session = c.args.self.now.session in
-    subst (λ (asked : Asked). IfOk c.changed.result (λ prepared. Leads c.changed.new.self prepared (done s session (asked_outcome s session asked)))) (sym c.in-NewState.is)
-    (subst (λ (change : StateChange). IfOk c.changed.result (λ prepared. Leads c.changed.new.self prepared (done s session (changed_outcome s session change c.in-NewState.answer)))) c.into_change-change.ensures c.changed.ensures.step)
+    subst (λ (asked : Asked). IfOk c.changed.result (λ prepared. Leads c.changed.new.self prepared (done s session (asked_outcome s session asked)))) (sym c.in-NewState.is) c.changed.ensures.step
 
 pub returns-in-NewState-clause-answer : goal.returns-in-NewState-clause-answer
 returns-in-NewState-clause-answer c =
@@ -24,8 +21,7 @@ pub returns-in-Followed-clause-step : goal.returns-in-Followed-clause-step
 returns-in-Followed-clause-step c =
     let s = c.args.self.now.store.state in
     let session = c.args.self.now.session in
-    subst (λ (asked : Asked). IfOk c.changed_to.result (λ prepared. Leads c.changed_to.new.self prepared (done s session (asked_outcome s session asked)))) (sym c.in-Followed.is)
-    (subst (λ (change : StateChange). IfOk c.changed_to.result (λ prepared. Leads c.changed_to.new.self prepared (done s session (Accepted (state_after change s) session c.in-Followed.answer)))) c.get.ensures c.changed_to.ensures.step)
+    subst (λ (asked : Asked). IfOk c.changed_to.result (λ prepared. Leads c.changed_to.new.self prepared (done s session (asked_outcome s session asked)))) (sym c.in-Followed.is) c.changed_to.ensures.step
 
 pub returns-in-Followed-clause-answer : goal.returns-in-Followed-clause-answer
 returns-in-Followed-clause-answer c =

@@ -2,6 +2,7 @@
 use Rattle.std.proofs.Common.{◌∙◌, inl, ap, subst, arith}
 use Rattle.std.proofs.lemmas.Result.{err_from_is_err_and}
 use Rattle.host_model.specs.declared.side.Side.TheVariants.{Left, Right}
+use Rattle.client_store.specs.Changes.{next_of}
 use Rattle.client_store.proofs.Moments.{met_now, text_below}
 use Rattle.row_store.specs.Rows.{HasRows}
 use Rattle.client_state.specs.Encoding.{rows_of}
@@ -11,11 +12,11 @@ use Rattle.client_core.proofs.client.Client.write.Goals as goal
 
 pub returns-clause-any_moment : goal.returns-clause-any_moment
 returns-clause-any_moment g c tells gate =
-    while_written g.H.Host c.args.host.now c.commit.new.host c.args.self.now.store.state c.args.change.state c.commit.ensures.was.sound c.requires.change.sound (c.commit.ensures.any_moment tells gate)
+    while_written g.H.Host c.args.host.now c.commit.new.host c.args.self.now.store.state (next_of c.args.self.now.store.state c.args.change) c.commit.ensures.was.sound c.requires.change.sound (c.commit.ensures.any_moment tells gate)
 
 pub returns-in_err-commit-clause-any_moment : goal.returns-in_err-commit-clause-any_moment
 returns-in_err-commit-clause-any_moment g c tells gate =
-    while_written g.H.Host c.args.host.now c.commit.new.host c.args.self.now.store.state c.args.change.state c.commit.ensures.was.sound c.requires.change.sound (c.commit.ensures.any_moment tells gate)
+    while_written g.H.Host c.args.host.now c.commit.new.host c.args.self.now.store.state (next_of c.args.self.now.store.state c.args.change) c.commit.ensures.was.sound c.requires.change.sound (c.commit.ensures.any_moment tells gate)
 
 pub returns-clause-kept_either : goal.returns-clause-kept_either
 returns-clause-kept_either g c tells gate l r left right =
@@ -43,7 +44,7 @@ returns-clause-settled g c tells = rows_settled g.H.Host c.commit.new.self.rows 
 
 pub returns-clause-stands : goal.returns-clause-stands
 returns-clause-stands g c tells =
-    rows_stand g.H.Host c.commit.new.self.rows c.commit.new.host c.args.change.state c.requires.change.sound (inl (c.commit.ensures.stored.same ∙ ap rows_of c.in_ok-commit.ensures.state))
+    rows_stand g.H.Host c.commit.new.self.rows c.commit.new.host (next_of c.args.self.now.store.state c.args.change) c.requires.change.sound (inl (c.commit.ensures.stored.same ∙ ap rows_of c.in_ok-commit.ensures.state))
     (ungated g.H.Host c.commit.new.self.rows c.commit.new.host (c.in_ok-commit.ensures.acknowledged tells))
 
 pub returns-clause-rows : goal.returns-clause-rows
@@ -56,7 +57,7 @@ returns-clause-rows g c tells =
 
 pub returns-clause-kept : goal.returns-clause-kept
 returns-clause-kept g c tells =
-    rows_kept g.H.Host c.commit.new.self.rows c.commit.new.host c.args.change.state c.requires.change.sound (inl (c.commit.ensures.stored.same ∙ ap rows_of c.in_ok-commit.ensures.state)) (c.in_ok-commit.ensures.acknowledged tells)
+    rows_kept g.H.Host c.commit.new.self.rows c.commit.new.host (next_of c.args.self.now.store.state c.args.change) c.requires.change.sound (inl (c.commit.ensures.stored.same ∙ ap rows_of c.in_ok-commit.ensures.state)) (c.in_ok-commit.ensures.acknowledged tells)
 
 pub returns-clause-bytes : goal.returns-clause-bytes
 returns-clause-bytes g c tells = change_written c.args.self.now.store c.args.change c.commit.ensures.was c.requires.change g.H.Host c.args.host.now c.commit.new.host (c.in_ok-commit.ensures.bytes tells)

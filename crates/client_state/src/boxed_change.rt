@@ -1,7 +1,8 @@
 // A change of a client's state in a box.
 ghost use Rattle.std.specs.Prelude.{◌≡◌, IfOk};
+ghost use Rattle.std.specs.Borrow.{sem};
 
-use client_state::StateChange;
+use crate::state_change::StateChange;
 use std::alloc::{AllocError, Global};
 use std::marker::Model;
 
@@ -24,6 +25,8 @@ impl Model for BoxedChange {
 }
 
 impl BoxedChange {
+    ghost use Rattle.client_state.specs.Lending.{LendsChange};
+
     /// A change in a box of its own.
     pub fn new(alloc: Global, change: StateChange) -> Result<BoxedChange, AllocError>
         ensures { IfOk result (λ c. c ≡ change) }
@@ -40,10 +43,11 @@ impl BoxedChange {
         &self.change
     }
 
-    /// The change out of its box. It takes no memory.
-    pub fn into_change(self) -> StateChange
-        ensures { result ≡ self }
+    /// The change, to be changed where it stands. It takes no memory.
+    pub fn get_mut(&mut self) -> &mut StateChange
+        ensures* writes_back { sem 𝓛 (LendsChange self.entry result) }
+        ensures value { result.now ≡ self.old }
     {
-        Box::into_inner(self.change)
+        &mut self.change
     }
 }
