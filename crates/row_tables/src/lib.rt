@@ -1,4 +1,7 @@
-//! Tables of rows that a program of tests reads, and what it tells of them.
+//! Tables of rows that a program of tests reads, and what it tells of them; and what programs of scenarios share: the words of
+//! lines, bytes to which parts are added, the sides of a store, and a host in memory that counts calls.
+//!
+//! A table is written so:
 //!
 //! | Line | Meaning |
 //! |---|---|
@@ -14,13 +17,19 @@
 //! Any other line is no row, and counts as one that differs.
 #![tactic(auto)]
 
+mod bytes;
+mod counting_host;
 mod cutting;
 mod fault;
 mod found;
 mod judging;
 mod line;
 mod pieces;
+mod sides;
+mod words;
 
+pub use bytes::Bytes;
+pub use counting_host::{CountingHost, Failed, HostFaults};
 pub use cutting::{
     add_all_displayed, add_between, add_bytes, add_debugged, add_displayed, add_none, add_texts,
     byte, count, cut, number, parts,
@@ -29,3 +38,5 @@ pub use fault::Fault;
 pub use found::Found;
 pub use judging::{Kinds, Question, report_on};
 pub use pieces::Piece;
+pub use sides::{Alteration, Sides};
+pub use words::Words;

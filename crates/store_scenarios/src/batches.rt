@@ -1,7 +1,6 @@
 //! Batches and rows in words.
-use crate::bytes::Bytes;
 use row_batches::{Batch, BatchFault, RowChange, StoreRow, batch_of};
-use row_tables::cut;
+use row_tables::{Bytes, cut};
 use sequences::Sequence;
 use std::alloc::{AllocError, Global};
 

@@ -1,8 +1,7 @@
 //! Calls on sources and on shelves.
-use crate::bytes::Bytes;
 use crate::hosts::add_read;
-use crate::words::Words;
 use host_model::{MemShelf, MemSource, Shelf, ShelfAnswer, Source};
+use row_tables::{Bytes, Words};
 use std::alloc::Global;
 
 /// The source and the shelf of a scenario, where it has them.

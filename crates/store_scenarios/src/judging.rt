@@ -1,13 +1,11 @@
 //! What is found where something is wanted.
-use crate::bytes::Bytes;
-use crate::hosts::{ScenarioHost, Sides};
 use crate::scenario::Scenario;
 use crate::states::{
     Question, add_form_of, add_fresh, answer_of_rows, batch_of_rows, changed_rows,
 };
 use crate::stores::{Stores, open_over};
-use crate::words::Words;
-use host_model::{Choice, Side};
+use host_model::Choice;
+use row_tables::{Alteration, Bytes, Sides, Words};
 use state_codec::StoreRow;
 use std::alloc::Global;
 
@@ -109,14 +107,6 @@ fn judge_altered(
     true
 }
 
-// A side is cut to so many bytes, or this byte stands in this place.
-#[derive(Clone, Copy)]
-struct Alteration {
-    side: Side,
-    number: usize,
-    byte: Option<u8>,
-}
-
 fn judge_altered_at(
     alloc: Global,
     scenario: &Scenario<'_>,
@@ -125,20 +115,13 @@ fn judge_altered_at(
     found: &mut Bytes,
 ) -> bool {
     let mut sides = Sides::of(alloc, scenario.last_host(), Choice::New, Choice::New);
-    alter(sides.side(alteration.side), alteration);
+    sides.alter(alteration);
     if judge_opening(alloc, scenario, &sides, wanted, found) {
         return true;
     }
     found.text(" at ");
     found.shown(&alteration.number);
     false
-}
-
-fn alter(bytes: &mut Bytes, alteration: Alteration) {
-    match alteration.byte {
-        Some(byte) => bytes.put(alteration.number, byte),
-        None => bytes.cut(alteration.number),
-    }
 }
 
 // Whether the rows of a state are as a line wants it.

@@ -40,10 +40,8 @@
 //! | `shortened COUNT` | the first so many bytes of the rows' batch are no state's |
 //! | `lengthened BYTES` | the rows' batch with these bytes behind it is no state's |
 //! | `fresh ID COUNT` | the rows' batch has so many bytes, and is that of a new store with this id |
-use crate::bytes::Bytes;
 use crate::scenario::{Scenario, play};
-use crate::words::Words;
-use row_tables::Found;
+use row_tables::{Bytes, Found, Words};
 use std::alloc::Global;
 
 /// Plays the scenarios of a text, and tells of each that it passes, or what is found where something else is wanted.

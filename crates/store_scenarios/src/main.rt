@@ -4,7 +4,6 @@
 #![tactic(auto)]
 
 mod batches;
-mod bytes;
 mod hosts;
 mod inputs;
 mod judging;
@@ -13,7 +12,6 @@ mod row_stores;
 mod scenario;
 mod states;
 mod stores;
-mod words;
 
 use lines::tell_all;
 use row_tables::Found;

@@ -6,21 +6,19 @@ ghost use Rattle.row_batches.specs.Batch.{applied, batch_text, whole_of};
 ghost use Rattle.row_store.specs.Ready.{IsReadyFor};
 
 use crate::batches::{add_rows, read_batch};
-use crate::bytes::Bytes;
-use crate::hosts::ScenarioHost;
 use crate::states::{Question, answer_of_rows};
-use crate::words::Words;
 use gate_journal::MAX_PAYLOAD;
 use pair_store::MAX_WHOLE;
 use row_batches::Batch;
 use row_store::{Ready, RowStore};
+use row_tables::{Bytes, CountingHost, Words};
 use std::alloc::{AllocError, Global};
 
 /// Makes the call on a row store that a line names, and adds its answer.
 pub(crate) fn call_rows(
     alloc: Global,
     rows: &mut Option<RowStore>,
-    host: &mut ScenarioHost,
+    host: &mut CountingHost,
     words: &mut Words<'_>,
     answer: &mut Bytes,
 ) {
@@ -36,7 +34,7 @@ pub(crate) fn call_rows(
 }
 
 // Makes a row store of the puts behind a clear.
-fn make_rows(alloc: Global, host: &mut ScenarioHost, changes: &str, answer: &mut Bytes) {
+fn make_rows(alloc: Global, host: &mut CountingHost, changes: &str, answer: &mut Bytes) {
     match read_batch(alloc, changes, answer) {
         Some(whole) if whole.is_clear() && whole.size() <= MAX_WHOLE as u128 => {
             match RowStore::make(alloc, host, &whole) {
@@ -53,7 +51,7 @@ fn make_rows(alloc: Global, host: &mut ScenarioHost, changes: &str, answer: &mut
 fn open_rows(
     alloc: Global,
     rows: &mut Option<RowStore>,
-    host: &mut ScenarioHost,
+    host: &mut CountingHost,
     asked: &str,
     answer: &mut Bytes,
 ) {
@@ -73,7 +71,7 @@ fn add_opened(alloc: Global, rows: &mut RowStore, asked: &str, answer: &mut Byte
 fn call_open_rows(
     alloc: Global,
     rows: &mut RowStore,
-    host: &mut ScenarioHost,
+    host: &mut CountingHost,
     word: &str,
     words: &mut Words<'_>,
     answer: &mut Bytes,
@@ -105,7 +103,7 @@ fn prepare(alloc: Global, rows: &mut RowStore, changes: &str, answer: &mut Bytes
 fn commit(
     alloc: Global,
     rows: &mut RowStore,
-    host: &mut ScenarioHost,
+    host: &mut CountingHost,
     changes: &str,
     answer: &mut Bytes,
 ) {

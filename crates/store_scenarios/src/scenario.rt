@@ -1,13 +1,11 @@
 //! A scenario as far as it is done.
 use crate::batches::add_batch_again;
-use crate::bytes::Bytes;
-use crate::hosts::{ScenarioHost, Sides};
 use crate::inputs::{Inputs, call_inputs};
 use crate::judging::judge;
 use crate::states::{Question, answer_of_rows, changed_rows};
 use crate::stores::{Stores, call_store, open_over, opening_of};
-use crate::words::Words;
 use host_model::{Choice, Side};
+use row_tables::{Bytes, CountingHost, HostFaults, Sides, Words};
 use state_codec::StoreRow;
 use std::alloc::{AllocError, Global};
 
@@ -17,13 +15,13 @@ const ROOM: usize = 4096;
 /// What the lines of a scenario have made so far.
 #[derive(Drop)]
 pub(crate) struct Scenario<'a> {
-    host: ScenarioHost,
+    host: CountingHost,
     /// How many bytes a side may have.
     pub(crate) room: usize,
     stores: Stores,
     inputs: Inputs,
     /// The host on which a call was stopped last, if no call followed it.
-    stopped: Option<ScenarioHost>,
+    stopped: Option<CountingHost>,
     /// The call that opens the layer that was called last.
     pub(crate) opening: &'static str,
     /// What the last call has answered. It is whole where memory was found for all that was done.
@@ -36,7 +34,7 @@ impl<'a> Scenario<'a> {
     /// Nothing is done.
     pub(crate) fn new(alloc: Global) -> Result<Scenario<'a>, AllocError> {
         Ok(Scenario {
-            host: ScenarioHost::new(alloc, b"", b"", ROOM, 0)?,
+            host: CountingHost::new(alloc, b"", b"", ROOM, 0)?,
             room: ROOM,
             stores: Stores::new(),
             inputs: Inputs::new(),
@@ -48,7 +46,7 @@ impl<'a> Scenario<'a> {
     }
 
     /// The host that was called last.
-    pub(crate) fn last_host(&self) -> &ScenarioHost {
+    pub(crate) fn last_host(&self) -> &CountingHost {
         self.stopped.as_ref().unwrap_or(&self.host)
     }
 }
@@ -85,7 +83,7 @@ fn add_row<'a>(line: &'a str, scenario: &mut Scenario<'a>) {
 fn call_last(alloc: Global, scenario: &mut Scenario<'_>, layer: &str, words: &mut Words<'_>) {
     scenario.stopped = None;
     scenario.opening = opening_of(layer, words.rest(), scenario.opening);
-    scenario.host.count_anew();
+    scenario.host.count_anew(HostFaults::none());
     scenario.answer.clear();
     call_store(
         alloc,
@@ -143,8 +141,8 @@ fn change_host(alloc: Global, scenario: &mut Scenario<'_>, word: &str, words: &m
 // Changes the sides or their room; gives the number of the call that fails, or 0 where none does.
 fn change_sides(sides: &mut Sides, room: &mut usize, word: &str, words: &mut Words<'_>) -> u64 {
     match word {
-        "left" => sides.write(Side::Left, words.rest()),
-        "right" => sides.write(Side::Right, words.rest()),
+        "left" => write(sides.side(Side::Left), words.rest()),
+        "right" => write(sides.side(Side::Right), words.rest()),
         "room" => {
             *room = words.count();
             sides.clear();
@@ -153,6 +151,12 @@ fn change_sides(sides: &mut Sides, room: &mut usize, word: &str, words: &mut Wor
         _ => {}
     }
     0
+}
+
+// Makes bytes those that a text spells.
+fn write(bytes: &mut Bytes, text: &str) {
+    bytes.clear();
+    bytes.spell(text);
 }
 
 // Gives the answer of a call on the inputs, a batch, a change or a migration.

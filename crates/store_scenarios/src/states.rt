@@ -2,9 +2,8 @@
 ghost use Rattle.state_codec.specs.Sound.{IsSound};
 
 use crate::batches::add_batch;
-use crate::bytes::Bytes;
 use enrol_states::State;
-use row_tables::cut;
+use row_tables::{Bytes, cut};
 use sequences::Sequence;
 use state_codec::{
     CodecFault, StoreRow, change_between, migration, needs_migration, read_state, rows_of,

@@ -1,13 +1,11 @@
 //! Calls on journals, on pairs and on row stores.
-use crate::bytes::Bytes;
-use crate::hosts::{ScenarioHost, Sides, call_host};
+use crate::hosts::call_host;
 use crate::row_stores::call_rows;
-use crate::words::Words;
 use gate_journal::{AppendFault, Frame, FrameFault, Journal, Payloads};
 use host_model::Side;
 use pair_store::{MAX_WHOLE, PairStore};
 use row_store::RowStore;
-use row_tables::cut;
+use row_tables::{Bytes, CountingHost, Sides, Words, cut};
 use std::alloc::{AllocError, Global};
 
 /// The journal, the pair and the row store of a scenario, where it has them.
@@ -69,7 +67,7 @@ pub(crate) fn open_over(
 pub(crate) fn call_store(
     alloc: Global,
     stores: &mut Stores,
-    host: &mut ScenarioHost,
+    host: &mut CountingHost,
     layer: &str,
     words: &mut Words<'_>,
     answer: &mut Bytes,
@@ -103,7 +101,7 @@ fn frame_of(alloc: Global, payload: &str, answer: &mut Bytes) -> Option<Frame> {
 fn call_journal(
     alloc: Global,
     journal: &mut Option<Journal>,
-    host: &mut ScenarioHost,
+    host: &mut CountingHost,
     words: &mut Words<'_>,
     answer: &mut Bytes,
 ) {
@@ -121,7 +119,7 @@ fn call_journal(
 fn make_journal(
     alloc: Global,
     journal: &mut Option<Journal>,
-    host: &mut ScenarioHost,
+    host: &mut CountingHost,
     words: &mut Words<'_>,
     answer: &mut Bytes,
 ) {
@@ -139,7 +137,7 @@ fn make_journal(
 fn open_journal(
     alloc: Global,
     journal: &mut Option<Journal>,
-    host: &mut ScenarioHost,
+    host: &mut CountingHost,
     side: Side,
     answer: &mut Bytes,
 ) {
@@ -156,7 +154,7 @@ fn open_journal(
 fn call_open_journal(
     alloc: Global,
     journal: &mut Journal,
-    host: &mut ScenarioHost,
+    host: &mut CountingHost,
     word: &str,
     words: &mut Words<'_>,
     answer: &mut Bytes,
@@ -180,7 +178,7 @@ fn add_appended(appended: Result<(), AppendFault>, answer: &mut Bytes) {
 fn call_pair(
     alloc: Global,
     pair: &mut Option<PairStore>,
-    host: &mut ScenarioHost,
+    host: &mut CountingHost,
     words: &mut Words<'_>,
     answer: &mut Bytes,
 ) {
@@ -197,7 +195,7 @@ fn call_pair(
 fn make_pair(
     alloc: Global,
     pair: &mut Option<PairStore>,
-    host: &mut ScenarioHost,
+    host: &mut CountingHost,
     first: &str,
     answer: &mut Bytes,
 ) {
@@ -214,7 +212,7 @@ fn make_pair(
 fn open_pair(
     alloc: Global,
     pair: &mut Option<PairStore>,
-    host: &mut ScenarioHost,
+    host: &mut CountingHost,
     answer: &mut Bytes,
 ) {
     match PairStore::open(alloc, host) {
@@ -230,7 +228,7 @@ fn open_pair(
 fn call_open_pair(
     alloc: Global,
     pair: &mut PairStore,
-    host: &mut ScenarioHost,
+    host: &mut CountingHost,
     word: &str,
     words: &mut Words<'_>,
     answer: &mut Bytes,
@@ -248,7 +246,7 @@ fn call_open_pair(
 
 fn append_to_pair(
     pair: &mut PairStore,
-    host: &mut ScenarioHost,
+    host: &mut CountingHost,
     frame: &Frame,
     answer: &mut Bytes,
 ) {
@@ -261,7 +259,7 @@ fn append_to_pair(
 
 fn checkpoint_pair(
     pair: &mut PairStore,
-    host: &mut ScenarioHost,
+    host: &mut CountingHost,
     frame: &Frame,
     answer: &mut Bytes,
 ) {

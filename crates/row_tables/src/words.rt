@@ -1,17 +1,17 @@
-//! The words of a line.
+// The words of a line.
+use crate::cutting::{byte, count, cut, number};
 use host_model::{Choice, Side};
-use row_tables::{byte, count, cut, number};
 
 /// What is still to be read of a line, and whether each word before it may stand where it does.
 #[derive(Clone, Copy)]
-pub(crate) struct Words<'a> {
+pub struct Words<'a> {
     rest: &'a str,
     are_known: bool,
 }
 
 impl<'a> Words<'a> {
     /// A line of which nothing is read.
-    pub(crate) fn new(line: &'a str) -> Words<'a> {
+    pub fn new(line: &'a str) -> Words<'a> {
         Words {
             rest: line,
             are_known: true,
@@ -19,22 +19,22 @@ impl<'a> Words<'a> {
     }
 
     /// Whether each word that was read may stand where it does.
-    pub(crate) fn are_known(&self) -> bool {
+    pub fn are_known(&self) -> bool {
         self.are_known
     }
 
     /// Says that a word may not stand where it does.
-    pub(crate) fn refuse(&mut self) {
+    pub fn refuse(&mut self) {
         self.are_known = false;
     }
 
     /// What is still to be read.
-    pub(crate) fn rest(&self) -> &'a str {
+    pub fn rest(&self) -> &'a str {
         self.rest
     }
 
     /// The next word.
-    pub(crate) fn word(&mut self) -> &'a str {
+    pub fn word(&mut self) -> &'a str {
         let (word, rest) = cut(self.rest);
         self.rest = rest;
         word
@@ -47,31 +47,31 @@ impl<'a> Words<'a> {
     }
 
     /// The number that the next word spells.
-    pub(crate) fn number(&mut self) -> u64 {
+    pub fn number(&mut self) -> u64 {
         let word = self.word();
         self.known(number(word), 0)
     }
 
     /// The count, or the place, that the next word spells.
-    pub(crate) fn count(&mut self) -> usize {
+    pub fn count(&mut self) -> usize {
         let word = self.word();
         self.known(count(word), 0)
     }
 
     /// The byte that the next word spells.
-    pub(crate) fn byte(&mut self) -> u8 {
+    pub fn byte(&mut self) -> u8 {
         let word = self.word();
         self.known(byte(word), 0)
     }
 
     /// The first and the last of the numbers `FIRST..LAST` that the next word spells.
-    pub(crate) fn range(&mut self) -> (usize, usize) {
+    pub fn range(&mut self) -> (usize, usize) {
         let (first, last) = self.word().split_once("..").unwrap_or(("", ""));
         (self.known(count(first), 0), self.known(count(last), 0))
     }
 
     /// The side that the next word names.
-    pub(crate) fn side(&mut self) -> Side {
+    pub fn side(&mut self) -> Side {
         let side = match self.word() {
             "left" => Some(Side::Left),
             "right" => Some(Side::Right),
@@ -80,13 +80,13 @@ impl<'a> Words<'a> {
         self.known(side, Side::Left)
     }
 
-    /// The images that the next word names.
-    pub(crate) fn choices(&mut self) -> &'static [Choice] {
+    /// The images that the next word names; `any` and `each` name all of them.
+    pub fn choices(&mut self) -> &'static [Choice] {
         match self.word() {
             "old" => &[Choice::Old],
             "new" => &[Choice::New],
             "torn" => &[Choice::Torn],
-            "any" => &[Choice::Old, Choice::New, Choice::Torn],
+            "any" | "each" => &[Choice::Old, Choice::New, Choice::Torn],
             _ => {
                 self.refuse();
                 &[]

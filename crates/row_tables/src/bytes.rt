@@ -1,11 +1,13 @@
-//! Bytes to which parts are added.
-use row_tables::{Found, count};
+// Bytes to which parts are added.
+use crate::cutting::count;
+use crate::found::Found;
+use crate::pieces::Piece;
 use std::alloc::{AllocError, Global};
 use std::fmt::Debug;
 
 /// Bytes to which parts are added, such as what a call answers. Once memory is wanting they aren't whole any more.
 #[derive(Drop)]
-pub(crate) struct Bytes {
+pub struct Bytes {
     alloc: Global,
     bytes: Vec<u8>,
     are_whole: bool,
@@ -13,7 +15,7 @@ pub(crate) struct Bytes {
 
 impl Bytes {
     /// None so far.
-    pub(crate) fn new(alloc: Global) -> Bytes {
+    pub fn new(alloc: Global) -> Bytes {
         Bytes {
             alloc,
             bytes: Vec::new(alloc),
@@ -22,85 +24,85 @@ impl Bytes {
     }
 
     /// The bytes that a text spells: a backslash and two hexadecimal digits are one byte, and each other byte is itself.
-    pub(crate) fn spelled(alloc: Global, text: &str) -> Bytes {
+    pub fn spelled(alloc: Global, text: &str) -> Bytes {
         let mut bytes = Bytes::new(alloc);
         bytes.spell(text);
         bytes
     }
 
     /// The bytes of a payload: those that its text spells, or, behind `COUNT*`, so many times these.
-    pub(crate) fn payload(alloc: Global, text: &str) -> Bytes {
+    pub fn payload(alloc: Global, text: &str) -> Bytes {
         match text.split_once('*') {
             Some((times, part)) => repeated(alloc, count(times).unwrap_or(0), part),
             None => Bytes::spelled(alloc, text),
         }
     }
 
-    pub(crate) fn as_slice(&self) -> &[u8] {
+    pub fn as_slice(&self) -> &[u8] {
         self.bytes.as_slice()
     }
 
-    pub(crate) fn as_mut_slice(&mut self) -> &mut [u8] {
+    pub fn as_mut_slice(&mut self) -> &mut [u8] {
         self.bytes.as_mut_slice()
     }
 
     /// These bytes, for an answer that is as whole as they are.
-    pub(crate) fn into_vec(self, answer: &mut Bytes) -> Vec<u8> {
+    pub fn into_vec(self, answer: &mut Bytes) -> Vec<u8> {
         answer.needs(&self);
         self.bytes
     }
 
     /// Is as whole as other bytes are.
-    pub(crate) fn needs(&mut self, other: &Bytes) {
+    pub fn needs(&mut self, other: &Bytes) {
         self.are_whole = self.are_whole && other.are_whole;
     }
 
     /// Whether memory was found for all that was added.
-    pub(crate) fn are_whole(&self) -> bool {
+    pub fn are_whole(&self) -> bool {
         self.are_whole
     }
 
     /// Says that memory was wanting for what was to be added.
-    pub(crate) fn lack_memory(&mut self) {
+    pub fn lack_memory(&mut self) {
         self.are_whole = false;
     }
 
     /// Whether they are whole, and those that a text spells.
-    pub(crate) fn are(&self, text: &str) -> bool {
+    pub fn are(&self, text: &str) -> bool {
         let wanted = Bytes::spelled(self.alloc, text);
         self.are_whole && wanted.are_whole && self.as_slice() == wanted.as_slice()
     }
 
     /// Takes away what was added.
-    pub(crate) fn clear(&mut self) {
+    pub fn clear(&mut self) {
         self.bytes.clear();
     }
 
     /// Takes away what stands behind so many bytes.
-    pub(crate) fn cut(&mut self, count: usize) {
+    pub fn cut(&mut self, count: usize) {
         self.bytes.truncate(count);
     }
 
     /// Makes a byte this one, where there is one.
-    pub(crate) fn put(&mut self, place: usize, byte: u8) {
+    pub fn put(&mut self, place: usize, byte: u8) {
         if let Some(there) = self.bytes.get_mut(place) {
             *there = byte;
         }
     }
 
     /// Adds these bytes.
-    pub(crate) fn add(&mut self, bytes: &[u8]) {
+    pub fn add(&mut self, bytes: &[u8]) {
         self.are_whole = self.are_whole && self.bytes.extend_from_slice(bytes).is_ok();
     }
 
     /// Adds this byte, so many times.
-    pub(crate) fn fill(&mut self, byte: u8, count: usize) {
+    pub fn fill(&mut self, byte: u8, count: usize) {
         let len = self.bytes.len().saturating_add(count);
         self.are_whole = self.are_whole && self.bytes.resize(len, byte).is_ok();
     }
 
     /// Becomes bytes that were made, where memory was found for them.
-    pub(crate) fn set(&mut self, made: Result<Vec<u8>, AllocError>) {
+    pub fn set(&mut self, made: Result<Vec<u8>, AllocError>) {
         match made {
             Ok(bytes) => self.bytes = bytes,
             Err(AllocError) => self.lack_memory(),
@@ -108,31 +110,57 @@ impl Bytes {
     }
 
     /// Adds other bytes, and is as whole as they are.
-    pub(crate) fn add_all(&mut self, other: &Bytes) {
+    pub fn add_all(&mut self, other: &Bytes) {
         self.add(other.as_slice());
         self.needs(other);
     }
 
     /// Adds a text.
-    pub(crate) fn text(&mut self, text: &str) {
+    pub fn text(&mut self, text: &str) {
         self.add(text.as_bytes());
     }
 
+    /// Adds texts one after the other.
+    pub fn texts(&mut self, texts: &[&str]) {
+        for text in texts {
+            self.text(text);
+        }
+    }
+
     /// Adds `Ok`, or `Failed`.
-    pub(crate) fn done(&mut self, is_done: bool) {
+    pub fn done(&mut self, is_done: bool) {
         self.text(if is_done { "Ok" } else { "Failed" });
     }
 
     /// Adds a number in decimal digits, or the name of a fault.
-    pub(crate) fn shown<T: Debug>(&mut self, value: &T) {
+    pub fn shown<T: Debug>(&mut self, value: &T) {
         let mut found = Found::new(self.alloc);
         found.debugged(value);
         self.text(found.as_str());
         self.are_whole = self.are_whole && found.is_whole();
     }
 
+    /// Adds what a line of pieces adds to a text.
+    pub fn piece(&mut self, piece: Piece<'_>) {
+        self.are_whole = self.are_whole && piece.add_to(&mut self.bytes).is_ok();
+    }
+
+    /// Adds the bytes that pairs of hexadecimal digits stand for.
+    pub fn hex(&mut self, digits: &str) {
+        for pair in digits.as_bytes().chunks(2) {
+            self.pair(pair);
+        }
+    }
+
+    // Adds the byte of two digits, and nothing of another number of them.
+    fn pair(&mut self, digits: &[u8]) {
+        if let [high, low] = digits {
+            self.add(&[(digit(*high) << 4) | digit(*low)]);
+        }
+    }
+
     /// Adds the bytes that a text spells.
-    pub(crate) fn spell(&mut self, text: &str) {
+    pub fn spell(&mut self, text: &str) {
         for (place, part) in text.split('\\').enumerate() {
             self.spell_part(place, part.as_bytes());
         }
@@ -141,8 +169,8 @@ impl Bytes {
     // Adds what stands between two backslashes. Before the first there is none.
     fn spell_part(&mut self, place: usize, part: &[u8]) {
         match part {
-            [high, low, rest @ ..] if place > 0 => {
-                self.add(&[(digit(*high) << 4) | digit(*low)]);
+            [_, _, rest @ ..] if place > 0 => {
+                self.pair(part.get(..2).unwrap_or(b""));
                 self.add(rest);
             }
             _ => self.add(part),
