@@ -3,17 +3,8 @@ use crate::line::Line;
 use crate::part::Part;
 use crate::tally::{Place, Tally};
 use session_run::RunStatus;
-use std::alloc::{AllocError, Global};
 
-/// What differs first in what was said: the line that wants it, and both.
-#[derive(Clone, Copy)]
-struct Difference<'a> {
-    line: usize,
-    found: &'a [u8],
-    wanted: &'a str,
-}
-
-/// The status with which a call is to end.
+/// The status with which a call is to end as the parts behind a line say.
 pub(crate) fn status_of<'a>(line: Line<'a>) -> &'a str {
     for text in line.behind.lines() {
         match Part::of(text) {
@@ -25,120 +16,106 @@ pub(crate) fn status_of<'a>(line: Line<'a>) -> &'a str {
     "Done"
 }
 
-/// Tells where a call ends otherwise than is wanted.
-pub(crate) fn judge_status(
-    alloc: Global,
-    tally: &mut Tally,
-    place: Place<'_>,
-    status: RunStatus,
-    wanted: &str,
-) -> Result<(), AllocError> {
-    let found = format!(in alloc; "{status}")?;
-    tally.judge_text(place, found.as_bytes(), wanted.as_bytes())
+/// Tells where a call ends otherwise or says something else than the parts behind the line of a place want.
+pub(crate) fn judge_call(tally: &mut Tally, place: Place<'_>, status: RunStatus, said: &[u8]) {
+    tally.judge_status(place, status, status_of(place.line));
+    judge_answers(tally, place, said, u64::MAX);
 }
 
-/// Tells where what was said first differs from the answers behind a line, of which there are so many at most. Those
-/// that follow one another directly are one answer.
-pub(crate) fn judge_answers(
-    tally: &mut Tally,
-    place: Place<'_>,
-    said: &[u8],
-    line: Line<'_>,
-    most: u64,
-) -> Result<(), AllocError> {
-    match find_difference(said, line, most) {
-        Some(found) => tally.differ(place.at(found.line), found.found, found.wanted.as_bytes()),
-        None => Ok(()),
+/// Tells where what was said first differs from the answers behind the line of a place, of which there are so many at
+/// most. Those that follow one another directly are one answer.
+pub(crate) fn judge_answers(tally: &mut Tally, place: Place<'_>, said: &[u8], most: u64) {
+    let mut reading = Reading {
+        left: said,
+        line: place.line,
+        answers: 0,
+        follows: false,
+    };
+    match reading.missing(most) {
+        Some(wanted) => tally.differ(place.at(reading.line), reading.found(), wanted.as_bytes()),
+        None if reading.left.is_empty() => {}
+        None => tally.differ(place.at(reading.line), reading.found(), b"no more"),
     }
 }
 
-/// Whether a call ends as is wanted behind a line, and has said the answers there.
-pub(crate) fn is_wanted(
-    alloc: Global,
-    status: RunStatus,
-    said: &[u8],
-    line: Line<'_>,
-) -> Result<bool, AllocError> {
-    let found = format!(in alloc; "{status}")?;
-    Ok(found.as_str() == status_of(line) && find_difference(said, line, u64::MAX).is_none())
+/// What was said, read line by line beside the parts that want it.
+#[derive(Clone, Copy)]
+struct Reading<'a> {
+    /// What isn't read yet.
+    left: &'a [u8],
+    /// The line of the last part.
+    line: Line<'a>,
+    /// How many answers the parts up to it are, and whether it is of one.
+    answers: u64,
+    follows: bool,
 }
 
-fn find_difference<'a>(said: &'a [u8], line: Line<'a>, most: u64) -> Option<Difference<'a>> {
-    let (mut left, mut line, mut number, mut follows) = (said, line, 0u64, false);
-    for text in line.behind.lines() {
-        line = line.next();
-        let Some(part) = Part::of(text) else {
-            break;
-        };
-        let answers = is_answer(part);
-        if answers && !follows {
-            number = number.saturating_add(1);
-        }
-        if number > most {
-            break;
-        }
-        follows = answers;
-        match behind_answers(left, part) {
-            Ok(behind) => left = behind,
-            Err((found, wanted)) => {
-                return Some(Difference {
-                    line: line.number,
-                    found,
-                    wanted,
-                });
+impl<'a> Reading<'a> {
+    // The first answer of the parts behind the line that isn't said, of so many at most.
+    fn missing(&mut self, most: u64) -> Option<&'a str> {
+        for text in self.line.behind.lines() {
+            self.line = self.line.next();
+            match Part::of(text) {
+                Some(part) if self.number(part) <= most => {
+                    if !self.reads(part) {
+                        return part.answer();
+                    }
+                }
+                _ => break,
             }
         }
+        None
     }
-    excess(left, line.number)
-}
 
-// What was said behind the last answer that is wanted.
-fn excess(left: &[u8], line: usize) -> Option<Difference<'_>> {
-    if left.is_empty() {
-        return None;
+    // The number of the answer that the next part is of, or else of the last one.
+    fn number(&mut self, part: Part<'_>) -> u64 {
+        let begins = part.is_answer() && !self.follows;
+        self.follows = part.is_answer();
+        self.answers = self.answers.saturating_add(u64::from(begins));
+        self.answers
     }
-    Some(Difference {
-        line,
-        found: first_line(left),
-        wanted: "no more",
-    })
-}
 
-fn is_answer(part: Part<'_>) -> bool {
-    matches!(
-        part,
-        Part::Answer(_) | Part::Answers(_, _) | Part::Tail(_) | Part::Any
-    )
-}
-
-// What is said behind the answers of a line, or what is said in place of one of them and this one.
-fn behind_answers<'a>(said: &'a [u8], part: Part<'a>) -> Result<&'a [u8], (&'a [u8], &'a str)> {
-    match part {
-        Part::Answer(answer) => behind_answer(said, answer),
-        Part::Answers(count, answer) => behind_equal_answers(said, count, answer),
-        Part::Tail(answer) => behind_answer(tail(said, answer), answer),
-        Part::Any => Ok(b""),
-        _ => Ok(said),
+    // Reads the answers of a part. Whether all of them are said.
+    fn reads(&mut self, part: Part<'_>) -> bool {
+        match part {
+            Part::Answers(count, answer) => self.reads_lines(count, answer),
+            Part::Tail(answer) => {
+                self.left = tail(self.left, answer);
+                self.reads_line(answer)
+            }
+            Part::Any => {
+                self.left = b"";
+                true
+            }
+            _ => true,
+        }
     }
-}
 
-fn behind_equal_answers<'a>(
-    said: &'a [u8],
-    count: usize,
-    answer: &'a str,
-) -> Result<&'a [u8], (&'a [u8], &'a str)> {
-    let mut left = said;
-    for _ in 0..count {
-        left = behind_answer(left, answer)?;
+    fn reads_lines(&mut self, count: usize, line: &str) -> bool {
+        let mut all = true;
+        for _ in 0..count {
+            all = all && self.reads_line(line);
+        }
+        all
     }
-    Ok(left)
-}
 
-fn behind_answer<'a>(said: &'a [u8], answer: &'a str) -> Result<&'a [u8], (&'a [u8], &'a str)> {
-    match behind_line(said, answer.as_bytes()) {
-        Some(behind) => Ok(behind),
-        None if said.is_empty() => Err((b"no more", answer)),
-        None => Err((first_line(said), answer)),
+    // Reads this line, where it comes next.
+    fn reads_line(&mut self, line: &str) -> bool {
+        match behind_line(self.left, line.as_bytes()) {
+            Some(behind) => {
+                self.left = behind;
+                true
+            }
+            None => false,
+        }
+    }
+
+    // The line that comes next.
+    fn found(&self) -> &'a [u8] {
+        if self.left.is_empty() {
+            return b"no more";
+        }
+        first_line(self.left)
     }
 }
 

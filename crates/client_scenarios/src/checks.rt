@@ -1,83 +1,72 @@
 //! What is wanted of the last call.
 use crate::answers::tail;
-use crate::directive::Check;
-use crate::line::Line;
+use crate::images::{judge_altered, judge_images};
+use crate::part::add_text;
+use crate::stops::judge_faults;
 use crate::tally::{Place, Tally};
-use crate::text::{add_hex, add_text};
 use crate::world::World;
 use host_model::Side;
 use plain_text::read_number;
-use std::alloc::AllocError;
+use row_tables::{Bytes, Words};
 
-impl World<'_> {
-    /// Tells what differs from what a line wants.
-    pub(crate) fn judge(
-        &self,
-        tally: &mut Tally,
-        place: Place<'_>,
-        line: Line<'_>,
-        check: Check<'_>,
-    ) -> Result<(), AllocError> {
-        match check {
-            Check::Exit(code) => {
-                tally.judge(place, u64::from(self.status.code()), u64::from(code))
-            }
-            Check::Same => tally.judge_text(place, self.host.said(), &self.said_before),
-            Check::Sum(sum, text) => self.judge_sum(tally, place, sum, text),
-            Check::Unchanged => tally.judge(place, self.host.writes(), 0),
-            Check::Grown => self.judge_grown(tally, place),
-            Check::Wrote(count) => tally.judge(place, self.host.written(), count),
-            Check::Holds(left, right) => self.judge_lengths(tally, place, left, right),
-            Check::Bytes(side, digits) => self.judge_bytes(tally, place, line, side, digits),
-            Check::Images(left, right) => self.judge_images(tally, place, line, left, right),
-            Check::Faults(calls, count, words) => {
-                self.judge_faults(tally, place, line, calls, count, words)
-            }
-            Check::EndsWhere(altered) => self.judge_altered(tally, place, altered),
+/// Tells what differs from what a line wants.
+pub(crate) fn judge(
+    world: &World<'_>,
+    tally: &mut Tally,
+    place: Place<'_>,
+    word: &str,
+    words: &mut Words<'_>,
+) {
+    match word {
+        "exit" => tally.judge(
+            place,
+            u64::from(world.status.code()),
+            u64::from(words.byte()),
+        ),
+        "same" => tally.judge_text(place, world.host.said_anew(), world.said_before.as_slice()),
+        "sum" => judge_sum(world, tally, place, words),
+        "unchanged" => tally.judge(place, world.host.writes(), 0),
+        "grown" => judge_grown(world, tally, place),
+        "wrote" => tally.judge(place, world.host.written(), words.number()),
+        "holds" => judge_lengths(world, tally, place, words),
+        "bytes" => judge_bytes(world, tally, place, words),
+        "images" => {
+            let images = (words.choices(), words.choices());
+            judge_images(world, tally, &world.host, images, place, place);
         }
+        "faults" => judge_faults(world, tally, place, words),
+        "cuts" | "puts" => judge_altered(world, tally, place, word, words),
+        _ => words.refuse(),
     }
+}
 
-    fn judge_sum(
-        &self,
-        tally: &mut Tally,
-        place: Place<'_>,
-        sum: u64,
-        text: &str,
-    ) -> Result<(), AllocError> {
-        tally.judge(place, sum_behind_first(tail(self.host.said(), text)), sum)
-    }
+fn judge_sum(world: &World<'_>, tally: &mut Tally, place: Place<'_>, words: &mut Words<'_>) {
+    let sum = words.number();
+    tally.judge(
+        place,
+        sum_behind_first(tail(world.host.said_anew(), words.rest())),
+        sum,
+    );
+}
 
-    fn judge_grown(&self, tally: &mut Tally, place: Place<'_>) -> Result<(), AllocError> {
-        if self.outside.left.len() > self.length_before {
-            return Ok(());
-        }
-        tally.differ(place, b"a left side no longer than before", b"a longer one")
+fn judge_grown(world: &World<'_>, tally: &mut Tally, place: Place<'_>) {
+    if world.sides.bytes(Side::Left).len() <= world.length_before {
+        tally.differ(place, b"a left side no longer than before", b"a longer one");
     }
+}
 
-    fn judge_lengths(
-        &self,
-        tally: &mut Tally,
-        place: Place<'_>,
-        left: usize,
-        right: usize,
-    ) -> Result<(), AllocError> {
-        tally.judge(place, self.outside.left.len() as u64, left as u64)?;
-        tally.judge(place, self.outside.right.len() as u64, right as u64)
+fn judge_lengths(world: &World<'_>, tally: &mut Tally, place: Place<'_>, words: &mut Words<'_>) {
+    for side in [Side::Left, Side::Right] {
+        tally.judge(place, world.sides.bytes(side).len() as u64, words.number());
     }
+}
 
-    fn judge_bytes(
-        &self,
-        tally: &mut Tally,
-        place: Place<'_>,
-        line: Line<'_>,
-        side: Side,
-        digits: &str,
-    ) -> Result<(), AllocError> {
-        let mut wanted = Vec::new(self.alloc);
-        add_hex(self.alloc, &mut wanted, digits)?;
-        add_text(self.alloc, &mut wanted, line.behind)?;
-        tally.judge_text(place, self.outside.bytes(side), &wanted)
-    }
+fn judge_bytes(world: &World<'_>, tally: &mut Tally, place: Place<'_>, words: &mut Words<'_>) {
+    let mut wanted = Bytes::new(world.alloc);
+    let side = words.side();
+    wanted.hex(words.rest());
+    add_text(place.line.behind, &mut wanted);
+    tally.judge_text(place, world.sides.bytes(side), wanted.as_slice());
 }
 
 // The sum of the numbers at the ends of the lines, of which the first doesn't count.

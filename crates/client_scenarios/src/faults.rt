@@ -1,25 +1,12 @@
 //! Which calls of what stands outside the program fail.
-
-/// Calls that are counted.
-#[derive(Clone, Copy)]
-pub(crate) enum Calls {
-    Source,
-    Shelf,
-    Host,
-    Write,
-    Sync,
-    Say,
-}
+use row_tables::{HostFaults, Words};
 
 /// The numbers of the calls that fail, from 1 on, or 0 where none fails.
 #[derive(Clone, Copy)]
 pub(crate) struct Faults {
     pub(crate) source: u64,
     pub(crate) shelf: u64,
-    pub(crate) host: u64,
-    pub(crate) write: u64,
-    pub(crate) sync: u64,
-    pub(crate) say: u64,
+    pub(crate) host: HostFaults,
 }
 
 impl Faults {
@@ -28,29 +15,20 @@ impl Faults {
         Faults {
             source: 0,
             shelf: 0,
-            host: 0,
-            write: 0,
-            sync: 0,
-            say: 0,
+            host: HostFaults::none(),
         }
     }
 
-    /// The call with this number fails.
-    pub(crate) fn of(calls: Calls, number: u64) -> Faults {
-        let mut faults = Faults::none();
-        faults.add(calls, number);
-        faults
-    }
-
-    /// The call with this number fails too.
-    pub(crate) fn add(&mut self, calls: Calls, number: u64) {
+    /// The call with this number fails too, among those of this name. Refuses words with another name.
+    pub(crate) fn add(&mut self, calls: &str, number: u64, words: &mut Words<'_>) {
         match calls {
-            Calls::Source => self.source = number,
-            Calls::Shelf => self.shelf = number,
-            Calls::Host => self.host = number,
-            Calls::Write => self.write = number,
-            Calls::Sync => self.sync = number,
-            Calls::Say => self.say = number,
+            "source" => self.source = number,
+            "shelf" => self.shelf = number,
+            "host" => self.host.call = number,
+            "write" => self.host.write = number,
+            "sync" => self.host.sync = number,
+            "say" => self.host.say = number,
+            _ => words.refuse(),
         }
     }
 }

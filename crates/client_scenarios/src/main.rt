@@ -1,15 +1,14 @@
 //! Scenarios of the client's program: each calls it over two sides, files and a script in memory, and says what it says and
 //! how it ends. Standard input has the files of each scenario and the names of the themes, and a theme is a text file of its
 //! own. A line tells of each theme how many of its scenarios pass, and one of each difference where it is wanted, what was
-//! found and what is wanted. With an argument only those scenarios are played whose names begin with it. `directive` and
+//! found and what is wanted. With an argument only those scenarios are played whose names begin with it. `heading` and
 //! `part` say how a scenario is written.
 #![tactic(auto)]
 
 mod answers;
 mod checks;
-mod directive;
 mod faults;
-mod host;
+mod heading;
 mod images;
 mod line;
 mod outside;
@@ -18,10 +17,10 @@ mod program;
 mod shelf;
 mod stops;
 mod tally;
-mod text;
 mod theme;
 mod world;
 
+use std::alloc::AllocError;
 use std::rt::{Env, Files};
 use std::{env, fs, io};
 use tally::Tally;
@@ -54,14 +53,14 @@ fn play_theme<R: Files + AllocGlobal>(
     shared: &str,
     name: &str,
     only: &str,
-) -> anyhow::Result<()> {
+) -> io::Result<()> {
     let text = read_theme(rt, name)?;
     let theme = Theme {
         name,
         text: &text,
         shared,
     };
-    play(rt.alloc(), tally, theme, only)?;
+    play(rt.alloc(), tally, theme, only);
     Ok(())
 }
 
@@ -71,7 +70,7 @@ fn play_themes<R: Files + AllocGlobal>(
     tally: &mut Tally,
     text: &str,
     only: &str,
-) -> anyhow::Result<()> {
+) -> io::Result<()> {
     for line in text.lines() {
         if let Some(name) = line.strip_prefix("theme ") {
             play_theme(rt, tally, text, name, only)?;
@@ -80,11 +79,27 @@ fn play_themes<R: Files + AllocGlobal>(
     Ok(())
 }
 
-fn main(rt: HostRuntime) -> anyhow::Result<()> {
+// The same where the scenarios are played whose names begin with the argument.
+fn play_named<R: Env + Files + AllocGlobal>(
+    rt: &R,
+    tally: &mut Tally,
+    text: &str,
+) -> io::Result<()> {
+    let only = first_argument(rt)?;
+    play_themes(rt, tally, text, &only)
+}
+
+fn play_input(rt: &HostRuntime, tally: &mut Tally) -> io::Result<()> {
     let input = io::read_to_string(rt.alloc(), rt.reader())?;
-    let only = first_argument(&rt)?;
+    play_named(rt, tally, &input)
+}
+
+fn main(rt: HostRuntime) -> io::Result<()> {
     let mut tally = Tally::new(rt.alloc());
-    play_themes(&rt, &mut tally, &input, &only)?;
-    print!(rt; "{}", tally.report()?)?;
-    Ok(())
+    play_input(&rt, &mut tally)?;
+    let report = tally.report();
+    if !report.is_whole() {
+        return Err(AllocError.into());
+    }
+    print!(rt; "{}", report.as_str())
 }

@@ -5,7 +5,6 @@ ghost use Rattle.jexl_transforms.specs.Meaning.{is_standard};
 ghost use Rattle.jexl_transforms.specs.Table.{HasStandardNames, names_of};
 ghost use Rattle.client_scenarios.specs.Puts.{IsPut};
 
-use crate::host::FailingHost;
 use crate::shelf::{File, put_files};
 use host_model::{MemShelf, MemSource};
 use jexl_transforms::{
@@ -14,6 +13,7 @@ use jexl_transforms::{
 };
 use jexl_value::{Attributes, Value};
 use plain_text::LAST_MOMENT;
+use row_tables::CountingHost;
 use session_run::{RunStatus, nimbus};
 use std::alloc::{AllocError, Global};
 
@@ -30,31 +30,35 @@ pub(crate) struct Call<'a> {
     pub(crate) failing: u64,
 }
 
-/// Calls the program.
+/// Calls the program. Where memory is wanting for what the call needs, it ends with `OutOfMemory`.
 pub(crate) fn call_program(
     alloc: Global,
     call: Call<'_>,
     source: &mut MemSource,
-    host: &mut FailingHost,
-) -> Result<RunStatus, AllocError> {
+    host: &mut CountingHost,
+) -> RunStatus {
     let mut words = Vec::new(alloc);
-    add_words(alloc, &mut words, call.words)?;
-    call_words(alloc, &words, call, source, host)
+    if add_words(alloc, call.words, &mut words) {
+        call_words(alloc, &words, call, source, host)
+    } else {
+        RunStatus::OutOfMemory
+    }
 }
 
-fn add_words(alloc: Global, words: &mut Vec<String>, text: &str) -> Result<(), AllocError> {
-    if text.is_empty() {
-        return Ok(());
-    }
+// Adds the words of a text, which has none where it is empty.
+fn add_words(alloc: Global, text: &str, words: &mut Vec<String>) -> bool {
+    let mut all = true;
     for word in text.split(' ') {
-        add_word(alloc, words, word)?;
+        all = all && (text.is_empty() || add_word(alloc, word, words));
     }
-    Ok(())
+    all
 }
 
-fn add_word(alloc: Global, words: &mut Vec<String>, word: &str) -> Result<(), AllocError> {
-    words.push(String::from_str(alloc, word)?)?;
-    Ok(())
+fn add_word(alloc: Global, word: &str, words: &mut Vec<String>) -> bool {
+    match String::from_str(alloc, word) {
+        Ok(word) => words.push(word).is_ok(),
+        Err(AllocError) => false,
+    }
 }
 
 fn call_words(
@@ -62,11 +66,27 @@ fn call_words(
     words: &[String],
     call: Call<'_>,
     source: &mut MemSource,
-    host: &mut FailingHost,
-) -> Result<RunStatus, AllocError> {
-    let mut shelf = MemShelf::new(alloc, &[call.failing])?;
-    put_files(alloc, &mut shelf, call.files)?;
-    Ok(answer(alloc, words, call.moment, source, &mut shelf, host))
+    host: &mut CountingHost,
+) -> RunStatus {
+    match MemShelf::new(alloc, &[call.failing]) {
+        Ok(mut shelf) => call_over(alloc, words, call, source, &mut shelf, host),
+        Err(AllocError) => RunStatus::OutOfMemory,
+    }
+}
+
+fn call_over(
+    alloc: Global,
+    words: &[String],
+    call: Call<'_>,
+    source: &mut MemSource,
+    shelf: &mut MemShelf,
+    host: &mut CountingHost,
+) -> RunStatus {
+    if put_files(alloc, shelf, call.files) {
+        answer(alloc, words, call.moment, source, shelf, host)
+    } else {
+        RunStatus::OutOfMemory
+    }
 }
 
 // Puts a transform of a standard name at the end of a table, unless memory is wanting.
@@ -87,7 +107,7 @@ fn answer(
     moment: u64,
     source: &mut MemSource,
     shelf: &mut MemShelf,
-    host: &mut FailingHost,
+    host: &mut CountingHost,
 ) -> RunStatus {
     let (Ok(version), Ok(date), Ok(bucket), Ok(sum), Ok(nonzero), Ok(seen)) = (
         Box::new(
@@ -150,7 +170,7 @@ fn answer_with(
     table: &TransformTable,
     source: &mut MemSource,
     shelf: &mut MemShelf,
-    host: &mut FailingHost,
+    host: &mut CountingHost,
 ) -> RunStatus
     requires table { HasStandardNames table.now }
 {

@@ -1,10 +1,11 @@
 //! The scenarios of a theme, one after the other.
-use crate::directive::{Directive, file_of};
+use crate::heading;
 use crate::line::Line;
 use crate::part::Part;
-use crate::shelf::File;
+use crate::shelf::{File, add_file};
 use crate::tally::{Place, Tally};
 use crate::world::World;
+use row_tables::Words;
 use std::alloc::{AllocError, Global};
 
 /// A theme: its name, its text, and the text with the files of each scenario.
@@ -16,155 +17,71 @@ pub(crate) struct Theme<'a> {
 }
 
 /// Plays the scenarios of a theme whose names begin with `only`, and tells what differs from what is wanted.
-pub(crate) fn play(
-    alloc: Global,
-    tally: &mut Tally,
-    theme: Theme<'_>,
-    only: &str,
-) -> Result<(), AllocError> {
-    let mut world = World::new(alloc)?;
-    play_over(&mut world, tally, theme, only)
+pub(crate) fn play(alloc: Global, tally: &mut Tally, theme: Theme<'_>, only: &str) {
+    match World::new(alloc) {
+        Ok(mut world) => play_over(&mut world, tally, theme, only),
+        Err(AllocError) => tally.lack_memory(),
+    }
 }
 
-fn play_over<'a>(
-    world: &mut World<'a>,
-    tally: &mut Tally,
-    theme: Theme<'a>,
-    only: &str,
-) -> Result<(), AllocError> {
-    add_files(&mut world.files, theme.shared)?;
+fn play_over<'a>(world: &mut World<'a>, tally: &mut Tally, theme: Theme<'a>, only: &str) {
+    tally.needs(add_files(&mut world.files, theme.shared));
     world.share();
-    play_lines(world, tally, theme, only)?;
-    tally.end_theme(theme.name)
+    let mut place = Place::before(theme.name, theme.text);
+    for _ in theme.text.lines() {
+        play_line(world, tally, &mut place, only);
+    }
+    tally.end_theme(theme.name);
 }
 
-// Adds the files that a text writes down.
-fn add_files<'a>(files: &mut Vec<File<'a>>, text: &'a str) -> Result<(), AllocError> {
-    let mut line = Line::before(text);
+// Adds the files that a text writes down. Whether memory is found for them.
+fn add_files<'a>(files: &mut Vec<File<'a>>, text: &'a str) -> bool {
+    let (mut line, mut all) = (Line::before(text), true);
     for _ in text.lines() {
         line = line.next();
-        let Some(directive) = Directive::of(line.text) else {
-            continue;
-        };
-        if let Some(file) = file_of(directive, line.behind) {
-            add_file(files, file)?;
+        all = all && add_file(files, line);
+    }
+    all
+}
+
+// Goes on to the next line, and does what it says.
+fn play_line<'a>(world: &mut World<'a>, tally: &mut Tally, place: &mut Place<'a>, only: &str) {
+    place.line = place.line.next();
+    let text = place.line.text;
+    match (Part::of(text), text.strip_prefix("== ")) {
+        (Some(part), _) if heading::takes(world.heading, part) => {}
+        (Some(_), _) => refuse(tally, *place),
+        (None, Some(name)) => {
+            place.scenario = name;
+            world.heading = "==";
+            begin(world, tally, *place, only);
         }
-    }
-    Ok(())
-}
-
-fn add_file<'a>(files: &mut Vec<File<'a>>, file: File<'a>) -> Result<(), AllocError> {
-    files.push(file)?;
-    Ok(())
-}
-
-fn play_lines<'a>(
-    world: &mut World<'a>,
-    tally: &mut Tally,
-    theme: Theme<'a>,
-    only: &str,
-) -> Result<(), AllocError> {
-    let (mut line, mut scenario, mut last) = (Line::before(theme.text), "", None);
-    for _ in theme.text.lines() {
-        line = line.next();
-        let heading = read_heading(line, last);
-        match heading {
-            Heading::Scenario(name) => {
-                scenario = name;
-                last = None;
-            }
-            Heading::Line(directive) => last = Some(directive),
-            Heading::Part | Heading::Other => {}
-        }
-        let place = Place::new(theme.name, scenario, line.number);
-        play_heading(world, tally, place, line, heading, only)?;
-    }
-    Ok(())
-}
-
-fn play_heading<'a>(
-    world: &mut World<'a>,
-    tally: &mut Tally,
-    place: Place<'a>,
-    line: Line<'a>,
-    heading: Heading<'a>,
-    only: &str,
-) -> Result<(), AllocError> {
-    match heading {
-        Heading::Part => Ok(()),
-        Heading::Scenario(_) => begin(world, tally, place, only),
-        Heading::Line(directive) if tally.is_playing() => {
-            play_line(world, tally, place, line, directive)
-        }
-        Heading::Line(_) => Ok(()),
-        Heading::Other => tally.differ(place, line.text.as_bytes(), b"a line of a scenario"),
-    }
-}
-
-/// What a line is.
-#[derive(Clone, Copy)]
-enum Heading<'a> {
-    Part,
-    Scenario(&'a str),
-    Line(Directive<'a>),
-    Other,
-}
-
-// What a line is behind this heading.
-fn read_heading<'a>(line: Line<'a>, last: Option<Directive<'a>>) -> Heading<'a> {
-    if let Some(part) = Part::of(line.text) {
-        return part_heading(part, last);
-    }
-    match Directive::of(line.text) {
-        Some(Directive::Begin(name)) => Heading::Scenario(name),
-        Some(directive) => Heading::Line(directive),
-        None => Heading::Other,
-    }
-}
-
-fn part_heading<'a>(part: Part<'a>, last: Option<Directive<'a>>) -> Heading<'a> {
-    match (part, last) {
-        (Part::Nothing, _) => Heading::Part,
-        (part, Some(directive)) if directive.takes(part) => Heading::Part,
-        _ => Heading::Other,
+        (None, None) if place.scenario.is_empty() => refuse(tally, *place),
+        (None, None) => play_heading(world, tally, *place),
     }
 }
 
 // Begins the scenario, where it is to be played.
-fn begin(
-    world: &mut World<'_>,
-    tally: &mut Tally,
-    place: Place<'_>,
-    only: &str,
-) -> Result<(), AllocError> {
+fn begin(world: &mut World<'_>, tally: &mut Tally, place: Place<'_>, only: &str) {
     tally.end();
-    if !place.scenario.starts_with(only) {
-        return Ok(());
+    if place.scenario.starts_with(only) {
+        tally.begin();
+        world.begin(tally, place);
     }
-    tally.begin();
-    world.begin(tally, place)
 }
 
-// Does what a line says.
-fn play_line<'a>(
-    world: &mut World<'a>,
-    tally: &mut Tally,
-    place: Place<'a>,
-    line: Line<'a>,
-    directive: Directive<'a>,
-) -> Result<(), AllocError> {
-    if let Some(file) = file_of(directive, line.behind) {
-        return add_file(&mut world.files, file);
+// Does what a heading says, where the scenario is played.
+fn play_heading<'a>(world: &mut World<'a>, tally: &mut Tally, place: Place<'a>) {
+    let mut words = Words::new(place.line.text);
+    world.heading = Words::new(place.line.text).word();
+    if tally.is_playing() {
+        heading::play(world, tally, place, &mut words);
     }
-    match directive {
-        Directive::Change(change) => {
-            world.outside.change(change);
-            Ok(())
-        }
-        Directive::Side(side, digits) => world.write_side(side, digits, line),
-        Directive::Call(words) => world.call(tally, place, line, words),
-        Directive::Again(words) => world.call_again(tally, place, line, words),
-        Directive::Check(check) => world.judge(tally, place, line, check),
-        _ => Ok(()),
+    if !words.are_known() {
+        refuse(tally, place);
     }
+}
+
+fn refuse(tally: &mut Tally, place: Place<'_>) {
+    tally.differ(place, place.line.text.as_bytes(), b"a line of a scenario");
 }

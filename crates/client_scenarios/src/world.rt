@@ -1,14 +1,13 @@
-//! What a scenario does to what stands outside the program, and the calls that it makes.
-use crate::answers::{judge_answers, judge_status, status_of};
+//! What a scenario has done so far, and the calls that it makes.
+use crate::answers::judge_call;
 use crate::faults::Faults;
-use crate::host::FailingHost;
-use crate::line::Line;
 use crate::outside::Outside;
+use crate::part::add_text;
 use crate::program::{Call, call_program};
-use crate::shelf::File;
+use crate::shelf::{File, add_file};
 use crate::tally::{Place, Tally};
-use crate::text::{add_hex, add_text};
 use host_model::{Choice, MemSource, Side};
+use row_tables::{Bytes, CountingHost, Sides};
 use session_run::RunStatus;
 use std::alloc::{AllocError, Global};
 
@@ -24,32 +23,34 @@ pub(crate) struct World<'a> {
     /// The files, of which so many stand before the first theme.
     pub(crate) files: Vec<File<'a>>,
     shared: usize,
+    pub(crate) sides: Sides,
     pub(crate) outside: Outside,
+    /// The first word of the last heading.
+    pub(crate) heading: &'a str,
     /// The last call: its source and its host as it has left them, its status, the length of the left side before it, and
     /// what the call before it has said.
     source: MemSource,
-    pub(crate) host: FailingHost,
+    pub(crate) host: CountingHost,
     pub(crate) status: RunStatus,
     pub(crate) length_before: usize,
-    pub(crate) said_before: Vec<u8>,
+    pub(crate) said_before: Bytes,
 }
 
 impl<'a> World<'a> {
     /// Nothing is done.
     pub(crate) fn new(alloc: Global) -> Result<World<'a>, AllocError> {
-        let outside = Outside::new(alloc);
-        let source = outside.source(alloc, b"", Faults::none())?;
-        let host = outside.host(alloc, Faults::none())?;
         Ok(World {
+            source: MemSource::new(alloc, b"", 1, &[])?,
+            host: CountingHost::new(alloc, b"", b"", 0, 0)?,
             alloc,
             files: Vec::new(alloc),
             shared: 0,
-            outside,
-            source,
-            host,
+            sides: Sides::new(alloc),
+            outside: Outside::usual(),
+            heading: "",
             status: RunStatus::Done,
             length_before: 0,
-            said_before: Vec::new(alloc),
+            said_before: Bytes::new(alloc),
         })
     }
 
@@ -59,133 +60,100 @@ impl<'a> World<'a> {
     }
 
     /// Begins a scenario, over the usual store.
-    pub(crate) fn begin(&mut self, tally: &mut Tally, place: Place<'_>) -> Result<(), AllocError> {
+    pub(crate) fn begin(&mut self, tally: &mut Tally, place: Place<'_>) {
         self.files.truncate(self.shared);
-        self.outside.begin();
-        self.call_words(USUAL, Faults::none())?;
-        tally.judge_text(place, self.host.said(), USUAL_ANSWER)
+        self.sides.clear();
+        self.outside = Outside::usual();
+        self.call_words(tally, USUAL);
+        tally.judge_text(place, self.host.said_anew(), USUAL_ANSWER);
     }
 
-    /// Makes a side the text of a line and its parts.
-    pub(crate) fn write_side(
-        &mut self,
-        side: Side,
-        digits: &str,
-        line: Line<'_>,
-    ) -> Result<(), AllocError> {
-        let alloc = self.alloc;
-        let bytes = self.outside.side(side);
-        bytes.clear();
-        add_hex(alloc, bytes, digits)?;
-        add_text(alloc, bytes, line.behind)
-    }
-
-    /// Calls the program as the parts behind a line say, and tells what differs from what they want.
-    pub(crate) fn call(
-        &mut self,
-        tally: &mut Tally,
-        place: Place<'_>,
-        line: Line<'_>,
-        words: &str,
-    ) -> Result<(), AllocError> {
-        let faults = self.outside.take_faults();
-        self.write_source(line, faults)?;
-        self.call_words(words, faults)?;
-        self.judge_call(tally, place, line)
+    /// Calls the program as the parts behind the line of a place say, and tells what differs from what they want.
+    pub(crate) fn call(&mut self, tally: &mut Tally, place: Place<'_>, words: &str) {
+        match self.source_of(place.line.behind, self.outside.faults) {
+            Ok(source) => self.source = source,
+            Err(AllocError) => tally.lack_memory(),
+        }
+        self.call_again(tally, place, words);
     }
 
     /// Calls the program over the source that the last call has left.
-    pub(crate) fn call_again(
-        &mut self,
-        tally: &mut Tally,
-        place: Place<'_>,
-        line: Line<'_>,
-        words: &str,
-    ) -> Result<(), AllocError> {
-        let faults = self.outside.take_faults();
-        self.call_words(words, faults)?;
-        self.judge_call(tally, place, line)
+    pub(crate) fn call_again(&mut self, tally: &mut Tally, place: Place<'_>, words: &str) {
+        self.call_words(tally, words);
+        judge_call(tally, place, self.status, self.host.said_anew());
     }
 
-    // The source becomes one of the script behind a line.
-    fn write_source(&mut self, line: Line<'_>, faults: Faults) -> Result<(), AllocError> {
-        self.source = self.source_of(line.behind, faults)?;
-        Ok(())
+    // Calls the program over the source, and takes over what it has left.
+    fn call_words(&mut self, tally: &mut Tally, words: &str) {
+        self.keep_former();
+        self.find_host(tally);
+        self.play(words);
+        self.sides
+            .set_images(self.alloc, &self.host, Choice::New, Choice::New);
+        self.outside.faults = Faults::none();
+        self.outside.stays = false;
+    }
+
+    // Keeps what is asked of the time before the next call.
+    fn keep_former(&mut self) {
+        self.length_before = self.sides.bytes(Side::Left).len();
+        self.said_before.clear();
+        self.said_before.add(self.host.said_anew());
+    }
+
+    // The host is one with the sides, or the one that the last call has left.
+    fn find_host(&mut self, tally: &mut Tally) {
+        if !self.outside.stays {
+            match self.sides.host(self.alloc, self.outside.room, 0) {
+                Ok(host) => self.host = host,
+                Err(AllocError) => tally.lack_memory(),
+            }
+        }
+        self.host.count_anew(self.outside.faults.host);
+    }
+
+    fn play(&mut self, words: &str) {
+        let call = Call {
+            words,
+            moment: self.outside.moment,
+            files: &self.files,
+            failing: self.outside.faults.shelf,
+        };
+        self.status = call_program(self.alloc, call, &mut self.source, &mut self.host);
     }
 
     // A source of the script at the head of these lines.
     fn source_of(&self, lines: &str, faults: Faults) -> Result<MemSource, AllocError> {
-        let mut script = Vec::new(self.alloc);
-        add_text(self.alloc, &mut script, lines)?;
-        self.outside.source(self.alloc, &script, faults)
+        let mut script = Bytes::new(self.alloc);
+        add_text(lines, &mut script);
+        self.source_of_script(&script, faults)
     }
 
-    /// Calls the program with the script at the head of these lines.
+    fn source_of_script(&self, script: &Bytes, faults: Faults) -> Result<MemSource, AllocError> {
+        if !script.are_whole() {
+            return Err(AllocError);
+        }
+        let piece = self.outside.piece.max(1);
+        MemSource::new(self.alloc, script.as_slice(), piece, &[faults.source])
+    }
+
+    /// Calls the program with the script at the head of these lines over another host.
     pub(crate) fn call_over(
         &self,
-        host: &mut FailingHost,
+        host: &mut CountingHost,
         words: &str,
         lines: &str,
         faults: Faults,
-    ) -> Result<RunStatus, AllocError> {
-        let mut source = self.source_of(lines, faults)?;
-        call_program(self.alloc, self.call_of(words, faults), &mut source, host)
-    }
-
-    fn call_of<'b>(&'b self, words: &'b str, faults: Faults) -> Call<'b> {
-        Call {
-            words,
-            moment: self.outside.moment,
-            files: &self.files,
-            failing: faults.shelf,
-        }
-    }
-
-    // Calls the program over the source, and takes over what it has left.
-    fn call_words(&mut self, words: &str, faults: Faults) -> Result<(), AllocError> {
-        self.said_before.clear();
-        self.said_before.extend_from_slice(self.host.said())?;
-        self.find_host(faults)?;
-        self.play(words, faults)?;
-        self.take_over()
-    }
-
-    fn play(&mut self, words: &str, faults: Faults) -> Result<(), AllocError> {
+    ) -> RunStatus {
         let call = Call {
             words,
             moment: self.outside.moment,
             files: &self.files,
             failing: faults.shelf,
         };
-        self.status = call_program(self.alloc, call, &mut self.source, &mut self.host)?;
-        Ok(())
-    }
-
-    // The host is one with the sides, or the one that the last call has left.
-    fn find_host(&mut self, faults: Faults) -> Result<(), AllocError> {
-        self.length_before = self.outside.left.len();
-        if self.outside.take_stays() {
-            self.host.go_on(faults);
-            return Ok(());
+        match self.source_of(lines, faults) {
+            Ok(mut source) => call_program(self.alloc, call, &mut source, host),
+            Err(AllocError) => RunStatus::OutOfMemory,
         }
-        self.host = self.outside.host(self.alloc, faults)?;
-        Ok(())
-    }
-
-    // The sides are now as the call has left them.
-    fn take_over(&mut self) -> Result<(), AllocError> {
-        self.outside.left = self.host.image(self.alloc, Side::Left, Choice::New)?;
-        self.outside.right = self.host.image(self.alloc, Side::Right, Choice::New)?;
-        Ok(())
-    }
-
-    fn judge_call(
-        &self,
-        tally: &mut Tally,
-        place: Place<'_>,
-        line: Line<'_>,
-    ) -> Result<(), AllocError> {
-        judge_status(self.alloc, tally, place, self.status, status_of(line))?;
-        judge_answers(tally, place, self.host.said(), line, u64::MAX)
     }
 }
