@@ -12,7 +12,7 @@ ghost use Rattle.event_counts.specs.Sound as counts;
 ghost use Rattle.change_outbox.specs.Rows as change_rows;
 ghost use Rattle.pref_bindings.specs.Preferences as preferences;
 ghost use Rattle.pref_bindings.specs.Rows.{hold_rows, value_rows};
-ghost use Rattle.client_state.specs.Changes.{IsNextEvents, IsNextEventsIf, IsNextIf, IsNextOutboxIf, IsNextPreferences, IsNextPreferencesIf, IsWholeChangeOf, enrolment_after, events_after, preferences_or, state_after};
+ghost use Rattle.client_state.specs.Changes.{IsNextEventsIf, IsNextIf, IsNextOutboxIf, IsNextPreferencesIf, IsWholeChangeOf, enrolment_after, events_after, preferences_or, state_after};
 ghost use Rattle.client_state.specs.Sound.{IsConsistent};
 ghost use Rattle.client_state.specs.Encoding.{rows_of, encoding};
 
@@ -119,7 +119,7 @@ fn add_later(
     }
 }
 
-// Adds the changes of the counts' rows.
+// Adds the changes of the counts' rows. Of the names the part alone is looked at that may differ.
 #[tactic(auto, using(state_codec::proofs::Joined::itself_added))]
 fn add_events(
     alloc: Global,
@@ -132,23 +132,9 @@ fn add_events(
     ensures { OnOk result (changes.new ≡ changes.old ++ changes_between (count_rows.rows_of old.now) (count_rows.rows_of (events_after next.now old.now))) }
 {
     match next {
-        Some(next) => add_next_events(alloc, changes, old, next),
+        Some(next) => old.add_changes_in(alloc, changes, &next.counts, next.part),
         None => Ok(()),
     }
-}
-
-// Adds the changes to the next counts' rows. Of the names the part alone is looked at that may differ.
-fn add_next_events(
-    alloc: Global,
-    changes: &mut Sequence<RowChange>,
-    old: &Counts,
-    next: &NextEvents,
-) -> Result<(), AllocError>
-    requires old_counts { counts.IsSound old.now }
-    requires next { IsNextEvents old.now next.now }
-    ensures { OnOk result (changes.new ≡ changes.old ++ changes_between (count_rows.rows_of old.now) (count_rows.rows_of next.now.counts)) }
-{
-    old.add_changes_in(alloc, changes, &next.counts, next.part)
 }
 
 // Adds the changes of the outbox's rows.
@@ -168,7 +154,7 @@ fn add_outbox(
     }
 }
 
-// Adds the changes of the rows of holds.
+// Adds the changes of the rows of holds. Of the preferences the part alone is looked at that may differ.
 #[tactic(auto, using(state_codec::proofs::Joined::itself_added))]
 fn add_holds(
     alloc: Global,
@@ -181,26 +167,12 @@ fn add_holds(
     ensures { OnOk result (changes.new ≡ changes.old ++ changes_between (hold_rows old.now) (hold_rows (preferences_or next.now old.now))) }
 {
     match next {
-        Some(next) => add_next_holds(alloc, changes, old, next),
+        Some(next) => old.add_hold_changes_in(alloc, changes, &next.preferences, next.part),
         None => Ok(()),
     }
 }
 
-// Adds the changes to the next rows of holds. Of the preferences the part alone is looked at that may differ.
-fn add_next_holds(
-    alloc: Global,
-    changes: &mut Sequence<RowChange>,
-    old: &Prefs,
-    next: &NextPreferences,
-) -> Result<(), AllocError>
-    requires old_preferences { preferences.IsSound old.now }
-    requires next { IsNextPreferences old.now next.now }
-    ensures { OnOk result (changes.new ≡ changes.old ++ changes_between (hold_rows old.now) (hold_rows next.now.preferences)) }
-{
-    old.add_hold_changes_in(alloc, changes, &next.preferences, next.part)
-}
-
-// Adds the changes of the rows of values.
+// Adds the changes of the rows of values. Of the preferences the part alone is looked at that may differ.
 #[tactic(auto, using(state_codec::proofs::Joined::itself_added))]
 fn add_values(
     alloc: Global,
@@ -213,21 +185,7 @@ fn add_values(
     ensures { OnOk result (changes.new ≡ changes.old ++ changes_between (value_rows old.now) (value_rows (preferences_or next.now old.now))) }
 {
     match next {
-        Some(next) => add_next_values(alloc, changes, old, next),
+        Some(next) => old.add_value_changes_in(alloc, changes, &next.preferences, next.part),
         None => Ok(()),
     }
-}
-
-// Adds the changes to the next rows of values. Of the preferences the part alone is looked at that may differ.
-fn add_next_values(
-    alloc: Global,
-    changes: &mut Sequence<RowChange>,
-    old: &Prefs,
-    next: &NextPreferences,
-) -> Result<(), AllocError>
-    requires old_preferences { preferences.IsSound old.now }
-    requires next { IsNextPreferences old.now next.now }
-    ensures { OnOk result (changes.new ≡ changes.old ++ changes_between (value_rows old.now) (value_rows next.now.preferences)) }
-{
-    old.add_value_changes_in(alloc, changes, &next.preferences, next.part)
 }
