@@ -1,6 +1,6 @@
 -- What a confirmation asks for.
 use Rattle.std.proofs.Common.{◌≡◌, ℕ, ◌<◌, ◌≤◌, Bool, None, refl, sym, ap, ◌∙◌, subst}
-use Rattle.std.specs.Prelude.{nat_le, if◌then◌else◌}
+use Rattle.std.specs.Prelude.{if◌then◌else◌}
 use Rattle.std.proofs.lemmas.Bool.{le-leb, lt-leb}
 use Rattle.change_outbox.specs.Contents.{Contents, IsSound, confirmed}
 use Rattle.change_outbox.proofs.Made.{confirmed_made}

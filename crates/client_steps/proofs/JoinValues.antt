@@ -1,13 +1,11 @@
 -- What joins set by the records of recipes is such as a join takes.
-use Rattle.std.proofs.Common.{Ordering, Less, Equal, Greater, ◌≡◌, ℕ, Bool, true, false, List, [], ◌∷◌, map, Option, Some, None, IsTrue, refl, sym, ap, ◌∙◌, subst}
-use Rattle.std.specs.Prelude.{◌&&◌, bytes_eq, find, fold, option_and_then, option_map, if◌then◌else◌, ⊤}
+use Rattle.std.proofs.Common.{Less, Equal, Greater, ◌≡◌, ℕ, Bool, true, false, List, [], ◌∷◌, map, Option, Some, None, IsTrue, refl, sym, ap, ◌∙◌, subst}
+use Rattle.std.specs.Prelude.{◌&&◌, bytes_eq, find, fold, option_and_then, option_map, IfSome, if◌then◌else◌}
 use Rattle.std.specs.BTreeMap.{insert_entry}
 use Rattle.std.specs.BTreeSet.{insert_key}
 use Rattle.std.specs.List.{AllByRecursion, cons_option, filter_map}
-use Rattle.std.specs.List.Sorted.{IsStrictlySortedBy}
 use Rattle.std.specs.Ordering.{match_ordering}
-use Rattle.json_tree.specs.Json as json
-use Rattle.json_tree.specs.Json.{Json, Members, no_members, member, IsSound, AreSoundItems, AreSoundMembers, items_of, get, get_member}
+use Rattle.json_tree.specs.Json.{Json, IsSound, AreSoundItems, items_of, get}
 use Rattle.json_tree.specs.Tree.{json_of}
 use Rattle.json_tree.specs.declared.tree.Tree.{Tree}
 use Rattle.plain_text.specs.Names.{is_name}
@@ -29,55 +27,34 @@ use Rattle.enrol_states.specs.Order.{Rise}
 use Rattle.enrol_states.specs.declared.state.State.{State}
 use Rattle.enrol_states.proofs.OptOuts.{rise-insert}
 use Rattle.pref_bindings.specs.Bindings.{AreBindings}
-use Rattle.pref_bindings.specs.Bound.{bound_value, bound_values, branch_with, in_order, is_bound_type, set_by, set_by_branch, set_by_recipe, setting_of, taken, value_for, variable_of, with_setting}
+use Rattle.pref_bindings.specs.Bound.{bound_value, bound_values, branch_with, is_bound_type, set_by, set_by_recipe, setting_of, taken, value_for, variable_of, with_setting}
 use Rattle.pref_bindings.specs.Changes.{AreSettings, IsSetting, Setting}
-use Rattle.pref_bindings.specs.Preferences.{IsValue, IsValueOrNone}
+use Rattle.pref_bindings.specs.Preferences.{IsValueOrNone}
 use Rattle.pref_bindings.specs.declared.bindings.Binding.{Binding}
 use Rattle.pref_bindings.proofs.BoundValues.{no_settings, put_each, taken_value}
 use Rattle.change_outbox.specs.declared.change.Change.{Change}
 use Rattle.client_state.specs.Following.{join_values, values_by}
 use Rattle.client_state.specs.Sound.{AreRecords, HaveRecords}
 use Rattle.client_steps.specs.Soundness.{HasBindings}
+use Rattle.client_steps.proofs.FoundValues.{chosen, get_sound}
 
 -- ---- the records
 
--- what a value that may be none keeps
-abbrev IfThere : {A : Type 0} → (A → Type 0) → Option A → Type 0
-IfThere P None = ⊤
-IfThere P (Some x) = P x
-
-either : {A : Type 0} (P : A → Type 0) (b : Bool) (x : A) (rest : Option A) → P x → IfThere P rest → IfThere P (if b then Some x else rest)
-either P true x rest is others = is
-either P false x rest is others = others
-
-recipe_sound : (slug : List ℕ) (rs : List Recipe) → AreRecords rs → IfThere (λ r. IsSound (record_json r)) (recipe_with slug rs)
+recipe_sound : (slug : List ℕ) (rs : List Recipe) → AreRecords rs → IfSome (recipe_with slug rs) (λ r. IsSound (record_json r))
 recipe_sound slug [] are = tt
-recipe_sound slug (r ∷ rs) are = either (λ q. IsSound (record_json q)) (bytes_eq r.slug slug) r (recipe_with slug rs) are.0 (recipe_sound slug rs are.1)
+recipe_sound slug (r ∷ rs) are = chosen (λ q. IsSound (record_json q)) (bytes_eq r.slug slug) r (recipe_with slug rs) are.0 (recipe_sound slug rs are.1)
 
-branch_found : (slug : List ℕ) (bs : List Branch) → AreSoundItems (items_of (map branch_json bs)) → IfThere (λ b. IsSound (branch_json b)) (find (λ b. bytes_eq b.slug slug) bs)
+branch_found : (slug : List ℕ) (bs : List Branch) → AreSoundItems (items_of (map branch_json bs)) → IfSome (find (λ b. bytes_eq b.slug slug) bs) (λ b. IsSound (branch_json b))
 branch_found slug [] sound = tt
-branch_found slug (b ∷ bs) sound = either (λ c. IsSound (branch_json c)) (bytes_eq b.slug slug) b (find (λ c. bytes_eq c.slug slug) bs) sound.0 (branch_found slug bs sound.1)
+branch_found slug (b ∷ bs) sound = chosen (λ c. IsSound (branch_json c)) (bytes_eq b.slug slug) b (find (λ c. bytes_eq c.slug slug) bs) sound.0 (branch_found slug bs sound.1)
 
-value_found : (feature : List ℕ) (fs : List FeatureValue) → AreSoundItems (items_of (map feature_json fs)) → IfThere (λ t. IsSound (json_of t)) (option_map (λ f. f.value) (find (λ f. bytes_eq f.feature feature) fs))
+value_found : (feature : List ℕ) (fs : List FeatureValue) → AreSoundItems (items_of (map feature_json fs)) → IfSome (option_map (λ f. f.value) (find (λ f. bytes_eq f.feature feature) fs)) (λ t. IsSound (json_of t))
 value_found feature [] sound = tt
 value_found feature (f ∷ fs) sound =
-    elim (bytes_eq f.feature feature) as (λ b. IfThere (λ t. IsSound (json_of t)) (option_map (λ g. g.value) (if b then Some f else find (λ g. bytes_eq g.feature feature) fs))) [
+    elim (bytes_eq f.feature feature) as (λ b. IfSome (option_map (λ g. g.value) (if b then Some f else find (λ g. bytes_eq g.feature feature) fs)) (λ t. IsSound (json_of t))) [
       | true ↦ sound.0.3.2
       | false ↦ value_found feature fs sound.1
     ]
-
-member_sound : (k : List ℕ) (ms : Members) → AreSoundMembers ms → IfThere IsSound (get_member k ms)
-member_sound k no_members sound = tt
-member_sound k (member l x ms) sound = either IsSound (bytes_eq l k) x (get_member k ms) sound.2 (member_sound k ms sound.3)
-
-get_sound : (k : List ℕ) (x : Json) → IsSound x → IfThere IsSound (get k x)
-get_sound k json.null sound = tt
-get_sound k (json.truth b) sound = tt
-get_sound k (json.whole n) sound = tt
-get_sound k json.odd sound = tt
-get_sound k (json.text s) sound = tt
-get_sound k (json.list xs) sound = tt
-get_sound k (json.object ms) sound = member_sound k ms sound
 
 -- ---- one binding
 
@@ -90,7 +67,7 @@ taken_at table of x sound true true is_bound is_taken =
 taken_sound : (table : TypeTable) (of : FieldType) (x : Json) → IsSound x → IsValueOrNone (taken table of x)
 taken_sound table of x sound = taken_at table of x sound (is_bound_type of) (takes table (shape_of of) x) refl refl
 
-taken_if : (table : TypeTable) (of : FieldType) (x : Option Json) → IfThere IsSound x → IsValueOrNone (option_and_then (taken table of) x)
+taken_if : (table : TypeTable) (of : FieldType) (x : Option Json) → IfSome x IsSound → IsValueOrNone (option_and_then (taken table of) x)
 taken_if table of None sound = tt
 taken_if table of (Some x) sound = taken_sound table of x sound
 
@@ -98,7 +75,7 @@ field_value : (m : Manifest) (field : Option Field) (variable : List ℕ) (t : T
 field_value m None variable t sound = tt
 field_value m (Some f) variable t sound = taken_if m.types f.field_type (get variable (json_of t)) (get_sound variable (json_of t) sound)
 
-set_value : (m : Manifest) (b : Binding) (t : Option Tree) → IfThere (λ x. IsSound (json_of x)) t
+set_value : (m : Manifest) (b : Binding) (t : Option Tree) → IfSome t (λ x. IsSound (json_of x))
     → IsValueOrNone (option_and_then (λ value. option_and_then (λ field. value_for m field b.variable value) (variable_of b.feature b.variable m)) t)
 set_value m b None sound = tt
 set_value m b (Some t) sound = field_value m (variable_of b.feature b.variable m) b.variable t sound
@@ -106,7 +83,7 @@ set_value m b (Some t) sound = field_value m (variable_of b.feature b.variable m
 bound_sound : (m : Manifest) (branch : Branch) (b : Binding) → IsSound (branch_json branch) → IsValueOrNone (bound_value m branch b)
 bound_sound m branch b sound = set_value m b (set_by b.feature branch) (value_found b.feature branch.features sound.2)
 
-setting_if : (name : List ℕ) (v : Option Tree) → IsTrue (is_name name) → IsValueOrNone v → IfThere IsSetting (option_map (λ t. (name, t)) v)
+setting_if : (name : List ℕ) (v : Option Tree) → IsTrue (is_name name) → IsValueOrNone v → IfSome (option_map (λ t. (name, t)) v) IsSetting
 setting_if name None is value = tt
 setting_if name (Some v) is value = record { name = is; value = value }
 
@@ -131,7 +108,7 @@ all_more : (vs ws : List Setting) → AreSettings vs → AllByRecursion IsSettin
 all_more vs [] are more = are
 all_more vs (w ∷ ws) are more = all_more (with_setting vs w) ws (one_more vs w more.0 are) more.1
 
-kept_if : (o : Option Setting) (rest : List Setting) → IfThere IsSetting o → AllByRecursion IsSetting rest → AllByRecursion IsSetting (cons_option o rest)
+kept_if : (o : Option Setting) (rest : List Setting) → IfSome o IsSetting → AllByRecursion IsSetting rest → AllByRecursion IsSetting (cons_option o rest)
 kept_if None rest is others = others
 kept_if (Some v) rest is others = (is, others)
 
@@ -143,7 +120,7 @@ all_set m branch (b ∷ bs) sound named =
 no_setting : AreSettings []
 no_setting = no_settings [] refl
 
-set_by_any : (m : Manifest) (bs : List Binding) (branch : Option Branch) → AreBindings bs → IfThere (λ b. IsSound (branch_json b)) branch → AreSettings (set_by_recipe m bs branch)
+set_by_any : (m : Manifest) (bs : List Binding) (branch : Option Branch) → AreBindings bs → IfSome branch (λ b. IsSound (branch_json b)) → AreSettings (set_by_recipe m bs branch)
 set_by_any m bs None are sound = no_setting
 set_by_any m bs (Some branch) are sound = all_more [] (filter_map (setting_of m branch) bs) no_setting (all_set m branch bs sound are.names)
 
@@ -151,7 +128,7 @@ bound_set : (m : Manifest) (r : Recipe) (slug : List ℕ) (bs : List Binding) �
 unfolding bound_values
 bound_set m r slug bs are sound = set_by_any m bs (branch_with slug r) are (branch_found slug r.branches sound.3.2)
 
-values_set : (m : Option Manifest) (bs : Option (List Binding)) (r : Option Recipe) (slug : List ℕ) → HasBindings bs → IfThere (λ q. IsSound (record_json q)) r → AreSettings (values_by m bs r slug)
+values_set : (m : Option Manifest) (bs : Option (List Binding)) (r : Option Recipe) (slug : List ℕ) → HasBindings bs → IfSome r (λ q. IsSound (record_json q)) → AreSettings (values_by m bs r slug)
 values_set None bs r slug are sound = no_setting
 values_set (Some m) None r slug are sound = no_setting
 values_set (Some m) (Some bs) None slug are sound = no_setting

@@ -16,8 +16,6 @@ use Rattle.client_state.specs.declared.client_state.ClientState.{ClientState}
 use Rattle.client_state.specs.Sound.{max_size}
 use Rattle.client_state.specs.Encoding.{encoding}
 use Rattle.fml_types.specs.declared.manifest.Manifest.{Manifest}
-use Rattle.fml_value.specs.Typed.{TypedValue}
-use Rattle.feature_serving.specs.Serving.{served}
 use Rattle.client_words.specs.declared.refusal.Refusal.{Refusal}
 use Rattle.client_words.specs.declared.command.Command.{Command}
 use Rattle.client_words.specs.declared.command.Command.TheVariants.{Fetch, Apply, Participate, OptOut, OptIn, Reset, Show, Feature, Event, Confirm, Bind, SetPreference, ClearPreference, WriteManifest}
@@ -28,16 +26,16 @@ use Rattle.client_steps.specs.Manifests.{manifest_of}
 use Rattle.client_steps.specs.Sessions.{with_manifest, with_context, with_bindings}
 use Rattle.client_steps.specs.Settings.{Setting}
 use Rattle.client_steps.specs.Soundness.{HasVersion, HasLinked, HasBindings, IsSession, IsLawfulManifest, IsLawfulContext, IsLawfulBindings, IsLawful}
-use Rattle.client_steps.specs.Steps.{OutcomeOver, EnrolmentOutcome, Outcome, Accepted, Refused, whole, seeing, preferring, participation, resetting, opting_out, opting_in, fetching, context_read, reading_context, bindings_read, reading_bindings, setting_manifest, applying, valued, serving, writing_manifest, outcome, done, step}
+use Rattle.client_steps.specs.Steps.{OutcomeOver, EnrolmentOutcome, Outcome, Accepted, Refused, whole, seeing, preferring, participation, resetting, opting_out, opting_in, fetching, context_read, reading_context, bindings_read, reading_bindings, setting_manifest, applying, outcome, done, step}
 use Rattle.client_steps.proofs.LinkedManifests.{manifest_linked}
 use Rattle.client_steps.proofs.ReadContexts.{context_version}
 use Rattle.client_steps.proofs.ReadFiles.{file_sound}
 use Rattle.client_steps.proofs.EnrolmentOutcomes.{fetching_either, applying_either, opting_out_either, opting_in_either}
-use Rattle.client_steps.proofs.Outcomes.{either_step, counting_either, confirming_either}
+use Rattle.client_steps.proofs.Outcomes.{either_step, of_feature, of_written, counting_either, confirming_either}
 use Rattle.client_steps.proofs.Stepping.{whole_either, preferring_either}
 
--- what each session keeps that has a manifest that links, or the context or the bindings of a sound tree, where it has others than before
-module _ (P : Session → Type 0) (at : Setting) (s : ClientState) (session : Session) (was : P session) (links : (file channel : List ℕ) (manifest : Manifest) → manifest_of at.files file channel ≡ Ok manifest → P (with_manifest session manifest)) (takes : (tree : Json) (context : Context) → IsSound tree → context_of tree ≡ Ok context → P (with_context session context)) (binds : (tree : Json) (bindings : List Binding) → IsSound tree → bindings_of tree ≡ Ok bindings → P (with_bindings session bindings)) where
+-- what each session keeps that has the context or the bindings of a sound tree, where it has others than before
+module _ (P : Session → Type 0) (at : Setting) (s : ClientState) (session : Session) (was : P session) (takes : (tree : Json) (context : Context) → IsSound tree → context_of tree ≡ Ok context → P (with_context session context)) (binds : (tree : Json) (bindings : List Binding) → IsSound tree → bindings_of tree ≡ Ok bindings → P (with_bindings session bindings)) where
   abbrev Carries : {S : Type 0} → OutcomeOver S → Type 0
   Carries (Accepted t next answer) = P next
   Carries (Refused refusal) = Unit {0}
@@ -69,45 +67,37 @@ module _ (P : Session → Type 0) (at : Setting) (s : ClientState) (session : Se
   preferring-carries : (name : List ℕ) (value : Option Tree) → Carries (preferring s session name value)
   preferring-carries name value = preferring_either (λ (asked : Outcome). Carries asked) s session name value tt (λ free. was) (λ holder held fits. was)
 
-  manifest-carries : (file channel : List ℕ) (read : Result Manifest Refusal) → manifest_of at.files file channel ≡ read → Carries (setting_manifest s session read)
-  manifest-carries file channel (Ok manifest) is = links file channel manifest is
-  manifest-carries file channel (Err refusal) is = tt
+  -- the session keeps it with the manifest of `manifest` as well
+  abbrev Links : Command → Type 0
+  Links command = (file channel : List ℕ) (manifest : Manifest) → command ≡ commands.Manifest file channel → manifest_of at.files file channel ≡ Ok manifest → P (with_manifest session manifest)
 
-  value-carries : (found : Option TypedValue) → Carries (valued s session found)
-  value-carries None = tt
-  value-carries (Some value) = was
+  manifest-carries : (file channel : List ℕ) (read : Result Manifest Refusal) → Links (commands.Manifest file channel) → manifest_of at.files file channel ≡ read → Carries (setting_manifest s session read)
+  manifest-carries file channel (Ok manifest) links is = links file channel manifest refl is
+  manifest-carries file channel (Err refusal) links is = tt
 
-  feature-carries : (name : List ℕ) (manifest : Option Manifest) → Carries (serving s session name manifest)
-  feature-carries name None = tt
-  feature-carries name (Some manifest) = value-carries (served manifest s.enrolment name)
+  outcome-carries : (command : Command) → Links command → Carries (outcome at s session command)
+  outcome-carries (commands.Manifest file channel) links = manifest-carries file channel (manifest_of at.files file channel) links refl
+  outcome-carries (commands.Context file) links = file-carries (file_tree file (at.files file)) (file_sound file (at.files file))
+  outcome-carries (Fetch file) links = whole-carries s.events (fetching s.enrolment session (file_tree file (at.files file))) (fetching_either s.enrolment session (λ (asked : EnrolmentOutcome). Carries asked) (λ refusal. tt) (file_tree file (at.files file)) (λ tree found is loads. was))
+  outcome-carries Apply links = whole-carries s.events (applying at.now s.enrolment session session.manifest (seeing at.now s.events session.context)) (applying_either s.enrolment session (λ (asked : EnrolmentOutcome). Carries asked) (λ refusal. tt) at.now session.manifest (seeing at.now s.events session.context) (λ m c. was))
+  outcome-carries (Participate kinds on) links = whole-carries s.events (participation s.enrolment session kinds on) was
+  outcome-carries (OptOut slug) links = whole-carries s.events (opting_out s.enrolment session slug) (opting_out_either s.enrolment session (λ (asked : EnrolmentOutcome). Carries asked) (λ refusal. tt) slug was)
+  outcome-carries (OptIn slug branch) links = whole-carries s.events (opting_in s.enrolment session slug branch) (opting_in_either s.enrolment session (λ (asked : EnrolmentOutcome). Carries asked) (λ refusal. tt) slug branch was)
+  outcome-carries (Reset id) links = whole-carries [] (resetting s.enrolment session id) was
+  outcome-carries Show links = was
+  outcome-carries (Feature name) links = of_feature at s session (λ (asked : Outcome). Carries asked) (λ refusal. tt) (λ answer. was) name session.manifest
+  outcome-carries (Event name count) links = counting_either at s session (λ (asked : Outcome). Carries asked) (λ refusal. tt) name count (λ room. was)
+  outcome-carries commands.Changes links = was
+  outcome-carries (Confirm number) links = confirming_either at s session (λ (asked : Outcome). Carries asked) (λ refusal. tt) number (λ known. was)
+  outcome-carries (Bind file) links = bind-carries (file_tree file (at.files file)) (file_sound file (at.files file))
+  outcome-carries (SetPreference name value) links = preferring-carries name (Some value)
+  outcome-carries (ClearPreference name) links = preferring-carries name None
+  outcome-carries commands.Preferences links = was
+  outcome-carries WriteManifest links = of_written at s session (λ (asked : Outcome). Carries asked) (λ refusal. tt) (λ manifest. was) session.manifest
 
-  written-carries : (manifest : Option Manifest) → Carries (writing_manifest s session manifest)
-  written-carries None = tt
-  written-carries (Some manifest) = was
-
-  outcome-carries : (command : Command) → Carries (outcome at s session command)
-  outcome-carries (commands.Manifest file channel) = manifest-carries file channel (manifest_of at.files file channel) refl
-  outcome-carries (commands.Context file) = file-carries (file_tree file (at.files file)) (file_sound file (at.files file))
-  outcome-carries (Fetch file) = whole-carries s.events (fetching s.enrolment session (file_tree file (at.files file))) (fetching_either s.enrolment session (λ (asked : EnrolmentOutcome). Carries asked) (λ refusal. tt) (file_tree file (at.files file)) (λ tree found is loads. was))
-  outcome-carries Apply = whole-carries s.events (applying at.now s.enrolment session session.manifest (seeing at.now s.events session.context)) (applying_either s.enrolment session (λ (asked : EnrolmentOutcome). Carries asked) (λ refusal. tt) at.now session.manifest (seeing at.now s.events session.context) (λ m c. was))
-  outcome-carries (Participate kinds on) = whole-carries s.events (participation s.enrolment session kinds on) was
-  outcome-carries (OptOut slug) = whole-carries s.events (opting_out s.enrolment session slug) (opting_out_either s.enrolment session (λ (asked : EnrolmentOutcome). Carries asked) (λ refusal. tt) slug was)
-  outcome-carries (OptIn slug branch) = whole-carries s.events (opting_in s.enrolment session slug branch) (opting_in_either s.enrolment session (λ (asked : EnrolmentOutcome). Carries asked) (λ refusal. tt) slug branch was)
-  outcome-carries (Reset id) = whole-carries [] (resetting s.enrolment session id) was
-  outcome-carries Show = was
-  outcome-carries (Feature name) = feature-carries name session.manifest
-  outcome-carries (Event name count) = counting_either at s session (λ (asked : Outcome). Carries asked) (λ refusal. tt) name count (λ room. was)
-  outcome-carries commands.Changes = was
-  outcome-carries (Confirm number) = confirming_either at s session (λ (asked : Outcome). Carries asked) (λ refusal. tt) number (λ known. was)
-  outcome-carries (Bind file) = bind-carries (file_tree file (at.files file)) (file_sound file (at.files file))
-  outcome-carries (SetPreference name value) = preferring-carries name (Some value)
-  outcome-carries (ClearPreference name) = preferring-carries name None
-  outcome-carries commands.Preferences = was
-  outcome-carries WriteManifest = written-carries session.manifest
-
-  step-carries : (command : Command) → P (step at s session command).session
+  pub step-carries : (command : Command) → Links command → P (step at s session command).session
   unfolding step
-  step-carries command = done-carries (outcome at s session command) (outcome-carries command)
+  step-carries command links = done-carries (outcome at s session command) (outcome-carries command links)
 
 version_of_tree : (tree : Json) (context : Context) → IsSound tree → context_of tree ≡ Ok context → IsUtf8 (version_of context)
 version_of_tree tree context sound is = subst (λ (read : Result Context ContextKey). IfOk read (λ c. IsUtf8 (version_of c))) is (context_version tree sound)
@@ -115,25 +105,22 @@ version_of_tree tree context sound is = subst (λ (read : Result Context Context
 -- the bindings that a tree is
 bindings_are : (tree : Json) (bindings : List Binding) → bindings_of tree ≡ Ok bindings → AreBindings bindings
 unfolding bindings_of
-bindings_are json.null bindings is = absurd cc
-bindings_are (json.truth b) bindings is = absurd cc
-bindings_are (json.whole n) bindings is = absurd cc
-bindings_are json.odd bindings is = absurd cc
-bindings_are (json.text s) bindings is = absurd cc
-bindings_are (json.list xs) bindings is = absurd cc
 bindings_are (json.object ms) bindings is = read_are bindings ms is
+bindings_are tree bindings is = absurd cc
 
 pub step_keeps_texts : (at : Setting) (s : ClientState) (session : Session) (command : Command) → IsSession session → IsSession (step at s session command).session
 step_keeps_texts at s session command was =
-    step-carries IsSession at s session was (λ file channel manifest is. record { manifest = manifest_linked at.files file channel manifest is; context = was.context; bindings = was.bindings })
+    step-carries IsSession at s session was
     (λ tree context sound is. record { manifest = was.manifest; context = version_of_tree tree context sound is; bindings = was.bindings })
-    (λ tree bindings sound is. record { manifest = was.manifest; context = was.context; bindings = bindings_are tree bindings is }) command
+    (λ tree bindings sound is. record { manifest = was.manifest; context = was.context; bindings = bindings_are tree bindings is })
+    command (λ file channel manifest asks is. record { manifest = manifest_linked at.files file channel manifest is; context = was.context; bindings = was.bindings })
 
 pub step_keeps_lawful : (at : Setting) (s : ClientState) (session : Session) (command : Command) → IsLawful session → IsLawful (step at s session command).session
 step_keeps_lawful at s session command was =
-    step-carries IsLawful at s session was (λ file channel manifest is. record { manifest = record { files = at.files; first = file; channel = channel; links = is }; context = was.context; bindings = was.bindings })
+    step-carries IsLawful at s session was
     (λ tree context sound is. record { manifest = was.manifest; context = (tree, sound, is); bindings = was.bindings })
-    (λ tree bindings sound is. record { manifest = was.manifest; context = was.context; bindings = (tree, sound, is) }) command
+    (λ tree bindings sound is. record { manifest = was.manifest; context = was.context; bindings = (tree, sound, is) })
+    command (λ file channel manifest asks is. record { manifest = record { files = at.files; first = file; channel = channel; links = is }; context = was.context; bindings = was.bindings })
 
 has_linked : (manifest : Option Manifest) → IsLawfulManifest manifest → HasLinked manifest
 has_linked None lawful = tt

@@ -4,6 +4,7 @@ mod Payloads
 pub mod Stepping
 pub mod Outcomes
 pub mod EnrolmentOutcomes
+mod FoundValues
 mod JoinValues
 pub mod FollowedPreferences
 mod CountedEvents
@@ -18,7 +19,7 @@ mod ReadRecords
 mod ReadContexts
 mod KeptRecords
 mod LinkedManifests
-mod Lawfulness
+pub mod Lawfulness
 pub mod Soundness
 pub mod ServedValues
 mod Trees

@@ -1,5 +1,5 @@
 -- The outbox with the changes of enrolments, and without those that are confirmed.
-use Rattle.std.proofs.Common.{Less, Equal, Greater, ◌≡◌, ℕ, ◌+◌, ◌-◌, ◌<◌, ◌≤◌, true, false, List, [], ◌∷◌, ◌++◌, length, drop, Option, Some, None, refl, sym, ap, ap₂, ◌∙◌, subst, arith}
+use Rattle.std.proofs.Common.{Less, Equal, Greater, ◌≡◌, ℕ, ◌+◌, ◌-◌, ◌<◌, true, false, List, [], ◌∷◌, ◌++◌, length, Option, Some, None, refl, sym, ap, ap₂, ◌∙◌, subst, arith}
 use Rattle.std.specs.Prelude.{All, bytes_eq, fold, option_and_then, if◌then◌else◌, ⊤}
 use Rattle.std.specs.BTreeSet.{insert_key}
 use Rattle.std.specs.Cmp.Lexicographic.{bytes_decides}
@@ -17,7 +17,7 @@ use Rattle.enrol_states.specs.declared.state.State.{State}
 use Rattle.enrol_states.specs.declared.status.Status.{Status}
 use Rattle.enrol_states.specs.declared.status.Status.TheVariants as statuses
 use Rattle.change_outbox.specs.Changes.{all_slugs, branch_of, changes_between, join, leave, slug_changes}
-use Rattle.change_outbox.specs.Contents.{Contents, HasSlugs, HaveSlugs, IsSound, appended, confirmed, last_number}
+use Rattle.change_outbox.specs.Contents.{Contents, HaveSlugs, IsSound, appended, confirmed, last_number}
 use Rattle.change_outbox.specs.declared.change.Change.{Change}
 use Rattle.change_outbox.proofs.Numbers.{above-drop, appended_sound, last_sound}
 use Rattle.client_state.specs.Following.{appended_changes, changes_from, is_spent}
@@ -50,10 +50,7 @@ IsBranch (Some branch) = IsSlug branch
 
 status_branch : (status : Status) → IsStatus status → IsBranch (enrolled_branch status)
 status_branch (statuses.Enrolled reason branch) is = is
-status_branch (statuses.NotEnrolled reason) is = tt
-status_branch (statuses.Disqualified reason branch) is = tt
-status_branch (statuses.WasEnrolled branch ended) is = tt
-status_branch (statuses.Error cause) is = tt
+status_branch status is = tt
 
 row_branch : (slug : List ℕ) (rows : List Row) → All (λ (row : Row). IsStatus row.status) rows → IsBranch (branch_of slug rows)
 row_branch slug [] are = tt

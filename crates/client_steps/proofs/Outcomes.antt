@@ -1,6 +1,7 @@
 -- What holds of all that a command may ask for holds of what it asks for.
 use Rattle.std.proofs.Common.{◌≡◌, ℕ, Bool, true, false, List, Option, Some, None, Result, Ok, Err}
 use Rattle.std.specs.Prelude.{nat_le, ⊤, if◌then◌else◌}
+use Rattle.json_tree.specs.Inverse.{tree_from}
 use Rattle.json_tree.specs.Json.{Json}
 use Rattle.app_context.specs.Contexts.{context_of}
 use Rattle.app_context.specs.declared.context.Context.{Context}
@@ -11,12 +12,14 @@ use Rattle.pref_bindings.specs.declared.bindings.Binding.{Binding}
 use Rattle.enrol_states.specs.declared.state.State.{State}
 use Rattle.event_counts.specs.Kept.{counted_in}
 use Rattle.event_counts.specs.declared.name_counts.NameCounts.{NameCounts}
+use Rattle.fml_imports.specs.Single.{single}
 use Rattle.fml_types.specs.declared.manifest.Manifest.{Manifest}
 use Rattle.fml_value.specs.Typed.{TypedValue}
 use Rattle.feature_serving.specs.Serving.{served}
 use Rattle.client_state.specs.declared.client_state.ClientState.{ClientState}
 use Rattle.client_words.specs.declared.answer.Answer.{Answer}
 use Rattle.client_words.specs.declared.answer.Answer.TheVariants.{Okay}
+use Rattle.client_words.specs.declared.answer.Answer.TheVariants as answers
 use Rattle.client_words.specs.declared.refusal.Refusal.{Refusal}
 use Rattle.client_words.specs.declared.refusal.Refusal.TheVariants.{ChangesSpent, EventLimit, NoSuchChange}
 use Rattle.client_words.specs.declared.command.Command.{Command}
@@ -25,8 +28,9 @@ use Rattle.client_words.specs.declared.command.Command.TheVariants as commands
 use Rattle.client_steps.specs.declared.session.Session.{Session}
 use Rattle.client_steps.specs.Fetching.{file_tree}
 use Rattle.client_steps.specs.Manifests.{manifest_of}
+use Rattle.client_steps.specs.Sessions.{with_bindings, with_context, with_manifest}
 use Rattle.client_steps.specs.Settings.{Setting}
-use Rattle.client_steps.specs.Steps.{EnrolmentOutcome, Outcome, Accepted, Refused, Step, with_enrolment, whole, enrolling, seeing, has_no_room_for, counting, confirming, participation, opting_out, opting_in, fetching, context_read, reading_context, bindings_read, reading_bindings, setting_manifest, applying, valued, serving, writing_manifest, outcome}
+use Rattle.client_steps.specs.Steps.{EnrolmentOutcome, Outcome, Accepted, Refused, Step, with_enrolment, whole, seeing, has_no_room_for, counting, confirming, participation, opting_out, opting_in, fetching, context_read, reading_context, bindings_read, reading_bindings, setting_manifest, applying, valued, serving, writing_manifest, outcome}
 use Rattle.client_steps.proofs.Stepping.{either, whole_either}
 
 pub either_step : (P : Step → Type 0) (b : Bool) (x y : Step) → P x → P y → P (if b then x else y)
@@ -55,50 +59,57 @@ LeavesCounts (OptIn slug branch) = ⊤
 LeavesCounts command = LeavesState command
 
 module _ (at : Setting) (s : ClientState) (session : Session) (P : Outcome → Type 0) (refused : (refusal : Refusal) → P (Refused refusal)) where
-  -- ---- the state stays
+  -- ---- a file is read
 
-  module _ (stays : (next : Session) (answer : Answer) → P (Accepted s next answer)) where
-    of_manifest : (read : Result Manifest Refusal) → P (setting_manifest s session read)
-    of_manifest (Ok manifest) = stays _ _
-    of_manifest (Err refusal) = refused refusal
+  pub of_manifest : ((manifest : Manifest) → P (Accepted s (with_manifest session manifest) Okay)) → (read : Result Manifest Refusal) → P (setting_manifest s session read)
+  of_manifest sets (Ok manifest) = sets manifest
+  of_manifest sets (Err refusal) = refused refusal
 
+  module _ (takes : (context : Context) → P (Accepted s (with_context session context) Okay)) where
     of_context : (read : Result Context ContextKey) → P (context_read s session read)
-    of_context (Ok context) = stays _ _
+    of_context (Ok context) = takes context
     of_context (Err key) = refused _
 
-    of_context_file : (read : Result Json Refusal) → P (reading_context s session read)
+    pub of_context_file : (read : Result Json Refusal) → P (reading_context s session read)
     of_context_file (Ok tree) = of_context (context_of tree)
     of_context_file (Err refusal) = refused refusal
 
+  module _ (binds : (bindings : List Binding) → P (Accepted s (with_bindings session bindings) Okay)) where
     of_bindings : (read : Result (List Binding) (List ℕ)) → P (bindings_read s session read)
-    of_bindings (Ok bindings) = stays _ _
+    of_bindings (Ok bindings) = binds bindings
     of_bindings (Err feature) = refused _
 
-    of_bindings_file : (read : Result Json Refusal) → P (reading_bindings s session read)
+    pub of_bindings_file : (read : Result Json Refusal) → P (reading_bindings s session read)
     of_bindings_file (Ok tree) = of_bindings (bindings_of tree)
     of_bindings_file (Err refusal) = refused refusal
 
+  -- ---- the manifest is asked
+
+  module _ (gives : (answer : Answer) → P (Accepted s session answer)) where
     of_value : (found : Option TypedValue) → P (valued s session found)
     of_value None = refused _
-    of_value (Some value) = stays _ _
+    of_value (Some value) = gives _
 
-    of_feature : (name : List ℕ) (manifest : Option Manifest) → P (serving s session name manifest)
+    pub of_feature : (name : List ℕ) (manifest : Option Manifest) → P (serving s session name manifest)
     of_feature name None = refused _
     of_feature name (Some manifest) = of_value (served manifest s.enrolment name)
 
-    of_written : (manifest : Option Manifest) → P (writing_manifest s session manifest)
-    of_written None = refused _
-    of_written (Some manifest) = stays _ _
+  pub of_written : ((manifest : Manifest) → P (Accepted s session (answers.Manifest (tree_from (single manifest))))) → (manifest : Option Manifest) → P (writing_manifest s session manifest)
+  of_written writes None = refused _
+  of_written writes (Some manifest) = writes manifest
 
+  -- ---- the state stays
+
+  module _ (stays : (next : Session) (answer : Answer) → P (Accepted s next answer)) where
     pub leaving_either : (command : Command) → LeavesState command → P (outcome at s session command)
-    leaving_either (commands.Manifest file channel) leaves = of_manifest (manifest_of at.files file channel)
-    leaving_either (commands.Context file) leaves = of_context_file (file_tree file (at.files file))
+    leaving_either (commands.Manifest file channel) leaves = of_manifest (λ manifest. stays _ _) (manifest_of at.files file channel)
+    leaving_either (commands.Context file) leaves = of_context_file (λ context. stays _ _) (file_tree file (at.files file))
     leaving_either Show leaves = stays _ _
-    leaving_either (Feature name) leaves = of_feature name session.manifest
+    leaving_either (Feature name) leaves = of_feature (stays session) name session.manifest
     leaving_either commands.Changes leaves = stays _ _
-    leaving_either (Bind file) leaves = of_bindings_file (file_tree file (at.files file))
+    leaving_either (Bind file) leaves = of_bindings_file (λ bindings. stays _ _) (file_tree file (at.files file))
     leaving_either commands.Preferences leaves = stays _ _
-    leaving_either WriteManifest leaves = of_written session.manifest
+    leaving_either WriteManifest leaves = of_written (λ manifest. stays _ _) session.manifest
     leaving_either command leaves = absurd leaves
 
   -- ---- the enrolment changes

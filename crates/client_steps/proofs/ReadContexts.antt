@@ -11,6 +11,7 @@ use Rattle.app_context.specs.declared.context.Context.{Context}
 use Rattle.app_context.specs.declared.key.ContextKey.{ContextKey}
 use Rattle.app_context.specs.declared.key.ContextKey.TheVariants.{AppVersion}
 use Rattle.enrol_evolver.specs.Evolution.{version_of}
+use Rattle.client_steps.proofs.FoundValues.{chosen}
 
 -- the texts under names are in UTF-8
 abbrev AreTexts : List (List ℕ × List ℕ) → Type 0
@@ -26,34 +27,20 @@ text_when true name s u = (u, tt)
 text_when false name s u = tt
 
 text_where_texts : (test : List ℕ → Bool) (name : List ℕ) (x : Json) → IsSound x → AreTexts (text_where test name x)
-text_where_texts test name json.null h = tt
-text_where_texts test name (json.truth b) h = tt
-text_where_texts test name (json.whole n) h = tt
-text_where_texts test name json.odd h = tt
 text_where_texts test name (json.text s) h = text_when (test name) name s h
-text_where_texts test name (json.list xs) h = tt
-text_where_texts test name (json.object ms) h = tt
+text_where_texts test name x h = tt
 
 texts_where_texts : (test : List ℕ → Bool) (ms : Members) → AreSoundMembers ms → AreTexts (texts_where test ms)
 texts_where_texts test no_members h = tt
 texts_where_texts test (member k x ms) h = append_texts (text_where test k x) (texts_where test ms) (text_where_texts test k x h.2) (texts_where_texts test ms h.3)
 
 members_in_sound : (x : Json) → IsSound x → AreSoundMembers (members_in (Some x))
-members_in_sound json.null h = tt
-members_in_sound (json.truth b) h = tt
-members_in_sound (json.whole n) h = tt
-members_in_sound json.odd h = tt
-members_in_sound (json.text s) h = tt
-members_in_sound (json.list xs) h = tt
 members_in_sound (json.object ms) h = h
-
-chosen : (same : Bool) (s : List ℕ) (rest : Option (List ℕ)) → IsUtf8 s → IfSome rest IsUtf8 → IfSome (if same then Some s else rest) IsUtf8
-chosen true s rest u h = u
-chosen false s rest u h = h
+members_in_sound x h = tt
 
 text_with_utf8 : (name : List ℕ) (ps : List (List ℕ × List ℕ)) → AreTexts ps → IfSome (text_with name ps) IsUtf8
 text_with_utf8 name [] h = tt
-text_with_utf8 name (p ∷ ps) h = chosen (bytes_eq p.0 name) p.1 (text_with name ps) h.0 (text_with_utf8 name ps h.1)
+text_with_utf8 name (p ∷ ps) h = chosen IsUtf8 (bytes_eq p.0 name) p.1 (text_with name ps) h.0 (text_with_utf8 name ps h.1)
 
 or_empty : (o : Option (List ℕ)) → IfSome o IsUtf8 → IsUtf8 (unwrap_or o [])
 or_empty None h = IsUtf8-nil

@@ -1,10 +1,10 @@
 -- The recipes of a sound payload have sound records.
 use Rattle.std.proofs.Common.{◌≡◌, ◌<◌, ◌^◌, ℕ, ◌+◌, ◌&&◌, Bool, true, false, pos, negsuc, ℤ, nat_le, List as Seq, [], ◌∷◌, map, Option, Some, None, Result, Ok, Err, refl, sym, subst, arith, rules, leb-true}
 use Rattle.std.proofs.lemmas.Bool.{and_parts}
-use Rattle.std.specs.Prelude.{IfSome, IfOk, IsUtf8, codes, not, bytes_eq, option_and_then, if◌then◌else◌}
+use Rattle.std.specs.Prelude.{IfSome, IfOk, IsUtf8, codes, not, option_and_then, if◌then◌else◌}
 use Rattle.std.specs.Ordering.{is_lt}
 use Rattle.json_tree.specs.Json as json
-use Rattle.json_tree.specs.Json.{Json, Items, no_items, item, Members, no_members, member, items_of, get_member, get, IsSound, AreSoundItems, AreSoundMembers}
+use Rattle.json_tree.specs.Json.{Json, Items, no_items, item, items_of, get, IsSound, AreSoundItems}
 use Rattle.json_tree.specs.Tree.{json_of}
 use Rattle.json_tree.specs.declared.tree.Tree.{Tree}
 use Rattle.plain_text.specs.Names.{is_name}
@@ -30,48 +30,20 @@ use Rattle.recipe_reader.proofs.FieldsAgain.{fields_of_parts, bucket_of_parts}
 use Rattle.recipe_reader.proofs.RecordSums.{record_sound, branch_sound}
 use Rattle.json_tree.proofs.Trees.{same_values}
 use Rattle.state_codec.specs.Sound.{AreRecords}
+use Rattle.client_steps.proofs.FoundValues.{get_sound}
 
 -- ---- what stands under a key
 
-chosen : (same : Bool) (x : Json) (rest : Option Json) → IsSound x → IfSome rest IsSound → IfSome (if same then Some x else rest) IsSound
-chosen true x rest here there = here
-chosen false x rest here there = there
-
-member_sound : (k : Seq ℕ) (ms : Members) → AreSoundMembers ms → IfSome (get_member k ms) IsSound
-member_sound k no_members h = tt
-member_sound k (member l x ms) h = chosen (bytes_eq l k) x (get_member k ms) h.2 (member_sound k ms h.3)
-
-pub get-sound : (k : Seq ℕ) (x : Json) → IsSound x → IfSome (get k x) IsSound
-get-sound k json.null h = tt
-get-sound k (json.truth b) h = tt
-get-sound k (json.whole n) h = tt
-get-sound k json.odd h = tt
-get-sound k (json.text s) h = tt
-get-sound k (json.list xs) h = tt
-get-sound k (json.object ms) h = member_sound k ms h
-
 text_sound : (x : Option Json) → IfSome x IsSound → IfSome (option_and_then as_text x) IsUtf8
-text_sound None h = tt
-text_sound (Some json.null) h = tt
-text_sound (Some (json.truth b)) h = tt
-text_sound (Some (json.whole n)) h = tt
-text_sound (Some json.odd) h = tt
 text_sound (Some (json.text s)) h = h
-text_sound (Some (json.list xs)) h = tt
-text_sound (Some (json.object ms)) h = tt
+text_sound x h = tt
 
 text_at-sound : (k : Seq ℕ) (x : Json) → IsSound x → IfSome (text_at k x) IsUtf8
-text_at-sound k x h = text_sound (get k x) (get-sound k x h)
+text_at-sound k x h = text_sound (get k x) (get_sound k x h)
 
 list_sound : (x : Option Json) → IfSome x IsSound → IfSome (option_and_then as_list x) AreSoundItems
-list_sound None h = tt
-list_sound (Some json.null) h = tt
-list_sound (Some (json.truth b)) h = tt
-list_sound (Some (json.whole n)) h = tt
-list_sound (Some json.odd) h = tt
-list_sound (Some (json.text s)) h = tt
 list_sound (Some (json.list xs)) h = h
-list_sound (Some (json.object ms)) h = tt
+list_sound x h = tt
 
 present_when : (there : Bool) (x : Json) → IsSound x → IfSome (only_if there x) IsSound
 present_when true x h = h
@@ -96,14 +68,8 @@ within_sound (pos n) low high small = count_when low high n (nat_le low n && nat
 within_sound (negsuc n) low high small = tt
 
 count_sound : (low high : ℕ) (x : Option Json) → high < 2 ^ 63 → IfSome (option_and_then (as_count low high) x) IsCount
-count_sound low high None small = tt
-count_sound low high (Some json.null) small = tt
-count_sound low high (Some (json.truth b)) small = tt
 count_sound low high (Some (json.whole n)) small = within_sound n low high small
-count_sound low high (Some json.odd) small = tt
-count_sound low high (Some (json.text s)) small = tt
-count_sound low high (Some (json.list xs)) small = tt
-count_sound low high (Some (json.object ms)) small = tt
+count_sound low high x small = tt
 
 -- ---- texts that pass a test
 
@@ -128,14 +94,8 @@ abbrev HasFields : Fields → Type 0
 HasFields f = IsText f.app_name × IsText f.channel × IsText f.targeting × IsText f.published
 
 optional_sound : (x : Option Json) → IfSome x IsSound → IfSome (optional_text x) IsText
-optional_sound None h = tt
-optional_sound (Some json.null) h = tt
-optional_sound (Some (json.truth b)) h = tt
-optional_sound (Some (json.whole n)) h = tt
-optional_sound (Some json.odd) h = tt
 optional_sound (Some (json.text s)) h = h
-optional_sound (Some (json.list xs)) h = tt
-optional_sound (Some (json.object ms)) h = tt
+optional_sound x h = tt
 
 kept_when : (keeps : Bool) (s : Seq ℕ) → IsUtf8 s → IsText (only_if keeps s)
 kept_when true s u = u
@@ -146,18 +106,13 @@ kept_sound test None h = tt
 kept_sound test (Some s) h = kept_when (test s) s h
 
 fields_of_sound : (a c t p : Option (Option (Seq ℕ))) (ro pa : Option Bool) → IfSome a IsText → IfSome c IsText → IfSome t IsText → IfSome p IsText → IfOk (fields_of_parts a c t p ro pa) HasFields
-fields_of_sound None c t p ro pa ha hc ht hp = tt
-fields_of_sound (Some a) None t p ro pa ha hc ht hp = tt
-fields_of_sound (Some a) (Some c) None p ro pa ha hc ht hp = tt
-fields_of_sound (Some a) (Some c) (Some t) None ro pa ha hc ht hp = tt
-fields_of_sound (Some a) (Some c) (Some t) (Some p) None pa ha hc ht hp = tt
-fields_of_sound (Some a) (Some c) (Some t) (Some p) (Some ro) None ha hc ht hp = tt
 fields_of_sound (Some a) (Some c) (Some t) (Some p) (Some ro) (Some pa) ha hc ht hp = (kept_sound has_bytes a ha, kept_sound has_bytes c hc, kept_sound has_more_than_blanks t ht, kept_sound is_moment p hp)
+fields_of_sound a c t p ro pa ha hc ht hp = tt
 
 fields_sound : (x : Json) → IsSound x → IfOk (fields_in x) HasFields
 unfolding fields_in
 fields_sound x h =
-    let at = λ (k : Seq ℕ). optional_sound (get k x) (get-sound k x h) in
+    let at = λ (k : Seq ℕ). optional_sound (get k x) (get_sound k x h) in
     fields_of_sound (optional_text (get (codes "appName") x)) (optional_text (get (codes "channel") x)) (optional_text (get (codes "targeting") x)) (optional_text (get (codes "publishedDate") x)) (optional_truth (get (codes "isRollout") x)) (truth_or_absent (get (codes "isEnrollmentPaused") x))
     (at (codes "appName")) (at (codes "channel")) (at (codes "targeting")) (at (codes "publishedDate"))
 
@@ -174,12 +129,8 @@ bucket_record : (b : Bucket) → IsUtf8 b.unit → IsUtf8 b.namespace → IsCoun
 bucket_record b unit namespace start count total = (search rules, search rules, count, (search rules, search rules, namespace, (search rules, search rules, unit, (search rules, search rules, start, (search rules, tt, total, tt)))))
 
 bucket_of_sound : (u n : Result (Seq ℕ) SkipReason) (s c t : Option ℕ) → IfOk u IsUtf8 → IfOk n IsUtf8 → IfSome s IsCount → IfSome c IsCount → IfSome t IsCount → IfOk (bucket_of_parts u n s c t) IsBucket
-bucket_of_sound (Err r) n s c t hu hn hs hc ht = tt
-bucket_of_sound (Ok u) (Err r) s c t hu hn hs hc ht = tt
-bucket_of_sound (Ok u) (Ok n) None c t hu hn hs hc ht = tt
-bucket_of_sound (Ok u) (Ok n) (Some s) None t hu hn hs hc ht = tt
-bucket_of_sound (Ok u) (Ok n) (Some s) (Some c) None hu hn hs hc ht = tt
 bucket_of_sound (Ok u) (Ok n) (Some s) (Some c) (Some t) hu hn hs hc ht = bucket_record (record { unit = u; namespace = n; start = s; count = c; total = t }) hu hn hs hc ht
+bucket_of_sound u n s c t hu hn hs hc ht = tt
 
 bucket_sound : (x : Json) → IsSound x → IfOk (bucket_of x) IsBucket
 unfolding bucket_of
@@ -194,7 +145,7 @@ from_sound r P Q read each (Some a) h = each a h
 
 bucket_in-sound : (x : Json) → IsSound x → IfOk (bucket_in x) IsBucket
 unfolding bucket_in
-bucket_in-sound x h = from_sound _ IsSound IsBucket bucket_of bucket_sound (get (codes "bucketConfig") x) (get-sound (codes "bucketConfig") x h)
+bucket_in-sound x h = from_sound _ IsSound IsBucket bucket_of bucket_sound (get (codes "bucketConfig") x) (get_sound (codes "bucketConfig") x h)
 
 -- ---- lists
 
@@ -246,7 +197,7 @@ feature_of_sound (Some id) v u h = named_sound id (is_name id) v u h
 feature_sound : (x : Json) → IsSound x → IfOk (feature_of x) (λ f. IsSound (feature_json f))
 unfolding feature_of
 feature_sound x h =
-    feature_of_sound (text_at (codes "featureId") x) (value_of (present (get (codes "value") x))) (text_at-sound (codes "featureId") x h) (value_sound (present (get (codes "value") x)) (present_sound (get (codes "value") x) (get-sound (codes "value") x h)))
+    feature_of_sound (text_at (codes "featureId") x) (value_of (present (get (codes "value") x))) (text_at-sound (codes "featureId") x h) (value_sound (present (get (codes "value") x)) (present_sound (get (codes "value") x) (get_sound (codes "value") x h)))
 
 features_sound : (xs : Items) → AreSoundItems xs → IfOk (features_of xs) (AreSound feature_json)
 unfolding features_of
@@ -264,26 +215,19 @@ single_sound (Some x) h = one_feature (feature_of x) (feature_sound x h)
 listed_sound : (l one : Option Json) → IfSome l IsSound → IfSome one IsSound → IfOk (listed l one) (AreSound feature_json)
 unfolding listed
 listed_sound None one h k = single_sound one k
-listed_sound (Some json.null) one h k = tt
-listed_sound (Some (json.truth b)) one h k = tt
-listed_sound (Some (json.whole n)) one h k = tt
-listed_sound (Some json.odd) one h k = tt
-listed_sound (Some (json.text s)) one h k = tt
 listed_sound (Some (json.list xs)) one h k = features_sound xs h
-listed_sound (Some (json.object ms)) one h k = tt
+listed_sound l one h k = tt
 
 -- ---- branches
 
 branch_of_sound : (s : Result (Seq ℕ) SkipReason) (r : Option ℕ) (fs : Result (Seq FeatureValue) SkipReason) → IfOk s IsUtf8 → IfSome r IsCount → IfOk fs (AreSound feature_json) → IfOk (branch_of_parts s r fs) (λ b. IsSound (branch_json b))
-branch_of_sound (Err d) r fs hs hr hf = tt
-branch_of_sound (Ok s) None fs hs hr hf = tt
-branch_of_sound (Ok s) (Some r) (Err d) hs hr hf = tt
 branch_of_sound (Ok s) (Some r) (Ok fs) hs hr hf = branch_sound (record { slug = s; ratio = r; features = fs }) hf hr hs
+branch_of_sound s r fs hs hr hf = tt
 
 branch_in-sound : (x : Json) → IsSound x → IfOk (branch_of x) (λ b. IsSound (branch_json b))
 unfolding branch_of
 branch_in-sound x h =
-    let at = λ (k : Seq ℕ). present_sound (get k x) (get-sound k x h) in
+    let at = λ (k : Seq ℕ). present_sound (get k x) (get_sound k x h) in
     branch_of_sound (slug_in _ x) (count_at (codes "ratio") 0 1000000 x) (listed (present (get (codes "features") x)) (present (get (codes "feature") x)))
     (slug_sound _ x h) (count_sound 0 1000000 (get (codes "ratio") x) (omega arith)) (listed_sound (present (get (codes "features") x)) (present (get (codes "feature") x)) (at (codes "features")) (at (codes "feature")))
 
@@ -293,7 +237,7 @@ branches_of_sound xs h = list_of_sound branch_json branch_test (is_branch_count 
 
 branches_sound : (x : Json) → IsSound x → IfOk (branches_in x) (AreSound branch_json)
 unfolding branches_in
-branches_sound x h = from_sound _ AreSoundItems (AreSound branch_json) branches_of branches_of_sound (option_and_then as_list (get (codes "branches") x)) (list_sound (get (codes "branches") x) (get-sound (codes "branches") x h))
+branches_sound x h = from_sound _ AreSoundItems (AreSound branch_json) branches_of branches_of_sound (option_and_then as_list (get (codes "branches") x)) (list_sound (get (codes "branches") x) (get_sound (codes "branches") x h))
 
 -- ---- recipes
 
@@ -302,14 +246,9 @@ HasRecord r = IsSound (record_json r)
 
 recipe_of_sound : (ob : Result (Unit {0}) SkipReason) (sl : Result (Seq ℕ) SkipReason) (sc : Result (Unit {0}) SkipReason) (fi : Result Fields SkipReason) (bu : Result Bucket SkipReason) (br : Result (Seq Branch) SkipReason)
     → IfOk sl IsUtf8 → IfOk fi HasFields → IfOk bu IsBucket → IfOk br (AreSound branch_json) → IfOk (recipe_of_parts ob sl sc fi bu br) HasRecord
-recipe_of_sound (Err d) sl sc fi bu br hs hf hb hr = tt
-recipe_of_sound (Ok o) (Err d) sc fi bu br hs hf hb hr = tt
-recipe_of_sound (Ok o) (Ok sl) (Err d) fi bu br hs hf hb hr = tt
-recipe_of_sound (Ok o) (Ok sl) (Ok s) (Err d) bu br hs hf hb hr = tt
-recipe_of_sound (Ok o) (Ok sl) (Ok s) (Ok f) (Err d) br hs hf hb hr = tt
-recipe_of_sound (Ok o) (Ok sl) (Ok s) (Ok f) (Ok bu) (Err d) hs hf hb hr = tt
 recipe_of_sound (Ok o) (Ok sl) (Ok s) (Ok f) (Ok bu) (Ok br) hs hf hb hr =
     record_sound (record { slug = sl; app_name = f.app_name; channel = f.channel; paused = f.paused; rollout = f.rollout; bucket = bu; branches = br; targeting = f.targeting; published = f.published }) hf.0 hr hb hf.1 hf.3 hs hf.2
+recipe_of_sound ob sl sc fi bu br hs hf hb hr = tt
 
 pub recipe_record : (x : Json) → IsSound x → IfOk (recipe_of x) HasRecord
 unfolding recipe_of
@@ -351,4 +290,4 @@ counted_records (Some xs) h = choice_records (nat_le _ 2000) (payload_from 0 no_
 
 pub payload_records : (x : Json) → IsSound x → OfPayload (payload_of x)
 unfolding payload_of
-payload_records x h = counted_records (records_in x) (list_sound (get (codes "data") x) (get-sound (codes "data") x h))
+payload_records x h = counted_records (records_in x) (list_sound (get (codes "data") x) (get_sound (codes "data") x h))

@@ -1,7 +1,6 @@
 -- A step is answered a value only where a feature is asked for, and that is the served one.
-use Rattle.std.proofs.Common.{◌≡◌, ℕ, Bool, true, false, List, [], length, Option, Some, None, Result, Ok, Err, refl, sym, ap, ◌∙◌, subst}
+use Rattle.std.proofs.Common.{◌≡◌, ℕ, Bool, true, false, List, [], length, Option, Some, None, refl, sym, ap, ◌∙◌, subst}
 use Rattle.std.specs.Prelude.{nat_lt, if◌then◌else◌}
-use Rattle.json_tree.specs.Json.{Json}
 use Rattle.json_tree.specs.Tree.{json_of}
 use Rattle.json_tree.specs.declared.tree.Tree.{Tree}
 use Rattle.json_tree.specs.declared.tree.Tree.TheVariants.{Null}
@@ -10,18 +9,12 @@ use Rattle.fml_value.specs.Trees as values
 use Rattle.fml_value.specs.Typed.{TypedValue}
 use Rattle.feature_serving.specs.Serving.{served, HasFeatureType}
 use Rattle.feature_serving.proofs.Types.{served_typed}
-use Rattle.app_context.specs.Contexts.{context_of}
-use Rattle.app_context.specs.declared.context.Context.{Context}
-use Rattle.app_context.specs.declared.key.ContextKey.{ContextKey}
-use Rattle.pref_bindings.specs.Bindings.{bindings_of}
-use Rattle.pref_bindings.specs.declared.bindings.Binding.{Binding}
 use Rattle.event_counts.specs.declared.name_counts.NameCounts.{NameCounts}
 use Rattle.client_state.specs.declared.client_state.ClientState.{ClientState}
 use Rattle.client_state.specs.Sound.{max_size}
 use Rattle.client_state.specs.Encoding.{encoding}
 use Rattle.client_words.specs.declared.answer.Answer.{Answer}
 use Rattle.client_words.specs.declared.answer.Answer.TheVariants.{Value}
-use Rattle.client_words.specs.declared.refusal.Refusal.{Refusal}
 use Rattle.client_words.specs.declared.refusal.Refusal.TheVariants.{StateTooLarge}
 use Rattle.client_words.specs.declared.command.Command.{Command}
 use Rattle.client_words.specs.declared.command.Command.TheVariants.{Fetch, Apply, Participate, OptOut, OptIn, Reset, Show, Feature, Event, Confirm, Bind, SetPreference, ClearPreference, WriteManifest}
@@ -32,12 +25,12 @@ use Rattle.client_steps.specs.Manifests.{IsLinked, manifest_of}
 use Rattle.client_steps.specs.ServedValues.{IsServed, ValuesAreServed, IsTyped, ValuesHaveTypes}
 use Rattle.client_steps.specs.Settings.{Setting}
 use Rattle.client_steps.specs.Soundness.{IsGiven, IsLawfulManifest}
-use Rattle.client_steps.specs.Steps.{OutcomeOver, EnrolmentOutcome, Outcome, Accepted, Refused, Step, whole, seeing, counting, listing_changes, confirming, preferring, listing_preferences, participation, opting_out, opting_in, resetting, showing, fetching, context_read, reading_context, bindings_read, reading_bindings, setting_manifest, applying, valued, serving, writing_manifest, done, step, unchanged}
+use Rattle.client_steps.specs.Steps.{OutcomeOver, EnrolmentOutcome, Outcome, Accepted, Refused, Step, whole, seeing, counting, listing_changes, confirming, preferring, listing_preferences, participation, opting_out, opting_in, resetting, showing, fetching, reading_context, reading_bindings, setting_manifest, applying, valued, serving, writing_manifest, done, step, unchanged}
 use Rattle.json_tree.specs.Inverse.{tree_from}
 use Rattle.client_steps.proofs.LinkedManifests.{manifest_linked}
 use Rattle.client_steps.proofs.SoundValues.{records_sound}
 use Rattle.client_steps.proofs.EnrolmentOutcomes.{fetching_either, applying_either, opting_out_either, opting_in_either}
-use Rattle.client_steps.proofs.Outcomes.{either_step, counting_either, confirming_either}
+use Rattle.client_steps.proofs.Outcomes.{either_step, of_manifest, of_context_file, of_bindings_file, of_written, counting_either, confirming_either}
 use Rattle.client_steps.proofs.Stepping.{whole_either, preferring_either}
 use Rattle.json_tree.proofs.Trees.{same_values}
 use Rattle.client_steps.proofs.Trees.{tree_of_value}
@@ -65,32 +58,8 @@ module _ (at : Setting) (s : ClientState) (session : Session) where
   done-none (Accepted t next answer) none = either_step (λ to. is_value to.answer ≡ false) (nat_lt max_size (length (encoding t))) _ _ refl none
   done-none (Refused refusal) none = refl
 
-  manifest-none : (read : Result Manifest Refusal) → NoValue (setting_manifest s session read)
-  manifest-none (Ok manifest) = refl
-  manifest-none (Err refusal) = tt
-
-  context-none : (read : Result Context ContextKey) → NoValue (context_read s session read)
-  context-none (Ok context) = refl
-  context-none (Err key) = tt
-
-  file-none : (read : Result Json Refusal) → NoValue (reading_context s session read)
-  file-none (Ok tree) = context-none (context_of tree)
-  file-none (Err refusal) = tt
-
-  bindings-none : (read : Result (List Binding) (List ℕ)) → NoValue (bindings_read s session read)
-  bindings-none (Ok bindings) = refl
-  bindings-none (Err feature) = tt
-
-  bind-none : (read : Result Json Refusal) → NoValue (reading_bindings s session read)
-  bind-none (Ok tree) = bindings-none (bindings_of tree)
-  bind-none (Err refusal) = tt
-
   preferring-none : (name : List ℕ) (value : Option Tree) → NoValue (preferring s session name value)
   preferring-none name value = preferring_either (λ (asked : Outcome). NoValue asked) s session name value tt (λ free. refl) (λ holder held fits. refl)
-
-  written-none : (manifest : Option Manifest) → NoValue (writing_manifest s session manifest)
-  written-none None = tt
-  written-none (Some manifest) = refl
 
   never : (asked : Outcome) (tree : Tree) → NoValue asked → (done s session asked).answer ≡ Value tree → ⊥
   never asked tree none is = absurd (let clash = ap is_value is in let plain = done-none asked none in cc)
@@ -126,9 +95,9 @@ module _ (at : Setting) (s : ClientState) (session : Session) where
   values_at : (command : Command) (tree : Tree) → (step at s session command).answer ≡ Value tree → (name : List ℕ) × (command ≡ Feature name) × IsServed s session name tree
   unfolding step
   values_at (commands.Manifest file channel) tree is =
-      absurd (never (setting_manifest s session (manifest_of at.files file channel)) tree (manifest-none (manifest_of at.files file channel)) is)
+      absurd (never (setting_manifest s session (manifest_of at.files file channel)) tree (of_manifest at s session (λ (asked : Outcome). NoValue asked) (λ refusal. tt) (λ manifest. refl) (manifest_of at.files file channel)) is)
   values_at (commands.Context file) tree is =
-      absurd (never (reading_context s session (file_tree file (at.files file))) tree (file-none (file_tree file (at.files file))) is)
+      absurd (never (reading_context s session (file_tree file (at.files file))) tree (of_context_file at s session (λ (asked : Outcome). NoValue asked) (λ refusal. tt) (λ context. refl) (file_tree file (at.files file))) is)
   values_at (Fetch file) tree is = absurd (never_whole s.events (fetching s.enrolment session (file_tree file (at.files file))) tree (fetching_either s.enrolment session (λ (asked : EnrolmentOutcome). NoValue asked) (λ refusal. tt) (file_tree file (at.files file)) (λ tree found is loads. refl)) is)
   values_at Apply tree is =
       absurd (never_whole s.events (applying at.now s.enrolment session session.manifest (seeing at.now s.events session.context)) tree (applying_either s.enrolment session (λ (asked : EnrolmentOutcome). NoValue asked) (λ refusal. tt) at.now session.manifest (seeing at.now s.events session.context) (λ m c. refl)) is)
@@ -141,11 +110,12 @@ module _ (at : Setting) (s : ClientState) (session : Session) where
   values_at (Event name count) tree is = absurd (never (counting at.now s session name count) tree (counting_either at s session (λ (asked : Outcome). NoValue asked) (λ refusal. tt) name count (λ room. refl)) is)
   values_at commands.Changes tree is = absurd (never (listing_changes s session) tree refl is)
   values_at (Confirm number) tree is = absurd (never (confirming s session number) tree (confirming_either at s session (λ (asked : Outcome). NoValue asked) (λ refusal. tt) number (λ known. refl)) is)
-  values_at (Bind file) tree is = absurd (never (reading_bindings s session (file_tree file (at.files file))) tree (bind-none (file_tree file (at.files file))) is)
+  values_at (Bind file) tree is =
+      absurd (never (reading_bindings s session (file_tree file (at.files file))) tree (of_bindings_file at s session (λ (asked : Outcome). NoValue asked) (λ refusal. tt) (λ bindings. refl) (file_tree file (at.files file))) is)
   values_at (SetPreference name value) tree is = absurd (never (preferring s session name (Some value)) tree (preferring-none name (Some value)) is)
   values_at (ClearPreference name) tree is = absurd (never (preferring s session name None) tree (preferring-none name None) is)
   values_at commands.Preferences tree is = absurd (never (listing_preferences s session) tree refl is)
-  values_at WriteManifest tree is = absurd (never (writing_manifest s session session.manifest) tree (written-none session.manifest) is)
+  values_at WriteManifest tree is = absurd (never (writing_manifest s session session.manifest) tree (of_written at s session (λ (asked : Outcome). NoValue asked) (λ refusal. tt) (λ manifest. refl) session.manifest) is)
 
 pub values_are_served : ValuesAreServed
 values_are_served at s session command tree is = values_at at s session command tree is

@@ -1,5 +1,5 @@
 -- The changes up to the number are dropped, or no change has it.
-use Rattle.std.proofs.Common.{◌≡◌, ◌<◌, ◌≤◌, Err, ap, ◌∙◌, refl, arith}
+use Rattle.std.proofs.Common.{◌≡◌, ◌≤◌, Err, ap, ◌∙◌, refl, arith}
 use Rattle.client_words.specs.declared.answer.Answer.TheVariants.{Okay}
 use Rattle.client_steps.specs.Asked.{asked_outcome, changed_outcome, FollowsFrom}
 use Rattle.client_steps.specs.Steps.{confirming}
